@@ -1,0 +1,5 @@
+.PHONY: test
+
+# Every check: what .ci/run does.
+test:
+	./.ci/run

@@ -1,0 +1,141 @@
+-- Opens the rules for computing: whoever unfolds `computing` may evaluate a command, a day or the printer.
+use Prim.Native.Nat.{ℕ}
+use Rattle.rules.specs.Sums.{sumTo, countTo}
+use Rattle.rules.specs.Lists.{mem, first, largest}
+use Rattle.rules.specs.Need.{childrenOut, need, resident}
+use Rattle.rules.specs.Need
+use Rattle.rules.specs.Peak.{sums, peak, roots, ordered}
+use Rattle.rules.specs.Standing.{count}
+use Rattle.rules.specs.Command.{little, number, bytes, table, decode}
+use Rattle.rules.specs.Grounds.{inTurn, inLimits, peakOf, ownGround, ground}
+use Rattle.rules.specs.Booking.{
+  chain,
+  total,
+  figure,
+  childrenFigure,
+  missing,
+  fed,
+  lacks,
+  allows,
+  book,
+  activate,
+  ready,
+  start,
+  free,
+  offer,
+  gift,
+  climb,
+  dispatch,
+}
+use Rattle.rules.specs.Booking
+use Rattle.rules.specs.Obey.{
+  opened,
+  withTask,
+  withOrders,
+  withBooks,
+  ahead,
+  begun,
+  proceed,
+  fresh,
+  shared,
+  ended,
+  phaseAfter,
+  obey,
+}
+use Rattle.rules.specs.Answer.{refuse, front, accept, judge, respond, command}
+use Rattle.rules.specs.Question.{isRunning, booked, inUse, fullnessOf, fullness}
+use Rattle.rules.specs.Day.{after}
+use Rattle.rules.specs.Text.{
+  ascii,
+  digits,
+  decimal,
+  spaced,
+  listed,
+  figures,
+  line,
+  refusedLine,
+  acceptedLine,
+  printFrom,
+  print,
+}
+
+unfoldable pub computing : Unit {0}
+unfolding
+    sumTo
+    countTo
+    mem
+    first
+    largest
+    childrenOut
+    need
+    resident
+    Need.inUse
+    sums
+    peak
+    roots
+    ordered
+    count
+    little
+    number
+    bytes
+    table
+    decode
+    inTurn
+    inLimits
+    peakOf
+    ownGround
+    ground
+    chain
+    total
+    figure
+    childrenFigure
+    missing
+    fed
+    lacks
+    allows
+    book
+    activate
+    ready
+    Booking.starts
+    start
+    free
+    offer
+    gift
+    climb
+    dispatch
+    opened
+    withTask
+    withOrders
+    withBooks
+    ahead
+    begun
+    proceed
+    fresh
+    shared
+    ended
+    phaseAfter
+    obey
+    refuse
+    front
+    accept
+    judge
+    respond
+    command
+    isRunning
+    booked
+    inUse
+    after
+    fullnessOf
+    fullness
+    ascii
+    digits
+    decimal
+    spaced
+    listed
+    figures
+    line
+    refusedLine
+    acceptedLine
+    printFrom
+    print
+computing = tt

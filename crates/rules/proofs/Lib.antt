@@ -1,0 +1,3 @@
+-- What is proved of the rules.
+pub mod Computing
+pub mod Marked

@@ -1,0 +1,124 @@
+-- Booking, starting and sharing out, over a store that is left open: `need` and `out` are its needs and outs, `bound` its
+-- places and `booked` the booked trays of each task there.
+use mathlib.Core.Bool.{Bool, true, false, not, _&&_, _||_}
+use mathlib.Core.List.{List, [], _∷_}
+use Prim.Native.Nat.{ℕ, zero, suc, _+_, _-_}
+use lib.Dec.{eqb, leb}
+use lib.ListN.{set}
+use Rattle.rules.specs.Sums.{only, sumTo, countTo}
+use Rattle.rules.specs.Lists.{at, mem, first}
+use Rattle.rules.specs.Standing.{waiting, activated, running, finished, count}
+
+-- i and the tasks above it, from parent to parent, as far as the root
+unfoldable pub chain : ℕ → (ℕ → ℕ) → ℕ → List ℕ
+chain zero par i = []
+chain (suc most) par i = elim (eqb i 0) [ true ↦ [] | false ↦ i ∷ chain most par (par i) ]
+
+-- "B is the sum of all booked trays."
+unfoldable pub total : (n : ℕ) (b : ℕ → ℕ) → ℕ
+total n b = sumTo b n
+
+-- "The subtree figure of a booked or running step is always the sum of the booked trays of itself and of all steps below it":
+-- of those k from which the chain of parents comes to i
+unfoldable pub figure : (n : ℕ) (par b : ℕ → ℕ) → ℕ → ℕ
+figure n par b i = sumTo (λ k. only (mem i (chain n par k)) (b k)) n
+
+-- the sum of the subtree figures of the children of i; "an ended child's subtree figure is 0"
+unfoldable pub childrenFigure : (n : ℕ) (par st b : ℕ → ℕ) → ℕ → ℕ
+childrenFigure n par st b i = sumTo (λ c. only (eqb (par c) i && not (eqb (st c) finished)) (figure n par b c)) n
+
+-- "Its missing trays are its need less (its own booked trays plus the subtree figures of its children), never below 0"
+unfoldable pub missing : (n : ℕ) (par need st b : ℕ → ℕ) → ℕ → ℕ
+missing n par need st b i = need i - (b i + childrenFigure n par st b i)
+
+-- "has all its children ended"
+unfoldable pub fed : (n : ℕ) (par st : ℕ → ℕ) → ℕ → Bool
+fed n par st i = eqb (countTo (λ c. eqb (par c) i && not (eqb (st c) finished)) n) 0
+
+-- what booking changes: standings and booked trays
+pub record Books : Type 0 where
+  pub standings : List ℕ
+  pub booked : List ℕ
+
+module _ (n : ℕ) (par need : ℕ → ℕ) where
+  -- the missing trays of task i
+  unfoldable pub lacks : Books → ℕ → ℕ
+  lacks s i = missing n par need (at (s .standings)) (at (s .booked)) i
+
+  -- "If B + missing is at most M"
+  unfoldable pub allows : (bound : ℕ) → Books → ℕ → Bool
+  allows bound s i = leb (total n (at (s .booked)) + lacks s i) bound
+
+  -- "it gets them and becomes booked"
+  unfoldable pub book : Books → ℕ → Books
+  book s i =
+      record {
+        standings = set (s .standings) i activated;
+        booked = set (s .booked) i (at (s .booked) i + lacks s i);
+      }
+
+  -- "Booking ahead. Look at the first waiting step in the activation order. .. it gets them and becomes booked, and the next is
+  -- looked at. Otherwise booking ahead stops. No later step is tried."
+  unfoldable pub activate : (bound : ℕ) → List ℕ → Books → Books
+  activate bound [] s = s
+  activate bound (i ∷ later) s =
+      elim (eqb (at (s .standings) i) waiting) [
+        | true ↦ elim (allows bound s i) [ true ↦ activate bound later (book s i) | false ↦ s ]
+        | false ↦ activate bound later s
+      ]
+
+module _ (n : ℕ) (par : ℕ → ℕ) (execution : List ℕ) where
+  -- a booked task with all its children ended
+  unfoldable pub ready : List ℕ → ℕ → Bool
+  ready st i = eqb (at st i) activated && fed n par (at st) i
+
+  -- "Starting. While a station is free, and some booked step has all its children ended, the one of these that is earliest in
+  -- the execution order starts": the tasks started, in order, where so many processors are free
+  unfoldable pub starts : (free : ℕ) → List ℕ → List ℕ
+  starts zero st = []
+  starts (suc free) st =
+      elim (first (ready st) execution) [ zero ↦ [] | suc i ↦ suc i ∷ starts free (set st (suc i) running) ]
+
+-- the standings once the tasks of a list run
+unfoldable pub start : List ℕ → List ℕ → List ℕ
+start [] st = st
+start (i ∷ later) st = start later (set st i running)
+
+-- stations that run no task
+unfoldable pub free : (n processors : ℕ) → List ℕ → ℕ
+free n processors st = processors - count n (at st) running
+
+-- what a climb leaves: the tasks on the way, each one offer, what is left of R, and the booked trays
+pub record Climbed : Type 0 where
+  pub offered : List ℕ
+  pub left : ℕ
+  pub booked : List ℕ
+
+-- one offer more, ahead of the others
+unfoldable pub offer : ℕ → Climbed → Climbed
+offer i c = record { offered = i ∷ c .offered; left = c .left; booked = c .booked }
+
+module _ (n : ℕ) (par need : ℕ → ℕ) (st : ℕ → ℕ) where
+  -- "it gets max(0, need of i − its subtree figure)"
+  unfoldable pub gift : List ℕ → ℕ → ℕ
+  gift b i = need i - figure n par (at b) i
+
+  -- "climb from parent to parent .., ending at the first of: past the root, a step that is waiting, R is 0. .. Each step i on
+  -- the way is one offer: it gets [its gift], and R falls by that."
+  unfoldable pub climb : List ℕ → ℕ → List ℕ → Climbed
+  climb [] r b = record { offered = []; left = r; booked = b }
+  climb (i ∷ above) r b =
+      elim (eqb (st i) waiting || eqb r 0) [
+        | true ↦ record { offered = []; left = r; booked = b }
+        | false ↦ offer i (climb above (r - gift b i) (set b i (at b i + gift b i)))
+      ]
+
+  -- "When step j ends, its booked trays, call them R, are taken from it. If it has a parent, the parent is given j's out, and R
+  -- falls by it. Then climb from parent to parent, from j's parent on .. What is left of R is free."
+  unfoldable pub dispatch : (out : ℕ → ℕ) → List ℕ → ℕ → Climbed
+  dispatch out b j =
+      elim (eqb (par j) 0) [
+        | true ↦ climb [] (at b j) (set b j 0)
+        | false ↦
+            climb (chain n par (par j)) (at b j - out j) (set (set b j 0) (par j) (at (set b j 0) (par j) + out j))
+      ]

@@ -1,0 +1,94 @@
+-- "A day. Demand 3 takes any list of commands to a plan in phase empty, each asked of any reader on any bytes (cut short or none
+-- left included), with any start list."
+use mathlib.Core.Bool.{Bool, true, false, not, cond, _&&_, _||_}
+use mathlib.Core.List.{List, [], _∷_, _++_, map}
+use Prim.Native.Nat.{ℕ, zero, suc, _+_}
+use lib.Dec.{eqb, leb, ltb}
+use lib.ListN.{length, take}
+use Rattle.rules.specs.State.{State, none}
+use Rattle.rules.specs.Command.{Command, plan, task, activation, execution, begin, done, Decoded, refused, read, decode}
+use Rattle.rules.specs.Answer.{Asking, Answer, Answered, command}
+
+-- "Each finds the plan as the one before left it": the plan after a list of askings
+unfoldable pub after : State → List Asking → State
+after s [] = s
+after s (a ∷ later) = after (command s a .state) later
+
+-- what each of a list of askings is answered
+unfoldable pub answers : State → List Asking → List Answered
+answers s [] = []
+answers s (a ∷ later) = command s a ∷ answers (command s a .state) later
+
+-- the asking is accepted
+unfoldable pub accepted : State → Asking → Bool
+accepted s a = eqb (command s a .answer .number) 0
+
+-- the kinds of commands that bound a day, and the task that a report names
+unfoldable pub isPlan : Decoded → Bool
+isPlan (refused k) = false
+isPlan (read (plan n p bound) used) = true
+isPlan (read (task parent work out) used) = false
+isPlan (read (activation i) used) = false
+isPlan (read (execution i) used) = false
+isPlan (read begin used) = false
+isPlan (read (done i) used) = false
+
+unfoldable pub reported : Decoded → List ℕ
+reported (refused k) = []
+reported (read (plan n p bound) used) = []
+reported (read (task parent work out) used) = []
+reported (read (activation i) used) = []
+reported (read (execution i) used) = []
+reported (read begin used) = []
+reported (read (done i) used) = i ∷ []
+
+-- "In it a step starts where an accepted command writes it among its starts, ends with the accepted DONE for it (before that
+-- command's starts), and runs in between"
+pub data Event : Type 0 where
+  started : ℕ → Event
+  ended : ℕ → Event
+
+-- what happens with one asking, as its bytes, its answer and its start list say
+unfoldable pub events : State → Asking → List Event
+events s a =
+    cond (accepted s a)
+    (map ended (reported (decode (a .stream) (a .place)))
+    ++ map started (take (command s a .answer .starts) (command s a .list)))
+    []
+
+-- what happens with a list of askings, in order
+unfoldable pub log : State → List Asking → List Event
+log s [] = []
+log s (a ∷ later) = events s a ++ log (command s a .state) later
+
+-- the tasks started, and the tasks ended, in order
+unfoldable pub starts : List Event → List ℕ
+starts [] = []
+starts (started i ∷ later) = i ∷ starts later
+starts (ended i ∷ later) = starts later
+
+unfoldable pub ends : List Event → List ℕ
+ends [] = []
+ends (started i ∷ later) = ends later
+ends (ended i ∷ later) = i ∷ ends later
+
+-- "A day is an accepted BEGIN and all commands after it, until a next plan is opened or the list ends."
+unfoldable pub opensDay : State → Asking → Bool
+opensDay s a = accepted s a && isBegin (decode (a .stream) (a .place))
+  where
+    isBegin : Decoded → Bool
+    isBegin (refused k) = false
+    isBegin (read (plan n p bound) used) = false
+    isBegin (read (task parent work out) used) = false
+    isBegin (read (activation i) used) = false
+    isBegin (read (execution i) used) = false
+    isBegin (read begin used) = true
+    isBegin (read (done i) used) = false
+
+unfoldable pub opensPlan : State → Asking → Bool
+opensPlan s a = accepted s a && isPlan (decode (a .stream) (a .place))
+
+-- a next plan is opened among these askings
+unfoldable pub nextPlan : State → List Asking → Bool
+nextPlan s [] = false
+nextPlan s (a ∷ later) = opensPlan s a || nextPlan (command s a .state) later

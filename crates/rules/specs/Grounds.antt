@@ -1,0 +1,64 @@
+-- The grounds for refusing a whole command, in the order of checks: "3; 4; then 5 for 03 and 04, 6 for DONE, and 7, 8, 9 for
+-- BEGIN". 0 is no ground.
+use mathlib.Core.Bool.{Bool, true, false, not, cond, _&&_, _||_}
+use Prim.Native.Nat.{ℕ, zero, suc, _<_}
+use lib.Dec.{eqb, leb, ltb}
+use lib.ListN.{length}
+use Rattle.rules.specs.Lists.{at, mem}
+use Rattle.rules.specs.Limits.{maxTasks, maxProcessors}
+use Rattle.rules.specs.Peak
+use Rattle.rules.specs.Phase
+use Rattle.rules.specs.Standing
+use Rattle.rules.specs.State.{State}
+use Rattle.rules.specs.Command.{Command, plan, task, activation, execution, begin, done}
+
+-- "PLAN is in turn in every phase but running .. STEP is in turn in steps .. 03 and 04 are in turn in orders, in any mix, n of
+-- each at most. BEGIN is in turn in orders once both orders have n entries .. DONE is in turn only in running"
+unfoldable pub inTurn : State → Command → Bool
+inTurn s (plan n p bound) = not (eqb (s .phase) Phase.running)
+inTurn s (task parent work out) = eqb (s .phase) Phase.steps
+inTurn s (activation i) = eqb (s .phase) Phase.orders && ltb (length (s .activation)) (s .size)
+inTurn s (execution i) = eqb (s .phase) Phase.orders && ltb (length (s .execution)) (s .size)
+inTurn s begin =
+    eqb (s .phase) Phase.orders && eqb (length (s .activation)) (s .size) && eqb (length (s .execution)) (s .size)
+inTurn s (done i) = eqb (s .phase) Phase.running
+
+-- a number from 1 to a limit
+abbrev pub within : ℕ → ℕ → Bool
+within x limit = leb 1 x && leb x limit
+
+-- "n, p, a parent or a step number outside its limits (parent 0 is allowed, step 0 is not)"
+unfoldable pub inLimits : State → Command → Bool
+inLimits s (plan n p bound) = within n maxTasks && within p maxProcessors
+inLimits s (task parent work out) = leb parent (s .size)
+inLimits s (activation i) = within i (s .size)
+inLimits s (execution i) = within i (s .size)
+inLimits s begin = true
+inLimits s (done i) = within i (s .size)
+
+-- the peak of the plan's activation order
+unfoldable pub peakOf : State → ℕ
+peakOf s =
+    Peak.peak (s .size) (at (s .parents)) (at (s .memory .works)) (at (s .memory .outs)) (s .activation)
+
+-- the number where the test fails, and what else is checked where it holds
+abbrev pub demand : Bool → ℕ → ℕ → ℕ
+demand test number rest = cond test rest number
+
+-- what is checked of one command only
+unfoldable pub ownGround : State → Command → ℕ
+ownGround s (plan n p bound) = 0
+ownGround s (task parent work out) = 0
+-- 5 "the step is already in that order"
+ownGround s (activation i) = demand (not (mem i (s .activation))) 5 0
+ownGround s (execution i) = demand (not (mem i (s .execution))) 5 0
+-- 7 "the steps with parent 0 are not exactly one"; 8 "some step does not stand before its parent in the activation order";
+-- 9 "the peak is above M"
+ownGround s begin =
+    demand (eqb (Peak.roots (s .size) (at (s .parents))) 1) 7
+    (demand (Peak.ordered (at (s .parents)) (s .activation)) 8 (demand (leb (peakOf s) (s .memory .bound)) 9 0))
+-- 6 "DONE for a step that isn't running"
+ownGround s (done i) = demand (eqb (at (s .standings) i) Standing.running) 6 0
+
+unfoldable pub ground : State → Command → ℕ
+ground s c = demand (inTurn s c) 3 (demand (inLimits s c) 4 (ownGround s c))

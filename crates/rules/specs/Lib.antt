@@ -1,0 +1,22 @@
+-- The rules, in the order of the paper.
+pub mod Sums
+pub mod Lists
+-- A plan
+pub mod Limits
+pub mod Need
+pub mod Peak
+pub mod Phase
+pub mod Standing
+pub mod State
+-- Commands
+pub mod Command
+-- Booking
+pub mod Booking
+pub mod Grounds
+pub mod Obey
+pub mod Answer
+pub mod Question
+pub mod Desk
+pub mod Text
+pub mod Day
+pub mod Marked

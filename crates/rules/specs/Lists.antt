@@ -1,0 +1,25 @@
+-- Lists of numbers, and lists indexed by a task's number.
+use mathlib.Core.Bool.{Bool, true, false, _||_}
+use mathlib.Core.List.{List, [], _∷_}
+use Prim.Native.Nat.{ℕ, zero, suc, max}
+use lib.Dec.{eqb}
+use lib.ListN.{getD}
+
+-- the entry of task i. Entry 0 belongs to nobody: tasks are numbered from 1
+abbrev pub at : List ℕ → ℕ → ℕ
+at l i = getD l i 0
+
+-- i stands in the list
+unfoldable pub mem : ℕ → List ℕ → Bool
+mem i [] = false
+mem i (x ∷ xs) = eqb i x || mem i xs
+
+-- the first entry that passes the test, 0 where there is none
+unfoldable pub first : (ℕ → Bool) → List ℕ → ℕ
+first test [] = 0
+first test (x ∷ xs) = elim (test x) [ true ↦ x | false ↦ first test xs ]
+
+-- the largest entry
+unfoldable pub largest : List ℕ → ℕ
+largest [] = 0
+largest (x ∷ xs) = max x (largest xs)

@@ -1,0 +1,148 @@
+-- "Cases marked † form one table with a single claim over it." A row has what the rules give and what the paper says.
+use mathlib.Core.Bool.{Bool, true, false, _&&_}
+use mathlib.Core.List.{List, [], _∷_, _++_}
+use Prim.Native.Nat.{ℕ}
+use lib.Dec.{eqb}
+use lib.ListN.{take, replicate}
+use Rattle.rules.specs.Lists.{at}
+use Rattle.rules.specs.State.{State, none, needs}
+use Rattle.rules.specs.Grounds.{peakOf}
+use Rattle.rules.specs.Command.{Command, plan, task, activation, execution, begin, done, bytes}
+use Rattle.rules.specs.Answer.{Asking, Answer, Answered, command}
+use Rattle.rules.specs.Question.{booked, inUse}
+use Rattle.rules.specs.Day.{after}
+
+pub record Row : Type 0 where
+  pub given : List ℕ
+  pub stated : List ℕ
+
+-- a command by itself, with a start list of 64 entries
+unfoldable pub ask : Command → Asking
+ask c = record { stream = bytes c; place = 0; list = replicate 64 0 }
+
+unfoldable pub asks : List Command → List Asking
+asks [] = []
+asks (c ∷ later) = ask c ∷ asks later
+
+-- what the last command is answered after the others
+unfoldable pub last : List Command → Command → Answered
+last earlier c = command (after none (asks earlier)) (ask c)
+
+-- the tasks that a command starts, as the start list has them
+unfoldable pub startedBy : Answered → List ℕ
+startedBy a = take (a .answer .starts) (a .list)
+
+-- both orders 1 to n
+unfoldable pub inOrder : List ℕ → List Command
+inOrder [] = []
+inOrder (i ∷ later) = activation i ∷ execution i ∷ inOrder later
+
+-- plan A in a cold room of M places
+unfoldable pub planA : ℕ → List Command
+planA bound =
+    (plan 3 2 bound ∷ task 3 5 1 ∷ task 3 5 1 ∷ task 0 0 1 ∷ []) ++ inOrder (1 ∷ 2 ∷ 3 ∷ [])
+
+-- the bytes of plan A and of its day, in the order of the paper: "then 03 and then 04 for steps 1, 2, 3"
+unfoldable pub dayA : List ℕ
+dayA =
+    1 ∷ 3 ∷ 0 ∷ 2 ∷ 7 ∷ 0 ∷ 0 ∷ 0
+    ∷ 2 ∷ 3 ∷ 0 ∷ 5 ∷ 0 ∷ 1 ∷ 0
+    ∷ 2 ∷ 3 ∷ 0 ∷ 5 ∷ 0 ∷ 1 ∷ 0
+    ∷ 2 ∷ 0 ∷ 0 ∷ 0 ∷ 0 ∷ 1 ∷ 0
+    ∷ 3 ∷ 1 ∷ 0 ∷ 3 ∷ 2 ∷ 0 ∷ 3 ∷ 3 ∷ 0
+    ∷ 4 ∷ 1 ∷ 0 ∷ 4 ∷ 2 ∷ 0 ∷ 4 ∷ 3 ∷ 0
+    ∷ 5
+    ∷ 6 ∷ 1 ∷ 0
+    ∷ 6 ∷ 2 ∷ 0
+    ∷ 6 ∷ 3 ∷ 0
+    ∷ []
+
+-- plan C
+unfoldable pub planC : List Command
+planC =
+    (plan 4 2 6 ∷ task 3 1 2 ∷ task 3 2 1 ∷ task 4 1 2 ∷ task 0 0 3 ∷ []) ++ inOrder (1 ∷ 2 ∷ 3 ∷ 4 ∷ [])
+
+-- plan C with its day as far as some commands, the last of which is looked at
+unfoldable pub dayC : List Command → Command → Answered
+dayC earlier c = last (planC ++ earlier) c
+
+-- one step, work 0, out 0, M = 0
+unfoldable pub single : List Command
+single = plan 1 1 0 ∷ task 0 0 0 ∷ inOrder (1 ∷ [])
+
+unfoldable pub marked : List Row
+marked =
+    -- A: peak 7
+    record { given = last (planA 7) begin .answer .number ∷ last (planA 7) begin .answer .peak ∷ []; stated = 0 ∷ 7 ∷ [] }
+    -- A at M = 6: refused 9
+    ∷ record { given = last (planA 6) begin .answer .number ∷ []; stated = 9 ∷ [] }
+    -- A at M = 12: BEGIN starts 1 and 2
+    ∷ record { given = startedBy (last (planA 12) begin); stated = 1 ∷ 2 ∷ [] }
+    -- A at M = 11: BEGIN starts 1 only
+    ∷ record { given = startedBy (last (planA 11) begin); stated = 1 ∷ [] }
+    -- C: needs 3, 3, 6, 5
+    ∷ record {
+      given =
+          needs (dayC [] begin .state) 1
+          ∷ needs (dayC [] begin .state) 2
+          ∷ needs (dayC [] begin .state) 3
+          ∷ needs (dayC [] begin .state) 4
+          ∷ [];
+      stated = 3 ∷ 3 ∷ 6 ∷ 5 ∷ [];
+    }
+    -- peak 6
+    ∷ record { given = dayC [] begin .answer .peak ∷ []; stated = 6 ∷ [] }
+    -- BEGIN books all four, B = 6, starts 1 and 2: two run and two are booked
+    ∷ record {
+      given = dayC [] begin .state .standings ++ (booked (dayC [] begin .state) ∷ startedBy (dayC [] begin));
+      stated = (0 ∷ 2 ∷ 2 ∷ 1 ∷ 1 ∷ []) ++ (6 ∷ 1 ∷ 2 ∷ []);
+    }
+    -- DONE 1: one offer, step 3 holds 3 trays, B = 6, in use 5, no start
+    ∷ record {
+      given =
+          dayC (begin ∷ []) (done 1) .answer .offers
+          ∷ at (dayC (begin ∷ []) (done 1) .state .memory .booked) 3
+          ∷ booked (dayC (begin ∷ []) (done 1) .state)
+          ∷ inUse (dayC (begin ∷ []) (done 1) .state)
+          ∷ startedBy (dayC (begin ∷ []) (done 1));
+      stated = 1 ∷ 3 ∷ 6 ∷ 5 ∷ [];
+    }
+    -- DONE 2: B = 6, starts 3
+    ∷ record {
+      given =
+          booked (dayC (begin ∷ done 1 ∷ []) (done 2) .state) ∷ startedBy (dayC (begin ∷ done 1 ∷ []) (done 2));
+      stated = 6 ∷ 3 ∷ [];
+    }
+    -- DONE 3: B = 5, starts 4
+    ∷ record {
+      given =
+          booked (dayC (begin ∷ done 1 ∷ done 2 ∷ []) (done 3) .state)
+          ∷ startedBy (dayC (begin ∷ done 1 ∷ done 2 ∷ []) (done 3));
+      stated = 5 ∷ 4 ∷ [];
+    }
+    -- DONE 4: B = 0
+    ∷ record {
+      given =
+          dayC (begin ∷ done 1 ∷ done 2 ∷ done 3 ∷ []) (done 4) .answer .number
+          ∷ booked (dayC (begin ∷ done 1 ∷ done 2 ∷ done 3 ∷ []) (done 4) .state)
+          ∷ [];
+      stated = 0 ∷ 0 ∷ [];
+    }
+    -- one step, work 0, out 0, M = 0: accepted, peak 0, starts 1
+    ∷ record {
+      given = last single begin .answer .number ∷ last single begin .answer .peak ∷ startedBy (last single begin);
+      stated = 0 ∷ 0 ∷ 1 ∷ [];
+    }
+    ∷ []
+
+-- the two lists of a row are the same
+unfoldable pub same : List ℕ → List ℕ → Bool
+same [] [] = true
+same [] (y ∷ ys) = false
+same (x ∷ xs) [] = false
+same (x ∷ xs) (y ∷ ys) = eqb x y && same xs ys
+
+-- the single claim
+unfoldable pub holds : List Row → Bool
+holds [] = true
+holds (r ∷ later) = same (r .given) (r .stated) && holds later

@@ -1,0 +1,24 @@
+-- What a task needs, and what lies in a store while tasks run. A store is left open: `work` and `out` are its counts.
+use mathlib.Core.Bool.{Bool, true, false, not, _&&_}
+use Prim.Native.Nat.{ℕ, _+_}
+use lib.Dec.{eqb}
+use Rattle.rules.specs.Sums.{only, sumTo}
+
+-- the outs of the children of i
+unfoldable pub childrenOut : (n : ℕ) (par out : ℕ → ℕ) → ℕ → ℕ
+childrenOut n par out i = sumTo (λ c. only (eqb (par c) i) (out c)) n
+
+-- "Need of a step = the outs of its children + its work + its out."
+unfoldable pub need : (n : ℕ) (par work out : ℕ → ℕ) → ℕ → ℕ
+need n par work out i = childrenOut n par out i + work i + out i
+
+-- the outs of ended tasks whose parent has not begun: neither run nor running, so waiting or booked. The root has no parent
+unfoldable pub resident : (n : ℕ) (par out : ℕ → ℕ) (ended begun : ℕ → Bool) → ℕ
+resident n par out ended begun =
+    sumTo (λ i. only (ended i && not (eqb (par i) 0) && not (begun (par i))) (out i)) n
+
+-- "In use = the needs of running steps + the outs of ended steps whose parent is waiting or booked. It is reckoned from the
+-- starts and ends alone": begun says which tasks have started, ended which have ended, and a task runs in between
+unfoldable pub inUse : (n : ℕ) (par work out : ℕ → ℕ) (ended begun : ℕ → Bool) → ℕ
+inUse n par work out ended begun =
+    sumTo (λ i. only (begun i && not (ended i)) (need n par work out i)) n + resident n par out ended begun

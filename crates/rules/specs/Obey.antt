@@ -1,0 +1,132 @@
+-- What an accepted command does to the plan.
+use mathlib.Core.Bool.{Bool, true, false, cond}
+use mathlib.Core.List.{List, [], _∷_, _++_}
+use Prim.Native.Nat.{ℕ, zero, suc, _+_}
+use lib.Dec.{eqb}
+use lib.ListN.{length, set, replicate}
+use Rattle.rules.specs.Lists.{at}
+use Rattle.rules.specs.Phase
+use Rattle.rules.specs.Standing
+use Rattle.rules.specs.State.{State, Store, needs}
+use Rattle.rules.specs.Command.{Command, plan, task, activation, execution, begin, done}
+use Rattle.rules.specs.Grounds.{peakOf}
+use Rattle.rules.specs.Booking.{Books, Climbed, activate, starts, start, free, dispatch}
+
+-- what an accepted command leaves: the plan, the tasks that it starts, in order, the peak (BEGIN only) and the offers (DONE only)
+pub record Outcome : Type 0 where
+  pub state : State
+  pub started : List ℕ
+  pub peak : ℕ
+  pub offers : ℕ
+
+-- "PLAN: drop the old plan, open a new one"
+unfoldable pub opened : ℕ → ℕ → ℕ → State
+opened n p bound =
+    record {
+      phase = Phase.steps;
+      size = n;
+      processors = p;
+      parents = 0 ∷ [];
+      activation = [];
+      execution = [];
+      standings = [];
+      memory = record { bound = bound; works = 0 ∷ []; outs = 0 ∷ []; booked = [] };
+    }
+
+-- "STEP: the next step; the first is step 1"; "the n-th leads to orders"
+unfoldable pub withTask : State → ℕ → ℕ → ℕ → State
+withTask s parent work out =
+    record {
+      phase = cond (eqb (length (s .parents)) (s .size)) Phase.orders Phase.steps;
+      size = s .size;
+      processors = s .processors;
+      parents = s .parents ++ (parent ∷ []);
+      activation = s .activation;
+      execution = s .execution;
+      standings = s .standings;
+      memory =
+          record {
+            bound = s .memory .bound;
+            works = s .memory .works ++ (work ∷ []);
+            outs = s .memory .outs ++ (out ∷ []);
+            booked = s .memory .booked;
+          };
+    }
+
+-- the plan with other orders
+unfoldable pub withOrders : State → List ℕ → List ℕ → State
+withOrders s act exec =
+    record {
+      phase = s .phase;
+      size = s .size;
+      processors = s .processors;
+      parents = s .parents;
+      activation = act;
+      execution = exec;
+      standings = s .standings;
+      memory = s .memory;
+    }
+
+-- the plan in a phase of its day, with other standings and booked trays
+unfoldable pub withBooks : State → ℕ → List ℕ → List ℕ → State
+withBooks s phase st b =
+    record {
+      phase = phase;
+      size = s .size;
+      processors = s .processors;
+      parents = s .parents;
+      activation = s .activation;
+      execution = s .execution;
+      standings = st;
+      memory =
+          record { bound = s .memory .bound; works = s .memory .works; outs = s .memory .outs; booked = b };
+    }
+
+-- what booking ahead makes of the books
+unfoldable pub ahead : State → Books → Books
+ahead s = activate (s .size) (at (s .parents)) (needs s) (s .memory .bound) (s .activation)
+
+-- the tasks that start then, in order
+unfoldable pub begun : State → Books → List ℕ
+begun s k =
+    starts (s .size) (at (s .parents)) (s .execution) (free (s .size) (s .processors) (k .standings)) (k .standings)
+
+-- booking ahead and starting, the end of BEGIN and of DONE
+unfoldable pub proceed : State → ℕ → Books → ℕ → ℕ → Outcome
+proceed s phase k peak offers =
+    record {
+      state = withBooks s phase (start (begun s (ahead s k)) (ahead s k .standings)) (ahead s k .booked);
+      started = begun s (ahead s k);
+      peak = peak;
+      offers = offers;
+    }
+
+-- at BEGIN every task waits; "each step has a figure of booked trays, 0 at BEGIN"
+unfoldable pub fresh : ℕ → Books
+fresh n = record { standings = replicate (suc n) Standing.waiting; booked = replicate (suc n) 0 }
+
+-- sharing out the booked trays of task j, which ends
+unfoldable pub shared : State → ℕ → Climbed
+shared s j =
+    dispatch (s .size) (at (s .parents)) (needs s) (at (s .standings)) (at (s .memory .outs)) (s .memory .booked) j
+
+-- the books once task j has ended and its booked trays are shared out
+unfoldable pub ended : State → ℕ → Books
+ended s j = record { standings = set (s .standings) j Standing.finished; booked = shared s j .booked }
+
+-- "when the root ends the phase is over"
+unfoldable pub phaseAfter : State → ℕ → ℕ
+phaseAfter s j = cond (eqb (at (s .parents) j) 0) Phase.over Phase.running
+
+-- a command that starts nothing
+abbrev pub plain : State → Outcome
+plain s = record { state = s; started = []; peak = 0; offers = 0 }
+
+-- "BEGIN books ahead and starts. DONE shares out, books ahead and starts. Nothing else books or starts."
+unfoldable pub obey : State → Command → Outcome
+obey s (plan n p bound) = plain (opened n p bound)
+obey s (task parent work out) = plain (withTask s parent work out)
+obey s (activation i) = plain (withOrders s (s .activation ++ (i ∷ [])) (s .execution))
+obey s (execution i) = plain (withOrders s (s .activation) (s .execution ++ (i ∷ [])))
+obey s begin = proceed s Phase.running (fresh (s .size)) (peakOf s) 0
+obey s (done j) = proceed s (phaseAfter s j) (ended s j) 0 (length (shared s j .offered))

@@ -1,0 +1,29 @@
+-- The peak of an activation order, over the tasks alone, and what an order must be.
+use mathlib.Core.Bool.{Bool, true, false, _&&_, _||_}
+use mathlib.Core.List.{List, [], _∷_}
+use Prim.Native.Nat.{ℕ, _+_}
+use lib.Dec.{eqb}
+use Rattle.rules.specs.Sums.{countTo}
+use Rattle.rules.specs.Lists.{mem, largest}
+use Rattle.rules.specs.Need.{need, resident}
+
+-- "Run the steps one at a time in that order. While a step runs, the cold room holds its need, plus the outs of steps already
+-- ended whose parent has neither run nor is running": the sums, where those of `ended` have run already
+unfoldable pub sums : (n : ℕ) (par work out : ℕ → ℕ) (ended order : List ℕ) → List ℕ
+sums n par work out ended [] = []
+sums n par work out ended (x ∷ later) =
+    (need n par work out x + resident n par out (λ i. mem i ended) (λ i. mem i (x ∷ ended)))
+    ∷ sums n par work out (x ∷ ended) later
+
+-- "The peak is the largest of these n sums."
+unfoldable pub peak : (n : ℕ) (par work out : ℕ → ℕ) → List ℕ → ℕ
+peak n par work out order = largest (sums n par work out [] order)
+
+-- how many tasks have no parent; exactly one is a plan's root
+unfoldable pub roots : (n : ℕ) (par : ℕ → ℕ) → ℕ
+roots n par = countTo (λ i. eqb (par i) 0) n
+
+-- "In the activation order each step stands before its parent."
+unfoldable pub ordered : (par : ℕ → ℕ) → List ℕ → Bool
+ordered par [] = true
+ordered par (x ∷ later) = (eqb (par x) 0 || mem (par x) later) && ordered par later

@@ -1,0 +1,40 @@
+-- What may be asked of a plan at any time.
+use mathlib.Core.Bool.{Bool, true, false, cond, _||_}
+use mathlib.Core.List.{List, [], _∷_}
+use Prim.Native.Nat.{ℕ, _*_, _/_}
+use lib.Dec.{eqb, leb}
+use Rattle.rules.specs.Lists.{at}
+use Rattle.rules.specs.Sums.{only}
+use Rattle.rules.specs.Phase
+use Rattle.rules.specs.Standing
+use Rattle.rules.specs.State.{State}
+use Rattle.rules.specs.Need
+use Rattle.rules.specs.Booking.{total}
+
+-- the plan is in the running phase
+unfoldable pub isRunning : State → Bool
+isRunning s = eqb (s .phase) Phase.running
+
+-- "Booked trays, trays in use and fullness can be asked of the plan at any time, and are 0 outside running."
+unfoldable pub booked : State → ℕ
+booked s = only (isRunning s) (total (s .size) (at (s .memory .booked)))
+
+unfoldable pub inUse : State → ℕ
+inUse s =
+    only (isRunning s)
+    (Need.inUse (s .size) (at (s .parents)) (at (s .memory .works)) (at (s .memory .outs))
+    (λ i. eqb (at (s .standings) i) Standing.finished)
+    (λ i. leb Standing.running (at (s .standings) i)))
+
+-- "Fullness of b in M, both 32-bit: 0 if M is 0; 1,000 if b is at least M; else 1,000 times b divided by M, rounded down"
+unfoldable pub fullnessOf : ℕ → ℕ → ℕ
+fullnessOf b bound = cond (eqb bound 0) 0 (cond (leb bound b) 1000 (1000 * b / bound))
+
+unfoldable pub fullness : State → ℕ
+fullness s = fullnessOf (booked s) (s .memory .bound)
+
+-- "four counts, waiting, booked, running, ended; four zeros outside running and over"
+unfoldable pub standing : State → List ℕ
+standing s =
+    cond (isRunning s || eqb (s .phase) Phase.over) (Standing.counts (s .size) (at (s .standings)))
+    (0 ∷ 0 ∷ 0 ∷ 0 ∷ [])

@@ -1,0 +1,17 @@
+-- Sums and counts over the tasks 1 to n.
+use mathlib.Core.Bool.{Bool, true, false}
+use Prim.Native.Nat.{ℕ, zero, suc, _+_}
+
+-- the value where the test holds, 0 elsewhere
+abbrev pub only : Bool → ℕ → ℕ
+only true x = x
+only false x = 0
+
+-- f 1 + .. + f n
+unfoldable pub sumTo : (ℕ → ℕ) → ℕ → ℕ
+sumTo f zero = 0
+sumTo f (suc n) = sumTo f n + f (suc n)
+
+-- how many of 1 to n pass the test
+unfoldable pub countTo : (ℕ → Bool) → ℕ → ℕ
+countTo test n = sumTo (λ i. only (test i) 1) n

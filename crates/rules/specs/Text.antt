@@ -1,0 +1,95 @@
+-- "The program reads commands from standard input and prints one line per accepted BEGIN or DONE, and on a refusal `refused K at
+-- O` (number, byte offset of the command counted from 0), then stops."
+use mathlib.Core.Bool.{Bool, true, false}
+use mathlib.Core.List.{List, [], _∷_, _++_}
+use Prim.Native.Nat.{ℕ, zero, suc, _+_, _/_, _%_}
+use Prim.Native.Char.{Char, code}
+use Prim.Native.String
+use Prim.Native.String.{String}
+use lib.Dec.{eqb, leb, ltb}
+use lib.ListN.{length, take, replicate}
+use Rattle.rules.specs.Limits.{leastStarts}
+use Rattle.rules.specs.State.{State, none}
+use Rattle.rules.specs.Command.{Command, plan, task, activation, execution, begin, done, Decoded, refused, read, decode}
+use Rattle.rules.specs.Answer.{Answer, Answered, command}
+use Rattle.rules.specs.Question.{booked, inUse, fullness}
+
+-- the bytes of a text
+unfoldable pub ascii : String → List ℕ
+ascii String.[] = []
+ascii (String._∷_ c rest) = code c ∷ ascii rest
+
+-- "Numbers are decimal": the digits of x, with at most `more` of them ahead of the last
+unfoldable pub digits : ℕ → ℕ → List ℕ
+digits zero x = (48 + x % 10) ∷ []
+digits (suc more) x = elim (ltb x 10) [ true ↦ (48 + x) ∷ [] | false ↦ digits more (x / 10) ++ ((48 + x % 10) ∷ []) ]
+
+unfoldable pub decimal : ℕ → List ℕ
+decimal x = digits x x
+
+-- "the started steps with single spaces, or `-`"
+unfoldable pub spaced : List ℕ → List ℕ
+spaced [] = []
+spaced (i ∷ later) = ascii " " ++ decimal i ++ spaced later
+
+unfoldable pub listed : List ℕ → List ℕ
+listed [] = ascii " -"
+listed (i ∷ later) = spaced (i ∷ later)
+
+-- "Both lines go on with B, the trays in use, fullness of B in M, and the started steps"; every line ends with a line feed
+unfoldable pub figures : ℕ → ℕ → ℕ → List ℕ → List ℕ
+figures total used full started =
+    ascii " booked="
+    ++ decimal total
+    ++ ascii " used="
+    ++ decimal used
+    ++ ascii " full="
+    ++ decimal full
+    ++ ascii " start"
+    ++ listed started
+    ++ ascii "\n"
+
+-- the line of an accepted command: "After `begin` comes the peak; after `done` the step ended, then the offers."
+unfoldable pub line : Command → Answered → List ℕ
+line (plan n p bound) a = []
+line (task parent work out) a = []
+line (activation i) a = []
+line (execution i) a = []
+line begin a =
+    ascii "begin peak="
+    ++ decimal (a .answer .peak)
+    ++ figures (booked (a .state)) (inUse (a .state)) (fullness (a .state)) (take (a .answer .starts) (a .list))
+line (done j) a =
+    ascii "done "
+    ++ decimal j
+    ++ ascii " offers="
+    ++ decimal (a .answer .offers)
+    ++ figures (booked (a .state)) (inUse (a .state)) (fullness (a .state)) (take (a .answer .starts) (a .list))
+
+unfoldable pub refusedLine : ℕ → ℕ → List ℕ
+refusedLine k offset = ascii "refused " ++ decimal k ++ ascii " at " ++ decimal offset ++ ascii "\n"
+
+-- the line of what was decoded and accepted
+unfoldable pub acceptedLine : Decoded → Answered → List ℕ
+acceptedLine (refused k) a = []
+acceptedLine (read c used) a = line c a
+
+-- all that is printed from a place of the stream on. "It stops without a line where the input ends between commands." A command
+-- uses a byte at least, so that as many turns as the stream has bytes are enough
+unfoldable pub printFrom : ℕ → State → List ℕ → ℕ → List ℕ
+printFrom zero s stream place = []
+printFrom (suc turns) s stream place =
+    elim (leb (length stream) place) [
+      | true ↦ []
+      | false ↦
+          let a = command s (record { stream = stream; place = place; list = replicate leastStarts 0 }) in
+          elim (eqb (a .answer .number) 0) [
+            | true ↦
+                acceptedLine (decode stream place) a ++ printFrom turns (a .state) stream (place + a .answer .used)
+            | false ↦ refusedLine (a .answer .number) place
+          ]
+    ]
+
+-- the day printer: standard input to standard output
+unfoldable pub print : List ℕ → List ℕ
+print stream = printFrom (length stream) none stream 0
