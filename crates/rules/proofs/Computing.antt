@@ -52,6 +52,8 @@ use Rattle.rules.specs.Text.{
   spaced,
   listed,
   figures,
+  beginLine,
+  doneLine,
   line,
   refusedLine,
   acceptedLine,
@@ -133,6 +135,8 @@ unfolding
     spaced
     listed
     figures
+    beginLine
+    doneLine
     line
     refusedLine
     acceptedLine

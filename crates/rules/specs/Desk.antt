@@ -1,24 +1,14 @@
 -- "The planners' desk may ask the peak of its own list of step records, one record a step, with an activation list beside it."
-use mathlib.Core.Bool.{Bool, true, false, not, cond, _&&_}
+use mathlib.Core.Bool.{cond, _&&_}
 use mathlib.Core.List.{List, [], _∷_, map}
-use Prim.Native.Nat.{ℕ, zero, suc}
+use Prim.Native.Nat.{ℕ}
 use lib.Dec.{eqb, ltb}
 use lib.ListN.{length}
 use Rattle.rules.specs.Sums.{countTo}
-use Rattle.rules.specs.Lists.{at, mem}
+use Rattle.rules.specs.Lists.{at, every, distinct}
 use Rattle.rules.specs.Limits.{maxTasks}
 use Rattle.rules.specs.Peak
 use Rattle.rules.specs.Grounds.{within, demand}
-
--- each entry passes the test
-unfoldable pub every : (ℕ → Bool) → List ℕ → Bool
-every test [] = true
-every test (x ∷ later) = test x && every test later
-
--- no entry stands twice
-unfoldable pub distinct : List ℕ → Bool
-distinct [] = true
-distinct (x ∷ later) = not (mem x later) && distinct later
 
 -- what the desk is answered
 pub record DeskAnswer : Type 0 where

@@ -1,5 +1,5 @@
 -- Lists of numbers, and lists indexed by a task's number.
-use mathlib.Core.Bool.{Bool, true, false, _||_}
+use mathlib.Core.Bool.{Bool, true, false, not, _&&_, _||_}
 use mathlib.Core.List.{List, [], _∷_}
 use Prim.Native.Nat.{ℕ, zero, suc, max}
 use lib.Dec.{eqb}
@@ -18,6 +18,16 @@ mem i (x ∷ xs) = eqb i x || mem i xs
 unfoldable pub first : (ℕ → Bool) → List ℕ → ℕ
 first test [] = 0
 first test (x ∷ xs) = elim (test x) [ true ↦ x | false ↦ first test xs ]
+
+-- each entry passes the test
+unfoldable pub every : (ℕ → Bool) → List ℕ → Bool
+every test [] = true
+every test (x ∷ later) = test x && every test later
+
+-- no entry stands twice
+unfoldable pub distinct : List ℕ → Bool
+distinct [] = true
+distinct (x ∷ later) = not (mem x later) && distinct later
 
 -- the largest entry
 unfoldable pub largest : List ℕ → ℕ

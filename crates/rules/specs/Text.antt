@@ -49,25 +49,30 @@ figures total used full started =
     ++ listed started
     ++ ascii "\n"
 
--- the line of an accepted command: "After `begin` comes the peak; after `done` the step ended, then the offers."
+-- "After `begin` comes the peak; after `done` the step ended, then the offers."
+unfoldable pub beginLine : ℕ → ℕ → ℕ → ℕ → List ℕ → List ℕ
+beginLine peak total used full started = ascii "begin peak=" ++ decimal peak ++ figures total used full started
+
+unfoldable pub doneLine : ℕ → ℕ → ℕ → ℕ → ℕ → List ℕ → List ℕ
+doneLine j offers total used full started =
+    ascii "done " ++ decimal j ++ ascii " offers=" ++ decimal offers ++ figures total used full started
+
+-- "on a refusal `refused K at O` (number, byte offset of the command counted from 0)"
+unfoldable pub refusedLine : ℕ → ℕ → List ℕ
+refusedLine k offset = ascii "refused " ++ decimal k ++ ascii " at " ++ decimal offset ++ ascii "\n"
+
+-- the line of an accepted command, none for 01 to 04
 unfoldable pub line : Command → Answered → List ℕ
 line (plan n p bound) a = []
 line (task parent work out) a = []
 line (activation i) a = []
 line (execution i) a = []
 line begin a =
-    ascii "begin peak="
-    ++ decimal (a .answer .peak)
-    ++ figures (booked (a .state)) (inUse (a .state)) (fullness (a .state)) (take (a .answer .starts) (a .list))
+    beginLine (a .answer .peak) (booked (a .state)) (inUse (a .state)) (fullness (a .state))
+    (take (a .answer .starts) (a .list))
 line (done j) a =
-    ascii "done "
-    ++ decimal j
-    ++ ascii " offers="
-    ++ decimal (a .answer .offers)
-    ++ figures (booked (a .state)) (inUse (a .state)) (fullness (a .state)) (take (a .answer .starts) (a .list))
-
-unfoldable pub refusedLine : ℕ → ℕ → List ℕ
-refusedLine k offset = ascii "refused " ++ decimal k ++ ascii " at " ++ decimal offset ++ ascii "\n"
+    doneLine j (a .answer .offers) (booked (a .state)) (inUse (a .state)) (fullness (a .state))
+    (take (a .answer .starts) (a .list))
 
 -- the line of what was decoded and accepted
 unfoldable pub acceptedLine : Decoded → Answered → List ℕ
