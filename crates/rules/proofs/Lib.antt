@@ -1,3 +1,5 @@
 -- What is proved of the rules.
 pub mod Computing
 pub mod Marked
+-- laws
+pub mod Sums

@@ -1,0 +1,167 @@
+-- Laws of sums and counts over the tasks 1 to n.
+use mathlib.Core.Path.{_≡_, refl, sym, ap, _∙_}
+use mathlib.Core.Bool.{Bool, true, false, not}
+use mathlib.Core.Logic.{_⊎_, inl, inr, ⊎-elim}
+use Prim.Native.Nat.{ℕ, zero, suc, _+_, _≤_, _<_}
+use native.Mathlib.Omega.{arith}
+use lib.Dec.{eqb}
+use borrow.Author.Tests.{eqb-true, eqb-false, eq-eqb, ne-eqb}
+use Rattle.rules.specs.Sums.{only, sumTo, countTo}
+
+-- i is one of the tasks 1 to n
+pub record Task (n i : ℕ) : Type 0 where
+  pub low : 1 ≤ i
+  pub high : i ≤ n
+
+-- a test holds or it fails
+pub decide : (t : Bool) → (t ≡ true) ⊎ (t ≡ false)
+decide true = inl refl
+decide false = inr refl
+
+-- of two numbers
+pub same-or-not : (i x : ℕ) → (i ≡ x) ⊎ (i ≡ x → ⊥)
+same-or-not i x = go (decide (eqb i x))
+  where
+    go : (eqb i x ≡ true) ⊎ (eqb i x ≡ false) → (i ≡ x) ⊎ (i ≡ x → ⊥)
+    go (inl e) = inl (eqb-true i x e)
+    go (inr e) = inr (eqb-false i x e)
+
+-- sums of equal terms are equal
+pub sum-cong : (f g : ℕ → ℕ) (n : ℕ) → ((i : ℕ) → Task n i → f i ≡ g i) → sumTo f n ≡ sumTo g n
+unfolding sumTo
+sum-cong f g zero h = refl
+sum-cong f g (suc n) h =
+    let before : sumTo f n ≡ sumTo g n = sum-cong f g n (λ i t. h i (omega arith)) in
+    let here : f (suc n) ≡ g (suc n) = h (suc n) (omega arith) in
+    omega arith
+
+-- sums of smaller terms are smaller
+pub sum-le : (f g : ℕ → ℕ) (n : ℕ) → ((i : ℕ) → Task n i → f i ≤ g i) → sumTo f n ≤ sumTo g n
+unfolding sumTo
+sum-le f g zero h = omega arith
+sum-le f g (suc n) h =
+    let before : sumTo f n ≤ sumTo g n = sum-le f g n (λ i t. h i (omega arith)) in
+    let here : f (suc n) ≤ g (suc n) = h (suc n) (omega arith) in
+    omega arith
+
+-- the sum of sums
+pub sum-add : (f g : ℕ → ℕ) (n : ℕ) → sumTo (λ i. f i + g i) n ≡ sumTo f n + sumTo g n
+unfolding sumTo
+sum-add f g zero = refl
+sum-add f g (suc n) = omega (arith, sum-add f g n)
+
+-- a sum of nothing
+pub sum-zero : (f : ℕ → ℕ) (n : ℕ) → ((i : ℕ) → Task n i → f i ≡ 0) → sumTo f n ≡ 0
+unfolding sumTo
+sum-zero f zero h = refl
+sum-zero f (suc n) h =
+    let before : sumTo f n ≡ 0 = sum-zero f n (λ i t. h i (omega arith)) in
+    let here : f (suc n) ≡ 0 = h (suc n) (omega arith) in
+    omega arith
+
+-- one term is at most the sum
+pub term-le : (f : ℕ → ℕ) (n x : ℕ) → Task n x → f x ≤ sumTo f n
+unfolding sumTo
+term-le f zero x t = omega arith
+term-le f (suc n) x t =
+    ⊎-elim (λ e. let here : f x ≡ f (suc n) = ap f e in omega arith)
+    (λ d. let before : f x ≤ sumTo f n = term-le f n x (omega arith) in omega arith) (same-or-not x (suc n))
+
+-- one term changed: the sum changes as much
+pub sum-change :
+    (f g : ℕ → ℕ) (n x d : ℕ)
+    → Task n x
+    → g x ≡ f x + d
+    → ((i : ℕ) → Task n i → (i ≡ x → ⊥) → g i ≡ f i)
+    → sumTo g n ≡ sumTo f n + d
+unfolding sumTo
+sum-change f g zero x d t at-x other = omega arith
+sum-change f g (suc n) x d t at-x other =
+    ⊎-elim
+    (λ e.
+    let before : sumTo g n ≡ sumTo f n = sum-cong g f n (λ i r. other i (omega arith) (λ q. omega arith)) in
+    let here : g (suc n) ≡ g x = ap g (sym e) in
+    let there : f x ≡ f (suc n) = ap f e in
+    omega arith)
+    (λ v.
+    let before : sumTo g n ≡ sumTo f n + d = sum-change f g n x d (omega arith) at-x (λ i r. other i (omega arith)) in
+    let here : g (suc n) ≡ f (suc n) = other (suc n) (omega arith) (λ q. v (sym q)) in
+    omega arith)
+    (same-or-not x (suc n))
+
+-- a test that is decided leaves the value, or 0
+pub only-true : (t : Bool) (x : ℕ) → t ≡ true → only t x ≡ x
+only-true t x e = rw e
+
+pub only-false : (t : Bool) (x : ℕ) → t ≡ false → only t x ≡ 0
+only-false t x e = rw e
+
+pub only-zero : (t : Bool) → only t 0 ≡ 0
+only-zero true = refl
+only-zero false = refl
+
+pub only-le : (t : Bool) (x : ℕ) → only t x ≤ x
+only-le true x = omega arith
+only-le false x = omega arith
+
+pub only-add : (t : Bool) (x y : ℕ) → only t (x + y) ≡ only t x + only t y
+only-add true x y = refl
+only-add false x y = refl
+
+-- a sum with one term
+pub sum-single : (f : ℕ → ℕ) (n x : ℕ) → Task n x → sumTo (λ i. only (eqb i x) (f i)) n ≡ f x
+sum-single f n x t =
+    sum-change (λ _. 0) (λ i. only (eqb i x) (f i)) n x (f x) t (only-true (eqb x x) (f x) (eq-eqb x x refl) ∙ omega arith)
+    (λ i _ d. only-false (eqb i x) (f i) (ne-eqb i x d))
+    ∙ (let z : sumTo (λ _. 0) n ≡ 0 = sum-zero (λ _. 0) n (λ _ _. refl) in omega arith)
+
+-- a test goes into a sum
+pub only-sum : (t : Bool) (f : ℕ → ℕ) (n : ℕ) → only t (sumTo f n) ≡ sumTo (λ i. only t (f i)) n
+only-sum true f n = refl
+only-sum false f n = sym (sum-zero (λ _. 0) n (λ _ _. refl))
+
+-- a sum of sums, in either order
+pub sum-swap :
+    (f : ℕ → ℕ → ℕ) (m n : ℕ) → sumTo (λ i. sumTo (λ j. f i j) n) m ≡ sumTo (λ j. sumTo (λ i. f i j) m) n
+unfolding sumTo
+sum-swap f zero n = sym (sum-zero (λ _. 0) n (λ _ _. refl))
+sum-swap f (suc m) n =
+    let before : sumTo (λ i. sumTo (λ j. f i j) n) m ≡ sumTo (λ j. sumTo (λ i. f i j) m) n = sum-swap f m n in
+    let both : sumTo (λ j. sumTo (λ i. f i j) m + f (suc m) j) n ≡ sumTo (λ j. sumTo (λ i. f i j) m) n + sumTo (f (suc m)) n
+    = sum-add (λ j. sumTo (λ i. f i j) m) (f (suc m)) n in
+    omega arith
+
+-- a positive sum has a positive term
+pub sum-positive : (f : ℕ → ℕ) (n : ℕ) → 1 ≤ sumTo f n → (i : ℕ) × Task n i × (1 ≤ f i)
+unfolding sumTo
+sum-positive f zero h = absurd (omega arith)
+sum-positive f (suc n) h =
+    ⊎-elim (λ e. let k = sum-positive f n (omega arith) in (k .0, omega (arith, k .1), k .2))
+    (λ d. (suc n, omega arith, omega arith)) (same-or-not (f (suc n)) 0)
+
+-- a count is nothing just where no task passes
+pub count-none : (test : ℕ → Bool) (n : ℕ) → ((i : ℕ) → Task n i → test i ≡ false) → countTo test n ≡ 0
+unfolding countTo
+count-none test n h = sum-zero (λ i. only (test i) 1) n (λ i t. only-false (test i) 1 (h i t))
+
+pub none-counted : (test : ℕ → Bool) (n : ℕ) → countTo test n ≡ 0 → (i : ℕ) → Task n i → test i ≡ false
+unfolding countTo
+none-counted test n h i t = go (decide (test i))
+  where
+    go : (test i ≡ true) ⊎ (test i ≡ false) → test i ≡ false
+    go (inl e) =
+        let here : only (test i) 1 ≡ 1 = only-true (test i) 1 e in
+        absurd (omega (arith, term-le (λ k. only (test k) 1) n i t))
+    go (inr e) = e
+
+-- a count that is not nothing has a task
+pub counted : (test : ℕ → Bool) (n : ℕ) → 1 ≤ countTo test n → (i : ℕ) × Task n i × (test i ≡ true)
+unfolding countTo
+counted test n h = let k = sum-positive (λ i. only (test i) 1) n h in (k .0, k .1, passes (k .0) (k .2))
+  where
+    passes : (i : ℕ) → 1 ≤ only (test i) 1 → test i ≡ true
+    passes i p = go (decide (test i))
+      where
+        go : (test i ≡ true) ⊎ (test i ≡ false) → test i ≡ true
+        go (inl e) = e
+        go (inr e) = absurd (omega (arith, only-false (test i) 1 e))
