@@ -2,4 +2,6 @@
 pub mod Computing
 pub mod Marked
 -- laws
+pub mod Tests
 pub mod Sums
+pub mod Tree

@@ -1,30 +1,18 @@
 -- Laws of sums and counts over the tasks 1 to n.
 use mathlib.Core.Path.{_≡_, refl, sym, ap, _∙_}
-use mathlib.Core.Bool.{Bool, true, false, not}
+use mathlib.Core.Bool.{Bool, true, false}
 use mathlib.Core.Logic.{_⊎_, inl, inr, ⊎-elim}
 use Prim.Native.Nat.{ℕ, zero, suc, _+_, _≤_, _<_}
 use native.Mathlib.Omega.{arith}
 use lib.Dec.{eqb}
-use borrow.Author.Tests.{eqb-true, eqb-false, eq-eqb, ne-eqb}
+use borrow.Author.Tests.{eq-eqb, ne-eqb}
 use Rattle.rules.specs.Sums.{only, sumTo, countTo}
+use Rattle.rules.proofs.Tests.{decide, same-or-not}
 
 -- i is one of the tasks 1 to n
 pub record Task (n i : ℕ) : Type 0 where
   pub low : 1 ≤ i
   pub high : i ≤ n
-
--- a test holds or it fails
-pub decide : (t : Bool) → (t ≡ true) ⊎ (t ≡ false)
-decide true = inl refl
-decide false = inr refl
-
--- of two numbers
-pub same-or-not : (i x : ℕ) → (i ≡ x) ⊎ (i ≡ x → ⊥)
-same-or-not i x = go (decide (eqb i x))
-  where
-    go : (eqb i x ≡ true) ⊎ (eqb i x ≡ false) → (i ≡ x) ⊎ (i ≡ x → ⊥)
-    go (inl e) = inl (eqb-true i x e)
-    go (inr e) = inr (eqb-false i x e)
 
 -- sums of equal terms are equal
 pub sum-cong : (f g : ℕ → ℕ) (n : ℕ) → ((i : ℕ) → Task n i → f i ≡ g i) → sumTo f n ≡ sumTo g n
@@ -107,6 +95,12 @@ only-le false x = omega arith
 pub only-add : (t : Bool) (x y : ℕ) → only t (x + y) ≡ only t x + only t y
 only-add true x y = refl
 only-add false x y = refl
+
+-- two tests in either order
+pub only-swap : (s t : Bool) (x : ℕ) → only s (only t x) ≡ only t (only s x)
+only-swap true t x = refl
+only-swap false true x = refl
+only-swap false false x = refl
 
 -- a sum with one term
 pub sum-single : (f : ℕ → ℕ) (n x : ℕ) → Task n x → sumTo (λ i. only (eqb i x) (f i)) n ≡ f x
