@@ -5,3 +5,4 @@ pub mod Marked
 pub mod Tests
 pub mod Sums
 pub mod Tree
+pub mod Children

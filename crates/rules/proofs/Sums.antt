@@ -1,6 +1,6 @@
 -- Laws of sums and counts over the tasks 1 to n.
 use mathlib.Core.Path.{_≡_, refl, sym, ap, _∙_}
-use mathlib.Core.Bool.{Bool, true, false}
+use mathlib.Core.Bool.{Bool, true, false, _&&_}
 use mathlib.Core.Logic.{_⊎_, inl, inr, ⊎-elim}
 use Prim.Native.Nat.{ℕ, zero, suc, _+_, _≤_, _<_}
 use native.Mathlib.Omega.{arith}
@@ -95,6 +95,20 @@ only-le false x = omega arith
 pub only-add : (t : Bool) (x y : ℕ) → only t (x + y) ≡ only t x + only t y
 only-add true x y = refl
 only-add false x y = refl
+
+-- values that are compared only where the test holds
+pub only-mono : (t : Bool) (x y : ℕ) → (t ≡ true → x ≤ y) → only t x ≤ only t y
+only-mono true x y h = h refl
+only-mono false x y h = omega arith
+
+pub only-cong : (t : Bool) (x y : ℕ) → (t ≡ true → x ≡ y) → only t x ≡ only t y
+only-cong true x y h = h refl
+only-cong false x y h = refl
+
+-- both of two tests, one after the other
+pub only-and : (s t : Bool) (x : ℕ) → only (s && t) x ≡ only s (only t x)
+only-and true t x = refl
+only-and false t x = refl
 
 -- two tests in either order
 pub only-swap : (s t : Bool) (x : ℕ) → only s (only t x) ≡ only t (only s x)
