@@ -6,3 +6,4 @@ pub mod Tests
 pub mod Sums
 pub mod Tree
 pub mod Children
+pub mod Shape

@@ -2,9 +2,9 @@
 use mathlib.Core.Path.{_≡_, refl, sym, _∙_}
 use mathlib.Core.Bool.{Bool, true, false, not, _&&_, _||_, false≢true}
 use mathlib.Core.Logic.{_⊎_, inl, inr, ⊎-elim}
-use Prim.Native.Nat.{ℕ}
-use lib.Dec.{eqb}
-use borrow.Author.Tests.{eqb-true, eqb-false, eq-eqb, ne-eqb}
+use Prim.Native.Nat.{ℕ, _≤_, _<_}
+use lib.Dec.{eqb, leb}
+use borrow.Author.Tests.{eqb-true, eqb-false, eq-eqb, ne-eqb, leb-true, leb-false}
 
 -- a test holds or it fails
 pub decide : (t : Bool) → (t ≡ true) ⊎ (t ≡ false)
@@ -23,6 +23,10 @@ fails false h = refl
 -- two numbers are the same or not
 pub same-or-not : (i x : ℕ) → (i ≡ x) ⊎ (i ≡ x → ⊥)
 same-or-not i x = ⊎-elim (λ e. inl (eqb-true i x e)) (λ e. inr (eqb-false i x e)) (decide (eqb i x))
+
+-- one number is at most the other, or above it
+pub le-or-lt : (a b : ℕ) → (a ≤ b) ⊎ (b < a)
+le-or-lt a b = ⊎-elim (λ e. inl (leb-true a b e)) (λ e. inr (leb-false a b e)) (decide (leb a b))
 
 pub eqb-sym : (a b : ℕ) → eqb a b ≡ eqb b a
 eqb-sym a b =
