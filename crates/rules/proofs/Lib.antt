@@ -7,3 +7,4 @@ pub mod Sums
 pub mod Tree
 pub mod Children
 pub mod Shape
+pub mod Balance
