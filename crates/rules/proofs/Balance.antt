@@ -64,6 +64,17 @@ pub record Balance (n : ℕ) (par need out st b : ℕ → ℕ) (path : List ℕ)
 abbrev pub Balanced : (n : ℕ) (par need out st b : ℕ → ℕ) → Type 0
 Balanced n par need out st b = Balance n par need out st b [] 0
 
+-- with nothing owed, a booked or running task and all below it hold its need
+pub settled :
+    (n : ℕ) (par need out st b : ℕ → ℕ)
+    → Balanced n par need out st b
+    → (i : ℕ)
+    → Task n i
+    → Active st i
+    → need i ≤ figure n par b i
+unfolding mem
+settled n par need out st b books i t a = let h = books .covered i t a in omega arith
+
 module _ (n : ℕ) (par rank : ℕ → ℕ) (tree : Tree n par rank)
     (need out st b : ℕ → ℕ) (shape : Shape n par rank st) where
   -- the subtree figure of an ended task is 0
@@ -152,3 +163,19 @@ module _ (n : ℕ) (par rank : ℕ → ℕ) (tree : Tree n par rank)
       let k = h c u e (eqb-false (st c) finished q) in
       omega arith)
       (decide (eqb (st c) finished)))
+
+-- where the same tasks have ended, the same has arrived and the same is to come
+module _ (n : ℕ) (par out st st′ : ℕ → ℕ)
+    (same : (c : ℕ) → Task n c → eqb (st′ c) finished ≡ eqb (st c) finished) (i : ℕ) where
+  pub arrived-same : arrived n par out st′ i ≡ arrived n par out st i
+  unfolding arrived
+  arrived-same =
+      children-cong n par (λ c. only (eqb (st′ c) finished) (out c)) (λ c. only (eqb (st c) finished) (out c)) i
+      (λ c u _. ap (λ (t : Bool). only t (out c)) (same c u))
+
+  pub pending-same : pending n par out st′ i ≡ pending n par out st i
+  unfolding pending
+  pending-same =
+      children-cong n par (λ c. only (not (eqb (st′ c) finished)) (out c))
+      (λ c. only (not (eqb (st c) finished)) (out c)) i
+      (λ c u _. ap (λ (t : Bool). only (not t) (out c)) (same c u))

@@ -8,6 +8,8 @@ use lib.Dec.{eqb}
 use borrow.Author.Tests.{eqb-true, eq-eqb, ne-eqb}
 use Rattle.rules.specs.Sums.{only, sumTo}
 use Rattle.rules.specs.Need.{childrenOut, resident}
+use Rattle.rules.specs.Booking.{figure}
+use Rattle.rules.proofs.Tree.{Tree, figure-splits}
 use Rattle.rules.proofs.Tests.{decide, same-or-not, eqb-sym}
 use Rattle.rules.proofs.Sums.{
   Task,
@@ -37,6 +39,14 @@ children n par f i = sumTo (λ c. only (eqb (par c) i) (f c)) n
 pub children-out : (n : ℕ) (par out : ℕ → ℕ) (i : ℕ) → childrenOut n par out i ≡ children n par out i
 unfolding children childrenOut
 children-out n par out i = refl
+
+-- the figure of a task is its own part and the figures of its children
+pub figure-children :
+    (n : ℕ) (par rank : ℕ → ℕ) (tree : Tree n par rank) (b : ℕ → ℕ) (i : ℕ)
+    → Task n i
+    → figure n par b i ≡ b i + children n par (λ c. figure n par b c) i
+unfolding children
+figure-children = figure-splits
 
 -- an order or an equation at each child
 pub children-le :

@@ -8,3 +8,4 @@ pub mod Tree
 pub mod Children
 pub mod Shape
 pub mod Balance
+pub mod Activating

@@ -111,6 +111,9 @@ module _ (n : ℕ) (par rank : ℕ → ℕ) (tree : Tree n par rank) where
   unfolding mem
   up-step i k t = ap (mem i) (chain-step k t)
 
+  pub up-self : (k : ℕ) → Task n k → up n par k k ≡ true
+  up-self k t = up-step k k t ∙ or-left (eqb k k) (up n par k (par k)) (eq-eqb k k refl)
+
   -- a task does not stand above itself
   pub not-above-itself : (k : ℕ) → Task n k → up n par k (par k) ≡ false
   not-above-itself k t =
