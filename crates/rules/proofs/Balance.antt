@@ -75,6 +75,22 @@ pub settled :
 unfolding mem
 settled n par need out st b books i t a = let h = books .covered i t a in omega arith
 
+-- books in which nothing is really owed
+pub cleared :
+    (n : ℕ) (par need out st b : ℕ → ℕ) (path : List ℕ) (r : ℕ)
+    → Balance n par need out st b path r
+    → ((i : ℕ) → Task n i → Active st i → only (mem i path) r ≡ 0)
+    → Balanced n par need out st b
+unfolding mem
+cleared n par need out st b path r books nothing =
+    record {
+      waits = books .waits;
+      keeps = books .keeps;
+      covered = λ i t a. let h = books .covered i t a in let z = nothing i t a in omega arith;
+      capped = books .capped;
+      empty = books .empty;
+    }
+
 module _ (n : ℕ) (par rank : ℕ → ℕ) (tree : Tree n par rank)
     (need out st b : ℕ → ℕ) (shape : Shape n par rank st) where
   -- the subtree figure of an ended task is 0

@@ -9,3 +9,5 @@ pub mod Children
 pub mod Shape
 pub mod Balance
 pub mod Activating
+pub mod Starting
+pub mod Climbing
