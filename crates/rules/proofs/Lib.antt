@@ -11,3 +11,4 @@ pub mod Balance
 pub mod Activating
 pub mod Starting
 pub mod Climbing
+pub mod Finishing
