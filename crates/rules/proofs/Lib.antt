@@ -12,3 +12,5 @@ pub mod Activating
 pub mod Starting
 pub mod Climbing
 pub mod Finishing
+pub mod Usage
+pub mod Progress
