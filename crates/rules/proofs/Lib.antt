@@ -3,3 +3,4 @@ pub mod Computing
 pub mod Marked
 -- laws
 pub mod Sums
+pub mod Orders
