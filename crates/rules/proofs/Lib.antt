@@ -4,3 +4,5 @@ pub mod Marked
 -- laws
 pub mod Sums
 pub mod Orders
+pub mod Turns
+pub mod Peaks

@@ -1,6 +1,6 @@
 -- Laws of lists of tasks as orders: who stands in a list and where, and lists that hold every task once.
 use mathlib.Core.Path.{_≡_, refl, sym, ap, _∙_}
-use mathlib.Core.Bool.{Bool, true, false, not, cond, _&&_, _||_, and-eq-true-iff, and-assoc, or-assoc}
+use mathlib.Core.Bool.{Bool, true, false, not, cond, _&&_, _||_, and-eq-true-iff, and-assoc, or-assoc, or-comm, or-true}
 use mathlib.Core.List.{List, [], _∷_, _++_}
 use mathlib.Core.Logic.{⊎-elim}
 use Prim.Native.Nat.{ℕ, zero, suc, _+_, _<_}
@@ -64,11 +64,32 @@ nobody i e = clash (mem i []) e (mem-none i)
 pub mem-rest : (i x : ℕ) (l : List ℕ) → mem i (x ∷ l) ≡ true → (i ≡ x → ⊥) → mem i l ≡ true
 mem-rest i x l e d = sym (mem-later i x l d) ∙ e
 
+-- whoever stands in a list stands in a longer one
+pub mem-more : (i x : ℕ) (l : List ℕ) → mem i l ≡ true → mem i (x ∷ l) ≡ true
+unfolding mem
+mem-more i x l e = rw (e, or-true)
+
+-- whoever stands in no place of a list is not its first entry, and stands nowhere later
+pub mem-out : (i x : ℕ) (l : List ℕ) → mem i (x ∷ l) ≡ false → (i ≡ x → ⊥) × (mem i l ≡ false)
+mem-out i x l e =
+    let d : i ≡ x → ⊥ = λ q. clash (mem i (x ∷ l)) (mem-here i x l q) e in
+    (d, sym (mem-later i x l d) ∙ e)
+
 -- one list after another
 pub mem-append : (i : ℕ) (l m : List ℕ) → mem i (l ++ m) ≡ (mem i l || mem i m)
 unfolding mem
 mem-append i [] m = refl
 mem-append i (x ∷ l) m = rw (mem-append i l m) (sym (or-assoc (eqb i x) (mem i l) (mem i m)))
+
+-- whether x stands among others or before them
+pub mem-among : (i x : ℕ) (l m : List ℕ) → mem i (l ++ x ∷ m) ≡ mem i (x ∷ l ++ m)
+unfolding mem
+mem-among i x [] m = refl
+mem-among i x (y ∷ l) m =
+    ap (λ t. eqb i y || t) (mem-among i x l m)
+    ∙ sym (or-assoc (eqb i y) (eqb i x) (mem i (l ++ m)))
+    ∙ ap (λ t. t || mem i (l ++ m)) (or-comm (eqb i y) (eqb i x))
+    ∙ or-assoc (eqb i x) (eqb i y) (mem i (l ++ m))
 
 -- who stands in a list is not who does not
 pub mem-other : (x y : ℕ) (l : List ℕ) → mem x l ≡ true → mem y l ≡ false → x ≡ y → ⊥
@@ -212,9 +233,9 @@ place-first x (y ∷ l) m e =
 pub place-second : (x : ℕ) (l m : List ℕ) → mem x l ≡ false → place x (l ++ m) ≡ length l + place x m
 place-second x [] m e = omega arith
 place-second x (y ∷ l) m e =
-    let d : x ≡ y → ⊥ = λ q. clash (mem x (y ∷ l)) (mem-here x y l q) e in
-    let rest : place x (l ++ m) ≡ length l + place x m = place-second x l m (sym (mem-later x y l d) ∙ e) in
-    omega (arith, place-later x y (l ++ m) d)
+    let out = mem-out x y l e in
+    let rest : place x (l ++ m) ≡ length l + place x m = place-second x l m (out .1) in
+    omega (arith, place-later x y (l ++ m) (out .0))
 
 -- the place where a list is taken apart
 pub place-split :
