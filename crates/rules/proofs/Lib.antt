@@ -1,9 +1,14 @@
 -- What is proved of the rules.
+-- the paper's examples
 pub mod Computing
 pub mod Marked
--- laws
+-- sums, lists and orders
 pub mod Tests
 pub mod Sums
+pub mod Orders
+pub mod Turns
+pub mod Peaks
+-- the tree and the books, over functions and for one store
 pub mod Tree
 pub mod Children
 pub mod Shape

@@ -7,12 +7,8 @@ use native.Mathlib.Omega.{arith}
 use lib.Dec.{eqb}
 use borrow.Author.Tests.{eq-eqb, ne-eqb}
 use Rattle.rules.specs.Sums.{only, sumTo, countTo}
+pub use Rattle.rules.specs.Sums.{Task}
 use Rattle.rules.proofs.Tests.{decide, same-or-not}
-
--- i is one of the tasks 1 to n
-pub record Task (n i : ℕ) : Type 0 where
-  pub low : 1 ≤ i
-  pub high : i ≤ n
 
 -- sums of equal terms are equal
 pub sum-cong : (f g : ℕ → ℕ) (n : ℕ) → ((i : ℕ) → Task n i → f i ≡ g i) → sumTo f n ≡ sumTo g n

@@ -1,0 +1,350 @@
+-- Laws of lists of tasks as orders: who stands in a list and where, and lists that hold every task once.
+use mathlib.Core.Path.{_≡_, refl, sym, ap, _∙_}
+use mathlib.Core.Bool.{Bool, true, false, not, cond, _&&_, _||_, and-eq-true-iff, and-assoc, or-assoc, or-comm, or-true}
+use mathlib.Core.List.{List, [], _∷_, _++_}
+use mathlib.Core.Logic.{⊎-elim}
+use Prim.Native.Nat.{ℕ, zero, suc, _+_, _<_}
+use native.Mathlib.Omega.{arith}
+use lib.Dec.{eqb, leb}
+use lib.ListN.{length, getD}
+use borrow.Author.Tests.{eq-eqb, ne-eqb, leb-true, le-leb, not-true}
+use Rattle.rules.specs.Sums.{only, sumTo, countTo}
+use Rattle.rules.specs.Lists.{mem, every, distinct}
+use Rattle.rules.specs.Peak.{ordered}
+use Rattle.rules.specs.Grounds.{within}
+use Rattle.rules.proofs.Tests.{decide, clash, same-or-not, or-false}
+use Rattle.rules.proofs.Sums.{
+  Task,
+  sum-cong,
+  sum-add,
+  sum-zero,
+  sum-change,
+  term-le,
+  only-true,
+  only-false,
+}
+
+-- a task in the limits, as a test and as a fact
+pub within-task : (n i : ℕ) → within i n ≡ true → Task n i
+within-task n i e =
+    let both = and-eq-true-iff (leb 1 i) (leb i n) .0 e in
+    record { low = leb-true 1 i (both .0); high = leb-true i n (both .1) }
+
+pub task-within : (n i : ℕ) → Task n i → within i n ≡ true
+task-within n i t = rw (le-leb 1 i (t .low), le-leb i n (t .high))
+
+-- who stands in a list: nobody in none, the first entry, and whoever stands later
+pub mem-none : (i : ℕ) → mem i [] ≡ false
+unfolding mem
+mem-none i = refl
+
+pub mem-here : (i x : ℕ) (l : List ℕ) → i ≡ x → mem i (x ∷ l) ≡ true
+unfolding mem
+mem-here i x l q = rw (eq-eqb i x q)
+
+pub mem-later : (i x : ℕ) (l : List ℕ) → (i ≡ x → ⊥) → mem i (x ∷ l) ≡ mem i l
+unfolding mem
+mem-later i x l d = rw (ne-eqb i x d)
+
+-- nobody stands in an empty list
+pub nobody : (i : ℕ) → mem i [] ≡ true → ⊥
+nobody i e = clash e (mem-none i)
+
+-- whoever stands in a list and is not its first entry stands later
+pub mem-rest : (i x : ℕ) (l : List ℕ) → mem i (x ∷ l) ≡ true → (i ≡ x → ⊥) → mem i l ≡ true
+mem-rest i x l e d = sym (mem-later i x l d) ∙ e
+
+-- whoever stands in a list stands in a longer one
+pub mem-more : (i x : ℕ) (l : List ℕ) → mem i l ≡ true → mem i (x ∷ l) ≡ true
+unfolding mem
+mem-more i x l e = rw (e, or-true)
+
+-- whoever stands in no place of a list is not its first entry, and stands nowhere later
+pub mem-out : (i x : ℕ) (l : List ℕ) → mem i (x ∷ l) ≡ false → (i ≡ x → ⊥) × (mem i l ≡ false)
+mem-out i x l e =
+    let d : i ≡ x → ⊥ = λ q. clash (mem-here i x l q) e in
+    (d, sym (mem-later i x l d) ∙ e)
+
+-- one list after another
+pub mem-append : (i : ℕ) (l m : List ℕ) → mem i (l ++ m) ≡ (mem i l || mem i m)
+unfolding mem
+mem-append i [] m = refl
+mem-append i (x ∷ l) m = rw (mem-append i l m) (sym (or-assoc (eqb i x) (mem i l) (mem i m)))
+
+-- whether x stands among others or before them
+pub mem-among : (i x : ℕ) (l m : List ℕ) → mem i (l ++ x ∷ m) ≡ mem i (x ∷ l ++ m)
+unfolding mem
+mem-among i x [] m = refl
+mem-among i x (y ∷ l) m =
+    ap (λ t. eqb i y || t) (mem-among i x l m)
+    ∙ sym (or-assoc (eqb i y) (eqb i x) (mem i (l ++ m)))
+    ∙ ap (λ t. t || mem i (l ++ m)) (or-comm (eqb i y) (eqb i x))
+    ∙ or-assoc (eqb i x) (eqb i y) (mem i (l ++ m))
+
+-- who stands in a list is not who does not
+pub mem-other : (x y : ℕ) (l : List ℕ) → mem x l ≡ true → mem y l ≡ false → x ≡ y → ⊥
+mem-other x y l e d q = clash e (ap (λ i. mem i l) q ∙ d)
+
+-- a list taken apart where x first stands
+pub record Split (x : ℕ) (l : List ℕ) : Type 0 where
+  pub pre : List ℕ
+  pub post : List ℕ
+  pub whole : l ≡ pre ++ x ∷ post
+  pub new : mem x pre ≡ false
+
+pub mem-split : (x : ℕ) (l : List ℕ) → mem x l ≡ true → Split x l
+mem-split x [] e = absurd (nobody x e)
+mem-split x (y ∷ l) e =
+    ⊎-elim (λ q. record { pre = []; post = l; whole = rw q; new = mem-none x })
+    (λ d.
+    let s = mem-split x l (mem-rest x y l e d) in
+    record {
+      pre = y ∷ s .pre;
+      post = s .post;
+      whole = ap (λ t. y ∷ t) (s .whole);
+      new = mem-later x y (s .pre) d ∙ s .new;
+    })
+    (same-or-not x y)
+
+-- where each entry passes, so does any one of them
+pub every-mem : (test : ℕ → Bool) (l : List ℕ) (x : ℕ) → every test l ≡ true → mem x l ≡ true → test x ≡ true
+unfolding every
+every-mem test [] x h e = absurd (nobody x e)
+every-mem test (y ∷ l) x h e =
+    let both = and-eq-true-iff (test y) (every test l) .0 h in
+    ⊎-elim (λ q. ap test q ∙ both .0) (λ d. every-mem test l x (both .1) (mem-rest x y l e d)) (same-or-not x y)
+
+pub every-append :
+    (test : ℕ → Bool) (l m : List ℕ) → every test (l ++ m) ≡ (every test l && every test m)
+unfolding every
+every-append test [] m = refl
+every-append test (x ∷ l) m =
+    rw (every-append test l m) (sym (and-assoc (test x) (every test l) (every test m)))
+
+-- of a list with no entry twice: the first entry stands nowhere else
+pub record Fresh (x : ℕ) (l : List ℕ) : Type 0 where
+  pub new : mem x l ≡ false
+  pub later : distinct l ≡ true
+
+pub distinct-cons : (x : ℕ) (l : List ℕ) → distinct (x ∷ l) ≡ true → Fresh x l
+unfolding distinct
+distinct-cons x l e =
+    let both = and-eq-true-iff (not (mem x l)) (distinct l) .0 e in
+    record { new = not-true (mem x l) (both .0); later = both .1 }
+
+-- two lists, one after the other, with no entry twice
+pub record Apart (l m : List ℕ) : Type 0 where
+  pub first : distinct l ≡ true
+  pub second : distinct m ≡ true
+  pub apart : (i : ℕ) → mem i l ≡ true → mem i m ≡ false
+
+pub distinct-append : (l m : List ℕ) → distinct (l ++ m) ≡ true → Apart l m
+unfolding distinct
+distinct-append [] m e =
+    record { first = refl; second = e; apart = λ i h. absurd (nobody i h) }
+distinct-append (x ∷ l) m e =
+    let f = distinct-cons x (l ++ m) e in
+    let a = distinct-append l m (f .later) in
+    let h = or-false (mem x l) (mem x m) (sym (mem-append x l m) ∙ f .new) in
+    record {
+      first = rw (h .0) (a .first);
+      second = a .second;
+      apart =
+          λ i k.
+          ⊎-elim (λ q. ap (λ t. mem t m) q ∙ h .1) (λ d. a .apart i (mem-rest i x l k d)) (same-or-not i x);
+    }
+
+-- such a list taken apart at x: x stands in neither part, and no entry in both
+pub record Alone (pre : List ℕ) (x : ℕ) (post : List ℕ) : Type 0 where
+  pub not-earlier : mem x pre ≡ false
+  pub not-later : mem x post ≡ false
+  pub earlier : distinct pre ≡ true
+  pub later : distinct post ≡ true
+  pub apart : (i : ℕ) → mem i pre ≡ true → mem i post ≡ false
+
+pub distinct-split : (pre : List ℕ) (x : ℕ) (post : List ℕ) → distinct (pre ++ x ∷ post) ≡ true → Alone pre x post
+distinct-split pre x post e =
+    let a = distinct-append pre (x ∷ post) e in
+    let f = distinct-cons x post (a .second) in
+    let other : (i : ℕ) → mem i pre ≡ true → i ≡ x → ⊥
+    = λ i h q. clash (mem-here i x post q) (a .apart i h) in
+    record {
+      not-earlier = ⊎-elim (λ h. absurd (other x h refl)) (λ h. h) (decide (mem x pre));
+      not-later = f .new;
+      earlier = a .first;
+      later = f .later;
+      apart = λ i h. sym (mem-later i x post (other i h)) ∙ a .apart i h;
+    }
+
+-- where x first stands, counted from 0; the list's length where it does not
+unfoldable pub place : ℕ → List ℕ → ℕ
+place x [] = 0
+place x (y ∷ l) = cond (eqb x y) 0 (suc (place x l))
+
+pub place-here : (x y : ℕ) (l : List ℕ) → x ≡ y → place x (y ∷ l) ≡ 0
+unfolding place
+place-here x y l q = rw (eq-eqb x y q)
+
+pub place-later : (x y : ℕ) (l : List ℕ) → (x ≡ y → ⊥) → place x (y ∷ l) ≡ suc (place x l)
+unfolding place
+place-later x y l d = rw (ne-eqb x y d)
+
+-- whoever stands in a list has a place in it
+pub place-lt : (x : ℕ) (l : List ℕ) → mem x l ≡ true → place x l < length l
+place-lt x [] e = absurd (nobody x e)
+place-lt x (y ∷ l) e =
+    ⊎-elim (λ q. omega (arith, place-here x y l q))
+    (λ d.
+    let rest : place x l < length l = place-lt x l (mem-rest x y l e d) in
+    omega (arith, place-later x y l d))
+    (same-or-not x y)
+
+-- and nobody else has it
+pub place-at : (x : ℕ) (l : List ℕ) → mem x l ≡ true → getD l (place x l) 0 ≡ x
+place-at x [] e = absurd (nobody x e)
+place-at x (y ∷ l) e =
+    ⊎-elim (λ q. rw (place-here x y l q) (sym q))
+    (λ d. rw (place-later x y l d) (place-at x l (mem-rest x y l e d))) (same-or-not x y)
+
+pub place-injective :
+    (x y : ℕ) (l : List ℕ) → mem x l ≡ true → mem y l ≡ true → place x l ≡ place y l → x ≡ y
+place-injective x y l e f q = sym (place-at x l e) ∙ ap (λ k. getD l k 0) q ∙ place-at y l f
+
+-- the place in one list after another
+pub place-first : (x : ℕ) (l m : List ℕ) → mem x l ≡ true → place x (l ++ m) ≡ place x l
+place-first x [] m e = absurd (nobody x e)
+place-first x (y ∷ l) m e =
+    ⊎-elim (λ q. rw (place-here x y (l ++ m) q, place-here x y l q))
+    (λ d.
+    rw (place-later x y (l ++ m) d, place-later x y l d)
+    (ap suc (place-first x l m (mem-rest x y l e d))))
+    (same-or-not x y)
+
+pub place-second : (x : ℕ) (l m : List ℕ) → mem x l ≡ false → place x (l ++ m) ≡ length l + place x m
+place-second x [] m e = omega arith
+place-second x (y ∷ l) m e =
+    let out = mem-out x y l e in
+    let rest : place x (l ++ m) ≡ length l + place x m = place-second x l m (out .1) in
+    omega (arith, place-later x y (l ++ m) (out .0))
+
+-- the place where a list is taken apart
+pub place-split :
+    (x : ℕ) (pre post : List ℕ) → mem x pre ≡ false → place x (pre ++ x ∷ post) ≡ length pre
+place-split x pre post e = omega (arith, place-second x pre (x ∷ post) e, place-here x x post refl)
+
+-- f over the entries of a list
+unfoldable pub sumOver : (ℕ → ℕ) → List ℕ → ℕ
+sumOver f [] = 0
+sumOver f (x ∷ l) = f x + sumOver f l
+
+-- a sum along a list with no entry twice is the sum over the tasks in it
+pub sum-members :
+    (f : ℕ → ℕ) (n : ℕ) (l : List ℕ)
+    → every (λ i. within i n) l ≡ true
+    → distinct l ≡ true
+    → sumOver f l ≡ sumTo (λ i. only (mem i l) (f i)) n
+unfolding sumOver every
+sum-members f n [] inside once =
+    sym (sum-zero (λ i. only (mem i []) (f i)) n (λ i t. only-false (mem i []) (f i) (mem-none i)))
+sum-members f n (x ∷ l) inside once =
+    let both = and-eq-true-iff (within x n) (every (λ i. within i n) l) .0 inside in
+    let fresh = distinct-cons x l once in
+    let rest : sumOver f l ≡ sumTo (λ i. only (mem i l) (f i)) n = sum-members f n l (both .1) (fresh .later) in
+    let here : only (mem x (x ∷ l)) (f x) ≡ only (mem x l) (f x) + f x
+    = omega (arith, only-true (mem x (x ∷ l)) (f x) (mem-here x x l refl), only-false (mem x l) (f x) (fresh .new)) in
+    let all : sumTo (λ i. only (mem i (x ∷ l)) (f i)) n ≡ sumTo (λ i. only (mem i l) (f i)) n + f x
+    = sum-change (λ i. only (mem i l) (f i)) (λ i. only (mem i (x ∷ l)) (f i)) n x (f x) (within-task n x (both .0)) here
+    (λ i t d. ap (λ b. only b (f i)) (mem-later i x l d)) in
+    omega arith
+
+-- a sum of ones counts
+pub sum-length : (l : List ℕ) → sumOver (λ _. 1) l ≡ length l
+unfolding sumOver
+sum-length [] = refl
+sum-length (x ∷ l) = omega (arith, sum-length l)
+
+ones : (n : ℕ) → sumTo (λ _. 1) n ≡ n
+unfolding sumTo
+ones zero = refl
+ones (suc n) = omega (arith, ones n)
+
+-- a count that comes to n leaves no task out
+pub count-full : (test : ℕ → Bool) (n : ℕ) → countTo test n ≡ n → (i : ℕ) → Task n i → test i ≡ true
+unfolding countTo
+count-full test n full i t =
+    ⊎-elim (λ e. e)
+    (λ e.
+    let left-out : sumTo (λ k. only (test k) 1 + only (not (test k)) 1) n
+    ≡ sumTo (λ k. only (test k) 1) n + sumTo (λ k. only (not (test k)) 1) n
+    = sum-add (λ k. only (test k) 1) (λ k. only (not (test k)) 1) n in
+    let all : sumTo (λ k. only (test k) 1 + only (not (test k)) 1) n ≡ n
+    = sum-cong (λ k. only (test k) 1 + only (not (test k)) 1) (λ _. 1) n (λ k _. one (test k)) ∙ ones n in
+    let here : only (not (test i)) 1 ≡ 1 = only-true (not (test i)) 1 (ap not e) in
+    absurd (omega (arith, term-le (λ k. only (not (test k)) 1) n i t)))
+    (decide (test i))
+  where
+    one : (b : Bool) → only b 1 + only (not b) 1 ≡ 1
+    one true = refl
+    one false = refl
+
+-- the pigeonhole: n entries in the limits with none twice are all the tasks
+pub all-in :
+    (n : ℕ) (l : List ℕ)
+    → every (λ i. within i n) l ≡ true
+    → distinct l ≡ true
+    → length l ≡ n
+    → (i : ℕ)
+    → Task n i
+    → mem i l ≡ true
+unfolding countTo
+all-in n l inside once whole =
+    count-full (λ i. mem i l) n (sym (sum-members (λ _. 1) n l inside once) ∙ sum-length l ∙ whole)
+
+-- a sum along such a list is the sum over the tasks
+pub sum-along :
+    (f : ℕ → ℕ) (n : ℕ) (l : List ℕ)
+    → every (λ i. within i n) l ≡ true
+    → distinct l ≡ true
+    → length l ≡ n
+    → sumOver f l ≡ sumTo f n
+sum-along f n l inside once whole =
+    sum-members f n l inside once
+    ∙ sum-cong (λ i. only (mem i l) (f i)) f n (λ i t. only-true (mem i l) (f i) (all-in n l inside once whole i t))
+
+-- x stands before its parent
+pub record Rises (par : ℕ → ℕ) (x : ℕ) (l : List ℕ) : Type 0 where
+  pub member : mem (par x) l ≡ true
+  pub rises : place x l < place (par x) l
+
+-- in an order in which each task stands before its parent, places rise towards the root
+pub ordered-rises :
+    (par : ℕ → ℕ) (l : List ℕ) (x : ℕ)
+    → ordered par l ≡ true
+    → distinct l ≡ true
+    → mem x l ≡ true
+    → (par x ≡ 0 → ⊥)
+    → Rises par x l
+unfolding ordered
+ordered-rises par [] x order once e child = absurd (nobody x e)
+ordered-rises par (y ∷ l) x order once e child =
+    let both = and-eq-true-iff (eqb (par y) 0 || mem (par y) l) (ordered par l) .0 order in
+    let fresh = distinct-cons y l once in
+    ⊎-elim
+    (λ q.
+    let parent : mem (par x) l ≡ true
+    = sym (ap (λ t. t || mem (par x) l) (ne-eqb (par x) 0 child))
+    ∙ ap (λ t. eqb (par t) 0 || mem (par t) l) q
+    ∙ both .0 in
+    let other : par x ≡ y → ⊥ = mem-other (par x) y l parent (fresh .new) in
+    record {
+      member = mem-later (par x) y l other ∙ parent;
+      rises = omega (arith, place-here x y l q, place-later (par x) y l other);
+    })
+    (λ d.
+    let r = ordered-rises par l x (both .1) (fresh .later) (mem-rest x y l e d) child in
+    let other : par x ≡ y → ⊥ = mem-other (par x) y l (r .member) (fresh .new) in
+    record {
+      member = mem-later (par x) y l other ∙ r .member;
+      rises = omega (arith, r .rises, place-later x y l d, place-later (par x) y l other);
+    })
+    (same-or-not x y)

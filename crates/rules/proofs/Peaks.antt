@@ -1,0 +1,162 @@
+-- Laws of the peak: each sum is at most the peak, and the running level that gives the sums one after the other.
+use mathlib.Core.Path.{_≡_, refl, sym, ap, ap₂, _∙_}
+use mathlib.Core.Bool.{Bool, not, _&&_, _||_, and-false}
+use mathlib.Core.List.{List, [], _∷_, _++_, append-nil}
+use mathlib.Core.Logic.{⊎-elim}
+use Prim.Native.Nat.{ℕ, _+_, _-_, _≤_, max}
+use native.Mathlib.Omega.{arith}
+use lib.Dec.{eqb}
+use borrow.Author.Tests.{eq-eqb, ne-eqb}
+use Rattle.rules.specs.Sums.{only, sumTo}
+use Rattle.rules.specs.Lists.{mem, largest}
+use Rattle.rules.specs.Need.{childrenOut, need, resident}
+use Rattle.rules.specs.Peak.{sums, peak}
+use Rattle.rules.proofs.Tests.{same-or-not}
+use Rattle.rules.proofs.Sums.{Task, sum-cong, sum-le, sum-add, sum-zero, sum-change, only-le}
+use Rattle.rules.proofs.Orders.{mem-here, mem-later, mem-among}
+use Rattle.rules.proofs.Turns.{Valid, Left, Turn, left-split, left-next, left-turn}
+
+-- what one task has in the store
+abbrev lying : (par out : ℕ → ℕ) (ended begun : ℕ → Bool) → ℕ → ℕ
+lying par out ended begun i = only (ended i && not (eqb (par i) 0) && not (begun (par i))) (out i)
+
+-- what is resident goes by which tasks have ended and which parents have begun
+pub resident-cong :
+    (n : ℕ) (par out : ℕ → ℕ) (ended ended′ begun begun′ : ℕ → Bool)
+    → ((i : ℕ) → Task n i → ended i ≡ ended′ i)
+    → ((i : ℕ) → Task n i → (par i ≡ 0 → ⊥) → begun (par i) ≡ begun′ (par i))
+    → resident n par out ended begun ≡ resident n par out ended′ begun′
+unfolding resident
+resident-cong n par out ended ended′ begun begun′ e b =
+    sum-cong (lying par out ended begun) (lying par out ended′ begun′) n
+    (λ i t.
+    ⊎-elim (λ z. rw (e i t, eq-eqb (par i) 0 z, and-false (ended′ i))) (λ d. rw (e i t, b i t d)) (same-or-not (par i) 0))
+
+-- no more is resident than the outs of all tasks
+pub resident-le :
+    (n : ℕ) (par out : ℕ → ℕ) (ended begun : ℕ → Bool) → resident n par out ended begun ≤ sumTo out n
+unfolding resident
+resident-le n par out ended begun =
+    sum-le (lying par out ended begun) out n
+    (λ i _. only-le (ended i && not (eqb (par i) 0) && not (begun (par i))) (out i))
+
+-- the sum at x, where those of `ended` have run
+abbrev pub sumAt : (n : ℕ) (par work out : ℕ → ℕ) → List ℕ → ℕ → ℕ
+sumAt n par work out ended x =
+    need n par work out x + resident n par out (λ i. mem i ended) (λ i. mem i (x ∷ ended))
+
+-- each sum is at most the largest
+sum-le-largest :
+    (n : ℕ) (par work out : ℕ → ℕ) (ended pre : List ℕ) (x : ℕ) (post : List ℕ)
+    → sumAt n par work out (pre ++ ended) x ≤ largest (sums n par work out ended (pre ++ x ∷ post))
+unfolding mem largest sums
+sum-le-largest n par work out ended [] x post = omega arith
+sum-le-largest n par work out ended (y ∷ pre) x post =
+    let later : sumAt n par work out (pre ++ y ∷ ended) x ≤ largest (sums n par work out (y ∷ ended) (pre ++ x ∷ post))
+    = sum-le-largest n par work out (y ∷ ended) pre x post in
+    let same : resident n par out (λ i. mem i (pre ++ y ∷ ended)) (λ i. mem i (x ∷ pre ++ y ∷ ended))
+    ≡ resident n par out (λ i. mem i (y ∷ pre ++ ended)) (λ i. mem i (x ∷ y ∷ pre ++ ended))
+    = resident-cong n par out (λ i. mem i (pre ++ y ∷ ended)) (λ i. mem i (y ∷ pre ++ ended))
+    (λ i. mem i (x ∷ pre ++ y ∷ ended)) (λ i. mem i (x ∷ y ∷ pre ++ ended)) (λ i _. mem-among i y pre ended)
+    (λ i _ _. ap (λ t. eqb (par i) x || t) (mem-among (par i) y pre ended)) in
+    omega arith
+
+-- each sum is at most the peak
+pub sum-le-peak :
+    (n : ℕ) (par work out : ℕ → ℕ) (order pre : List ℕ) (x : ℕ) (post : List ℕ)
+    → order ≡ pre ++ x ∷ post
+    → sumAt n par work out pre x ≤ peak n par work out order
+unfolding peak
+sum-le-peak n par work out order pre x post e =
+    rw e (rw (append-nil pre) at (sum-le-largest n par work out [] pre x post))
+
+-- what lies in the store between two turns, where those of `ended` have run
+unfoldable pub level : (n : ℕ) (par out : ℕ → ℕ) → List ℕ → ℕ
+level n par out ended = resident n par out (λ i. mem i ended) (λ i. mem i ended)
+
+-- what x leaves there when it ends: nothing where it is the root
+unfoldable pub kept : (par out : ℕ → ℕ) → ℕ → ℕ
+kept par out x = only (not (eqb (par x) 0)) (out x)
+
+-- nothing at first
+pub level-first : (n : ℕ) (par out : ℕ → ℕ) → level n par out [] ≡ 0
+unfolding level resident mem
+level-first n par out = sum-zero (lying par out (λ i. mem i []) (λ i. mem i [])) n (λ i _. refl)
+
+-- at the turn of x the outs of its children leave the level
+children-leave :
+    (n : ℕ) (par out : ℕ → ℕ) (ended : List ℕ) (x : ℕ)
+    → Turn n par ended x
+    → childrenOut n par out x + resident n par out (λ i. mem i ended) (λ i. mem i (x ∷ ended)) ≡ level n par out ended
+unfolding childrenOut resident level
+children-leave n par out ended x turn =
+    sym (sum-add (λ c. only (eqb (par c) x) (out c)) (lying par out (λ i. mem i ended) (λ i. mem i (x ∷ ended))) n)
+    ∙ sum-cong
+    (λ c. only (eqb (par c) x) (out c) + lying par out (λ i. mem i ended) (λ i. mem i (x ∷ ended)) c)
+    (lying par out (λ i. mem i ended) (λ i. mem i ended)) n
+    (λ c t.
+    ⊎-elim
+    (λ q.
+    rw (eq-eqb (par c) x q, turn .fed c t q, ne-eqb (par c) 0 (λ z. omega arith), mem-here (par c) x ended q, q, turn .new)
+    (omega arith))
+    (λ d. rw (ne-eqb (par c) x d, mem-later (par c) x ended d) (omega arith)) (same-or-not (par c) x))
+
+-- and its own out comes
+own-comes :
+    (n : ℕ) (par out : ℕ → ℕ) (ended : List ℕ) (x : ℕ)
+    → Turn n par ended x
+    → level n par out (x ∷ ended)
+    ≡ resident n par out (λ i. mem i ended) (λ i. mem i (x ∷ ended)) + kept par out x
+unfolding resident level kept
+own-comes n par out ended x turn =
+    sum-change (lying par out (λ i. mem i ended) (λ i. mem i (x ∷ ended)))
+    (lying par out (λ i. mem i (x ∷ ended)) (λ i. mem i (x ∷ ended))) n x (only (not (eqb (par x) 0)) (out x)) (turn .task)
+    (⊎-elim (λ z. rw (mem-here x x ended refl, turn .new, eq-eqb (par x) 0 z))
+    (λ d. rw (mem-here x x ended refl, turn .new, turn .upward d, ne-eqb (par x) 0 d) (omega arith)) (same-or-not (par x) 0))
+    (λ i _ d. rw (mem-later i x ended d))
+
+-- at the turn of x the store holds the level, its work and its out
+pub turn-sum :
+    (n : ℕ) (par work out : ℕ → ℕ) (ended : List ℕ) (x : ℕ)
+    → Turn n par ended x
+    → sumAt n par work out ended x ≡ level n par out ended + work x + out x
+unfolding need
+turn-sum n par work out ended x turn = omega (arith, children-leave n par out ended x turn)
+
+-- after the turn of x the level has lost the outs of its children, and has what x leaves
+pub turn-level :
+    (n : ℕ) (par out : ℕ → ℕ) (ended : List ℕ) (x : ℕ)
+    → Turn n par ended x
+    → level n par out (x ∷ ended) + childrenOut n par out x ≡ level n par out ended + kept par out x
+turn-level n par out ended x turn =
+    omega (arith, children-leave n par out ended x turn, own-comes n par out ended x turn)
+
+-- the largest of the sums along an order, from a level on
+unfoldable pub running : (n : ℕ) (par work out : ℕ → ℕ) → ℕ → List ℕ → ℕ
+running n par work out h [] = 0
+running n par work out h (x ∷ later) =
+    max (h + work x + out x) (running n par work out (h + kept par out x - childrenOut n par out x) later)
+
+running-is :
+    (n : ℕ) (par work out : ℕ → ℕ) (ended later : List ℕ)
+    → Left n par ended later
+    → largest (sums n par work out ended later) ≡ running n par work out (level n par out ended) later
+unfolding largest sums running
+running-is n par work out ended [] r = refl
+running-is n par work out ended (x ∷ later) r =
+    let turn = left-turn n par ended x later r in
+    let after : level n par out (x ∷ ended) ≡ level n par out ended + kept par out x - childrenOut n par out x
+    = omega (arith, turn-level n par out ended x turn) in
+    ap₂ max (turn-sum n par work out ended x turn)
+    (running-is n par work out (x ∷ ended) later (left-next n par ended x later r)
+    ∙ ap (λ h. running n par work out h later) after)
+
+-- the peak of a valid order, by the level that runs along it
+pub peak-running :
+    (n : ℕ) (par work out : ℕ → ℕ) (order : List ℕ)
+    → Valid n par order
+    → peak n par work out order ≡ running n par work out 0 order
+unfolding peak
+peak-running n par work out order v =
+    running-is n par work out [] order (left-split n par [] order v)
+    ∙ ap (λ h. running n par work out h order) (level-first n par out)
