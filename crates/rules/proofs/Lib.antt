@@ -8,6 +8,8 @@ pub mod Sums
 pub mod Orders
 pub mod Turns
 pub mod Peaks
+pub mod Ranks
+pub mod Branches
 -- the tree and the books, over functions and for one store
 pub mod Tree
 pub mod Children
