@@ -21,3 +21,6 @@ pub mod Climbing
 pub mod Finishing
 pub mod Usage
 pub mod Progress
+-- the parts of a command, over lists
+pub mod Good
+pub mod Ahead
