@@ -33,13 +33,13 @@ module _ (n : ℕ) (par need : ℕ → ℕ) (bound : ℕ) (i : ℕ) (later : Lis
 
 module _ (n : ℕ) (par : ℕ → ℕ) (execution : List ℕ) (free : ℕ) (st : List ℕ) where
   -- starting stops where nobody is ready, and starts the first that is
-  pub starts-none : first (ready n par execution st) execution ≡ 0 → starts n par execution (suc free) st ≡ []
+  pub starts-none : first (ready n par st) execution ≡ 0 → starts n par execution (suc free) st ≡ []
   unfolding starts
   starts-none e = rw (e, starts)
 
   pub starts-one :
       (i : ℕ)
-      → first (ready n par execution st) execution ≡ suc i
+      → first (ready n par st) execution ≡ suc i
       → starts n par execution (suc free) st ≡ suc i ∷ starts n par execution free (set st (suc i) running)
   unfolding starts
   starts-one i e = rw (e, starts)
@@ -56,7 +56,7 @@ module _ (n : ℕ) (par need st : ℕ → ℕ) (i : ℕ) (above : List ℕ) (r :
       (eqb (st i) waiting || eqb r 0) ≡ false
       → climb n par need st (i ∷ above) r b
       ≡ offer i
-      (climb n par need st above (r - gift n par need st b i) (set b i (at b i + gift n par need st b i)))
+      (climb n par need st above (r - gift n par need b i) (set b i (at b i + gift n par need b i)))
   unfolding climb
   climb-offer e = rw (e, climb)
 

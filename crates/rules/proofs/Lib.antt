@@ -24,3 +24,4 @@ pub mod Progress
 -- the parts of a command, over lists
 pub mod Good
 pub mod Ahead
+pub mod Starts
