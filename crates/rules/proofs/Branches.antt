@@ -7,7 +7,7 @@ use lib.Dec.{eqb}
 use lib.ListN.{set}
 use Rattle.rules.specs.Lists.{at, mem, first}
 use Rattle.rules.specs.Standing.{waiting, running}
-use Rattle.rules.specs.Booking.{Books, Climbed, allows, book, activate, ready, starts, offer, gift, climb}
+use Rattle.rules.specs.Booking.{Books, Climbed, allows, book, activate, ready, starts, chain, offer, gift, climb, dispatch}
 
 module _ (n : ℕ) (par need : ℕ → ℕ) (bound : ℕ) (i : ℕ) (later : List ℕ) (s : Books) where
   -- booking ahead passes a task that does not wait, books one that is allowed, and stops at one that is not
@@ -69,3 +69,19 @@ module _ (test : ℕ → Bool) (x : ℕ) (later : List ℕ) where
   pub first-later : test x ≡ false → first test (x ∷ later) ≡ first test later
   unfolding first
   first-later e = rw (e, first)
+
+-- the booked trays of an ended task, with and without a parent
+module _ (n : ℕ) (par need st out : ℕ → ℕ) (b : List ℕ) (j : ℕ) where
+  pub dispatch-root :
+      eqb (par j) 0 ≡ true
+      → dispatch n par need st out b j ≡ record { offered = []; left = at b j; booked = set b j 0 }
+  unfolding dispatch climb
+  dispatch-root e = rw (e, dispatch)
+
+  pub dispatch-child :
+      eqb (par j) 0 ≡ false
+      → dispatch n par need st out b j
+      ≡ climb n par need st (chain n par (par j)) (at b j - out j)
+      (set (set b j 0) (par j) (at (set b j 0) (par j) + out j))
+  unfolding dispatch
+  dispatch-child e = rw (e, dispatch)

@@ -25,3 +25,4 @@ pub mod Progress
 pub mod Good
 pub mod Ahead
 pub mod Starts
+pub mod Sharing
