@@ -2,6 +2,9 @@
 -- the paper's examples
 pub mod Computing
 pub mod Marked
+-- the byte format
+pub mod Number
+pub mod Bytes
 -- sums, lists and orders
 pub mod Tests
 pub mod Sums

@@ -30,23 +30,23 @@ usedBy s happened =
 pub record DayHolds (s : State) (happened : List Event) : Type 0 where
   -- "no step has started twice"
   pub once :
-    (earlier later : List Event) (i : ℕ) → happened ≡ earlier ++ started i ∷ later → mem i (starts earlier) ≡ false
+      (earlier later : List Event) (i : ℕ) → happened ≡ earlier ++ started i ∷ later → mem i (starts earlier) ≡ false
   -- "or before all that feed it ended"
   pub fed :
-    (earlier later : List Event) (i : ℕ)
-    → happened ≡ earlier ++ started i ∷ later
-    → (c : ℕ)
-    → Task (s .size) c
-    → at (s .parents) c ≡ i
-    → mem c (ends earlier) ≡ true
+      (earlier later : List Event) (i : ℕ)
+      → happened ≡ earlier ++ started i ∷ later
+      → (c : ℕ)
+      → Task (s .size) c
+      → at (s .parents) c ≡ i
+      → mem c (ends earlier) ≡ true
   -- "some step is running exactly while fewer than n of the day's reports were accepted"
   pub going : ((i : ℕ) × Task (s .size) i × (runs happened i ≡ true)) ↔ (length (ends happened) < s .size)
   -- "at the n-th each has started and ended"; the phase is over then and only then
   pub complete :
-    length (ends happened) ≡ s .size
-    → (i : ℕ)
-    → Task (s .size) i
-    → (mem i (starts happened) ≡ true) × (mem i (ends happened) ≡ true)
+      length (ends happened) ≡ s .size
+      → (i : ℕ)
+      → Task (s .size) i
+      → (mem i (starts happened) ≡ true) × (mem i (ends happened) ≡ true)
   pub over : (s .phase ≡ Phase.over) ↔ (length (ends happened) ≡ s .size)
   -- what the plan answers for trays in use is what the starts and ends give
   pub used : Question.inUse s ≡ usedBy s happened
