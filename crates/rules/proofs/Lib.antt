@@ -29,3 +29,5 @@ pub mod Good
 pub mod Ahead
 pub mod Starts
 pub mod Sharing
+-- the list of commands
+pub mod Log

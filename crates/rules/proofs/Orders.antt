@@ -348,3 +348,15 @@ ordered-rises par (y ∷ l) x order once e child =
       rises = omega (arith, r .rises, place-later x y l d, place-later (par x) y l other);
     })
     (same-or-not x y)
+
+-- one entry more, which is new
+pub distinct-snoc : (l : List ℕ) (x : ℕ) → distinct l ≡ true → mem x l ≡ false → distinct (l ++ (x ∷ [])) ≡ true
+unfolding distinct
+distinct-snoc [] x e new = rw (mem-none x)
+distinct-snoc (y ∷ l) x e new =
+    let fresh = distinct-cons y l e in
+    let out = mem-out x y l new in
+    let y-not : mem y (l ++ (x ∷ [])) ≡ false
+    = mem-append y l (x ∷ [])
+    ∙ rw (fresh .new) (mem-later y x [] (λ q. out .0 (sym q)) ∙ mem-none y) in
+    rw (y-not, distinct-snoc l x (fresh .later) (out .1))
