@@ -31,3 +31,4 @@ pub mod Starts
 pub mod Sharing
 -- the list of commands
 pub mod Log
+pub mod Formed
