@@ -32,3 +32,4 @@ pub mod Sharing
 -- the list of commands
 pub mod Log
 pub mod Formed
+pub mod Course

@@ -1,7 +1,7 @@
 -- Starting: each task of the list is booked and fed when it starts, and starting stops when no processor is free or nobody is ready.
 use mathlib.Core.Path.{_≡_, refl, sym, ap, _∙_}
 use mathlib.Core.Bool.{Bool, true, false, not, _&&_}
-use mathlib.Core.Logic.{⊎-elim}
+use mathlib.Core.Logic.{_⊎_, inl, inr, ⊎-elim}
 use mathlib.Core.List.{List, [], _∷_}
 use Prim.Native.Nat.{ℕ, zero, suc, _+_, _≤_, _<_}
 use native.Mathlib.Omega.{arith}
@@ -254,3 +254,24 @@ module _ (n : ℕ) (par : ℕ → ℕ) where
             (good .books);
         within = good .within;
       })
+
+-- who is started was booked, and all others stay as they were
+pub start-kind :
+    (n : ℕ) (par : ℕ → ℕ) (l st : List ℕ)
+    → length st ≡ suc n
+    → Startable n par st l
+    → (i : ℕ)
+    → (at (start l st) i ≡ at st i) ⊎ ((at st i ≡ activated) × (at (start l st) i ≡ running))
+unfolding start Startable
+start-kind n par [] st e s i = inl refl
+start-kind n par (x ∷ l) st e s i =
+    let later = start-kind n par l (set st x running) (length-set st x running ∙ e) (s .3) i in
+    ⊎-elim
+    (λ q.
+    let was : at st i ≡ activated = ap (at st) q ∙ s .1 in
+    let then : at (set st x running) i ≡ running = ap (at (set st x running)) q ∙ at-set n st x running e (s .0) in
+    inr (was, ⊎-elim (λ k. k ∙ then) (λ k. k .1) later))
+    (λ d.
+    let same = at-other st x running i d in
+    ⊎-elim (λ k. inl (k ∙ same)) (λ k. inr (sym same ∙ k .0, k .1)) later)
+    (same-or-not i x)
