@@ -84,7 +84,7 @@ new-entry : (x : ℕ) (l : List ℕ) → demand (not (mem x l)) 5 0 ≡ 0 → me
 new-entry x l e = not-true (mem x l) (demand-none (not (mem x l)) 5 0 (λ q. omega arith) e .0)
 
 -- the day does not touch the plan
-with-books-formed : (s : State) (phase : ℕ) (st b : List ℕ) → 1 ≤ s .processors → Formed s → Formed (withBooks s phase st b)
+pub with-books-formed : (s : State) (phase : ℕ) (st b : List ℕ) → 1 ≤ s .processors → Formed s → Formed (withBooks s phase st b)
 unfolding withBooks
 with-books-formed s phase st b p h =
     record {

@@ -24,6 +24,7 @@ pub mod Climbing
 pub mod Finishing
 pub mod Usage
 pub mod Progress
+pub mod Roots
 -- the parts of a command, over lists
 pub mod Good
 pub mod Ahead
@@ -33,3 +34,6 @@ pub mod Sharing
 pub mod Log
 pub mod Formed
 pub mod Course
+pub mod InDay
+pub mod Opening
+pub mod Reporting
