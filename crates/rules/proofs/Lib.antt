@@ -28,6 +28,7 @@ pub mod Roots
 -- the parts of a command, over lists
 pub mod Good
 pub mod Ahead
+pub mod Waiting
 pub mod Starts
 pub mod Sharing
 -- the list of commands
