@@ -38,3 +38,4 @@ pub mod Course
 pub mod InDay
 pub mod Opening
 pub mod Reporting
+pub mod Holds

@@ -169,3 +169,17 @@ counted test n h = let k = sum-positive (λ i. only (test i) 1) n h in (k .0, k 
         go : (test i ≡ true) ⊎ (test i ≡ false) → test i ≡ true
         go (inl e) = e
         go (inr e) = absurd (omega (arith, only-false (test i) 1 e))
+
+-- no more than n are counted, and all n where all pass
+pub count-le : (test : ℕ → Bool) (n : ℕ) → countTo test n ≤ n
+unfolding countTo sumTo
+count-le test zero = omega arith
+count-le test (suc n) = let k = count-le test n in let o = only-le (test (suc n)) 1 in omega arith
+
+pub count-all : (test : ℕ → Bool) (n : ℕ) → ((i : ℕ) → Task n i → test i ≡ true) → countTo test n ≡ n
+unfolding countTo sumTo
+count-all test zero h = refl
+count-all test (suc n) h =
+    let k = count-all test n (λ i t. h i (omega arith)) in
+    let o = only-true (test (suc n)) 1 (h (suc n) (omega arith)) in
+    omega arith
