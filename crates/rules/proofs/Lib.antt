@@ -39,3 +39,4 @@ pub mod InDay
 pub mod Opening
 pub mod Reporting
 pub mod Holds
+pub mod Steps
