@@ -40,3 +40,4 @@ pub mod Opening
 pub mod Reporting
 pub mod Holds
 pub mod Steps
+pub mod Theorem
