@@ -1,0 +1,2 @@
+-- What the code keeps, and what it means.
+pub mod Kept
