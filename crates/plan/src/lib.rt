@@ -1,1 +1,3 @@
-// The plan: commands in, answers out.
+// The plan of a kitchen's day: commands in, answers out.
+mod numbers;
+pub mod plan;
