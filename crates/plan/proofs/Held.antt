@@ -265,3 +265,19 @@ module _ (n : ℕ) (par rank : ℕ → ℕ) (tree : Tree n par rank) where
       omega arith))
       in
       omega arith
+
+  -- nobody counts itself among its children
+  pub held-with-own :
+      (st b : ℕ → ℕ) (i r : ℕ) → Task n i → heldWith n par st b i r i ≡ held n par st b i
+  held-with-own st b i r t =
+      held-with-is n par st b i r i
+      ∙ ap (λ (v : ℕ). b i + v)
+      (children-cong n par (λ c. counts st c (figure n par b c + only (up n par c i) r)) (λ c. counts st c (figure n par b c)) i
+      (λ c w e.
+      ap (counts st c)
+      (let off : up n par c i ≡ false =
+      ap (up n par c) (sym e) ∙ not-above-itself n par rank tree c w
+      in
+      let none = only-false (up n par c i) r off in
+      omega arith)))
+      ∙ sym (held-is n par st b i)
