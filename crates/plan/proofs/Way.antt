@@ -15,13 +15,13 @@ use Rattle.rules.specs.Standing.{waiting, activated}
 use Rattle.rules.specs.Booking.{Climbed, chain, figure, total, offer, gift, climb}
 use Rattle.rules.proofs.Tests.{same-or-not, or-left, or-right}
 use Rattle.rules.proofs.Sums.{sum-le, term-le, only-le, only-true, only-false}
-use Rattle.rules.proofs.Tree.{Tree, up, up-self, up-step, chain-none, chain-step}
+use Rattle.rules.proofs.Tree.{Tree, up, up-self, up-step, chain-none, chain-more, chain-step}
 use Rattle.rules.proofs.Shape.{Shape, child-not-waiting}
 use Rattle.rules.proofs.Balance.{Active, Balance}
 use Rattle.rules.proofs.Climbing.{gift-within, offer-balance, offer-total}
 use Rattle.rules.proofs.Branches.{climb-stop, climb-offer}
 use Rattle.plan.specs.Kept.{front, held, heldWith}
-use Rattle.plan.specs.Climb.{Carrying}
+use Rattle.plan.specs.Climb.{Carrying, DidClimb}
 use Rattle.plan.proofs.Front.{at-front, front-set, figure-front}
 use Rattle.plan.proofs.Held.{held-figure, held-with-nothing, held-with-own, held-offered, held-past-root, held-at-waiting}
 
@@ -30,73 +30,80 @@ pub figure-le-total : (n : ℕ) (par b : ℕ → ℕ) (i : ℕ) → figure n par
 unfolding figure total
 figure-le-total n par b i = sum-le (λ k. only (up n par i k) (b k)) b n (λ k _. only-le (up n par i k) (b k))
 
--- a climb that has ended
-pub record Ends (n : ℕ) (par need st : ℕ → ℕ) (goal : Climbed) (booked figures : List ℕ) (offers left : ℕ) : Type 0 where
-  pub books : front n booked ≡ goal .booked
-  pub offered : offers ≡ length (goal .offered)
-  pub rest : left ≡ goal .left
-  pub figured : (a : ℕ) → Task n a → at figures a ≡ held n par st (at booked) a
-
 -- between two turns: i is the next task, `left` goes up from x below it, and what is still to come is the climb from i on
-pub record Way (n : ℕ) (par need st : ℕ → ℕ) (goal : Climbed) (booked figures : List ℕ) (i left offers : ℕ) : Type 0 where
+pub record Way (n : ℕ) (par need st : ℕ → ℕ) (goal : Climbed) (booked₀ booked figures : List ℕ) (i left offers : ℕ) : Type 0 where
   pub x : ℕ
   pub parent : par x ≡ i
   pub carrying : Carrying n par need st (at booked) (at figures) x left
+  pub small : n ≤ 1024
+  pub inside : i ≤ n
   pub booked-size : length booked ≡ 1025
   pub figures-size : length figures ≡ 1025
   pub books : goal .booked ≡ climb n par need st (chain n par i) left (front n booked) .booked
   pub rest : goal .left ≡ climb n par need st (chain n par i) left (front n booked) .left
   pub offered : length (goal .offered) ≡ offers + length (climb n par need st (chain n par i) left (front n booked) .offered)
+  -- entries past the tasks stay
+  pub past : (a : ℕ) → n < a → at booked a ≡ at booked₀ a
+  -- no more offers than tasks
+  pub steps : offers + length (chain n par i) ≤ n
+
+-- a chain is no longer than it may be
+chain-length : (m : ℕ) (par : ℕ → ℕ) (i : ℕ) → length (chain m par i) ≤ m
+unfolding chain
+chain-length zero par i = omega arith
+chain-length (suc m) par i =
+    ⊎-elim (λ (e : i ≡ 0). rw e (omega arith))
+    (λ d. let h = chain-length m par (par i) in let e = ap length (chain-more m par i d) in omega arith) (same-or-not i 0)
 
 pub way-first :
     (n : ℕ) (par need st : ℕ → ℕ) (booked figures : List ℕ) (x r : ℕ)
     → Carrying n par need st (at booked) (at figures) x r
     → length booked ≡ 1025
     → length figures ≡ 1025
-    → Way n par need st (climb n par need st (chain n par (par x)) r (front n booked)) booked figures (par x) r 0
+    → Way n par need st (climb n par need st (chain n par (par x)) r (front n booked)) booked booked figures (par x) r 0
 way-first n par need st booked figures x r c p q =
     record {
       x = x;
       parent = refl;
       carrying = c;
+      small = c .small;
+      inside = c .tree .within x (c .task);
       booked-size = p;
       figures-size = q;
       books = refl;
       rest = refl;
       offered = omega arith;
+      past = λ _ _. refl;
+      steps = (let h = chain-length n par (par x) in omega arith);
     }
 
-module _ (n : ℕ) (par need st : ℕ → ℕ) (goal : Climbed) (booked figures : List ℕ) (i left offers : ℕ)
-    (way : Way n par need st goal booked figures i left offers) where
-  -- the next task is in the limits
-  pub inside : i ≤ n
-  inside =
-      let c = way .carrying in
-      let w = c .tree .within (way .x) (c .task) in
-      let p = way .parent in
-      omega arith
-
+module _ {n : ℕ} {par need st : ℕ → ℕ} {goal : Climbed} {booked₀ booked figures : List ℕ} {i left offers : ℕ}
+    (way : Way n par need st goal booked₀ booked figures i left offers) where
   -- nothing is left to climb: the books are the goal's
   ends-here :
       climb n par need st (chain n par i) left (front n booked) ≡ record { offered = []; left = left; booked = front n booked }
       → (figures′ : List ℕ)
+      → length figures′ ≡ 1025
       → ((a : ℕ) → Task n a → at figures′ a ≡ held n par st (at booked) a)
-      → Ends n par need st goal booked figures′ offers left
-  ends-here e figures′ figured =
+      → DidClimb n par st goal booked₀ booked figures′ offers left
+  ends-here e figures′ size figured =
       record {
+        booked-size = way .booked-size;
+        figures-size = size;
         books = sym (way .books ∙ ap (λ (c : Climbed). c .booked) e);
         offered = (let o = way .offered ∙ ap (λ (c : Climbed). offers + length (c .offered)) e in omega arith);
         rest = sym (way .rest ∙ ap (λ (c : Climbed). c .left) e);
         figured = figured;
+        past = way .past;
       }
 
   -- past the root
-  pub way-root : i ≡ 0 → Ends n par need st goal booked figures offers left
+  pub way-root : i ≡ 0 → DidClimb n par st goal booked₀ booked figures offers left
   unfolding climb
   way-root z =
       let c = way .carrying in
       ends-here
-      (ap (λ (l : List ℕ). climb n par need st l left (front n booked)) (ap (chain n par) z ∙ chain-none n par)) figures
+      (ap (λ (l : List ℕ). climb n par need st l left (front n booked)) (ap (chain n par) z ∙ chain-none n par)) figures (way .figures-size)
       (λ a t.
       c .figured a t
       ∙ held-past-root n par (c .rank) (c .tree) st (at booked) (way .x) left a (c .task) (way .parent ∙ z) t)
@@ -111,10 +118,10 @@ module _ (n : ℕ) (par need st : ℕ → ℕ) (goal : Climbed) (booked figures 
   stops (k ∷ above) h = climb-stop n par need st k above left (front n booked) (h k)
 
   -- nothing is left
-  pub way-nothing : left ≡ 0 → Ends n par need st goal booked figures offers left
+  pub way-nothing : left ≡ 0 → DidClimb n par st goal booked₀ booked figures offers left
   way-nothing z =
       let c = way .carrying in
-      ends-here (stops (chain n par i) (λ k. or-right (eqb (st k) waiting) (eqb left 0) (eq-eqb left 0 z))) figures
+      ends-here (stops (chain n par i) (λ k. or-right (eqb (st k) waiting) (eqb left 0) (eq-eqb left 0 z))) figures (way .figures-size)
       (λ a t.
       c .figured a t
       ∙ ap (λ (r : ℕ). heldWith n par st (at booked) (way .x) r a) z
@@ -122,10 +129,17 @@ module _ (n : ℕ) (par need st : ℕ → ℕ) (goal : Climbed) (booked figures 
 
   module _ (higher : i ≡ 0 → ⊥) where
     task : Task n i
-    task = let h = inside in omega arith
+    task = let h = way .inside in omega arith
 
     path : chain n par i ≡ i ∷ chain n par (par i)
     path = chain-step n par (way .carrying .rank) (way .carrying .tree) i task
+
+    -- there is less to climb behind it
+    pub way-shorter : length (chain n par (par i)) < length (chain n par i)
+    way-shorter = let e = ap length path in omega arith
+
+    pub parent-fits : par i ≤ n
+    parent-fits = way .carrying .tree .within i task
 
     -- a waiting task
     module _ (waits : st i ≡ waiting) where
@@ -142,13 +156,13 @@ module _ (n : ℕ) (par need st : ℕ → ℕ) (goal : Climbed) (booked figures 
       pub waiting-room : left ≤ at figures i
       waiting-room = let h = at-waiting i task in let o = only-true (eqb i i) left (eq-eqb i i refl) in omega arith
 
-      pub way-waiting : Ends n par need st goal booked (set figures i (at figures i - left)) offers left
+      pub way-waiting : DidClimb n par st goal booked₀ booked (set figures i (at figures i - left)) offers left
       way-waiting =
           ends-here
           (ap (λ (l : List ℕ). climb n par need st l left (front n booked)) path
           ∙ climb-stop n par need st i (chain n par (par i)) left (front n booked)
           (or-left (eqb (st i) waiting) (eqb left 0) (eq-eqb (st i) waiting waits)))
-          (set figures i (at figures i - left))
+          (set figures i (at figures i - left)) (length-set figures i (at figures i - left) ∙ way .figures-size)
           (λ a t.
           let h = at-waiting a t in
           ⊎-elim
@@ -156,7 +170,7 @@ module _ (n : ℕ) (par need st : ℕ → ℕ) (goal : Climbed) (booked figures 
           let o = only-true (eqb i a) left (eq-eqb i a e) in
           let s : at (set figures i (at figures i - left)) a ≡ at figures i - left =
           ap (at (set figures i (at figures i - left))) (sym e)
-          ∙ getD-set-same figures i (at figures i - left) 0 (let z = way .figures-size in let m = inside in let k = way .carrying .small in omega arith)
+          ∙ getD-set-same figures i (at figures i - left) 0 (let z = way .figures-size in let m = way .inside in let k = way .carrying .small in omega arith)
           in
           let f : at figures i ≡ at figures a = ap (at figures) e in
           omega arith)
@@ -202,13 +216,16 @@ module _ (n : ℕ) (par need st : ℕ → ℕ) (goal : Climbed) (booked figures 
           let none = only-le (eqb (par (way .x)) i) 0 in
           omega arith
 
+      pub figure-room : left ≤ at figures i
+      figure-room = let k = figure-kept in omega arith
+
       -- it is given what it lacks of its need, within what goes up
       module _ (g : ℕ) (lacks : g ≡ need i - (at figures i - left)) where
         given : g ≡ need i - figure n par (at booked) i
         given = let k = figure-kept in omega arith
 
         in-list : i < 1025
-        in-list = let m = inside in let k = way .carrying .small in omega arith
+        in-list = let m = way .inside in let k = way .carrying .small in omega arith
 
         granted : at (set booked i (at booked i + g)) i ≡ at booked i + (need i - figure n par (at booked) i)
         granted =
@@ -311,12 +328,12 @@ module _ (n : ℕ) (par need st : ℕ → ℕ) (goal : Climbed) (booked figures 
             offer i (climb n par need st (chain n par (par i)) (left - v) (set (front n booked) i (at (front n booked) i + v))))
             gift-is
             ∙ ap (λ (l : List ℕ). offer i (climb n par need st (chain n par (par i)) (left - g) l))
-            (ap (λ (v : ℕ). set (front n booked) i (v + g)) (at-front n booked i inside)
-            ∙ sym (front-set n booked i (at booked i + g) inside))
+            (ap (λ (v : ℕ). set (front n booked) i (v + g)) (at-front n booked i (way .inside))
+            ∙ sym (front-set n booked i (at booked i + g) (way .inside)))
 
         pub way-next :
             (left ≡ 0 → ⊥)
-            → Way n par need st goal (set booked i (at booked i + g)) (set figures i ((at figures i - left) + g)) (par i) (left - g)
+            → Way n par need st goal booked₀ (set booked i (at booked i + g)) (set figures i ((at figures i - left) + g)) (par i) (left - g)
             (offers + 1)
         unfolding offer total
         way-next some =
@@ -359,13 +376,13 @@ module _ (n : ℕ) (par need st : ℕ → ℕ) (goal : Climbed) (booked figures 
                         let e = given in
                         omega arith);
                   };
+              small = way .small;
+              inside = c .tree .within i task;
               booked-size = length-set booked i (at booked i + g) ∙ way .booked-size;
               figures-size = length-set figures i ((at figures i - left) + g) ∙ way .figures-size;
               books = way .books ∙ ap (λ (k : Climbed). k .booked) turn;
               rest = way .rest ∙ ap (λ (k : Climbed). k .left) turn;
               offered = (let o = way .offered ∙ ap (λ (k : Climbed). offers + length (k .offered)) turn in omega arith);
+              past = λ a h. getD-set-other booked i a (at booked i + g) 0 (λ e. let m = way .inside in omega arith) ∙ way .past a h;
+              steps = (let o = way .steps in let e = ap length path in omega arith);
             }
-
-        -- and there is less to climb
-        pub way-shorter : length (chain n par (par i)) < length (chain n par i)
-        way-shorter = let e = ap length path in omega arith
