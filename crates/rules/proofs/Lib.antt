@@ -3,6 +3,7 @@ pub mod Computing
 pub mod Marked
 -- laws
 pub mod Sums
+pub mod Counts
 pub mod Orders
 pub mod Turns
 pub mod Peaks
