@@ -28,7 +28,7 @@ front-split n l k long h =
     (split-at (take n l) k 0 (omega (arith, length-take-le n l long)))
 
 -- where each of the first n entries passes, so does the one at k
-pub every-at :
+every-at :
     (test : ℕ → Bool) (n : ℕ) (l : List ℕ) (k : ℕ)
     → n ≤ length l
     → k < n

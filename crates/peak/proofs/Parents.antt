@@ -23,13 +23,13 @@ unfolding isStray
 parent-le n parents i none t = ltb-false n (at parents i) (none-counted (isStray n parents) n none i t)
 
 -- a task that is not late has no parent, or a parent with a place above its own
-pub not-lagging : (parent above own : ℕ) → lagging parent above own ≡ false → (parent ≡ 0 → ⊥) → own < above
+not-lagging : (parent above own : ℕ) → lagging parent above own ≡ false → (parent ≡ 0 → ⊥) → own < above
 unfolding lagging
 not-lagging parent above own e child =
     leb-false above own (rw (ne-eqb parent 0 child) at e)
 
 -- a late one has a parent, whose place is not above its own
-pub is-lagging : (parent above own : ℕ) → lagging parent above own ≡ true → (parent ≡ 0 → ⊥) × (above ≤ own)
+is-lagging : (parent above own : ℕ) → lagging parent above own ≡ true → (parent ≡ 0 → ⊥) × (above ≤ own)
 unfolding lagging
 is-lagging parent above own e =
     let both = and-eq-true-iff (not (eqb parent 0)) (leb above own) .0 e in

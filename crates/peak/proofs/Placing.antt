@@ -11,7 +11,6 @@ use Rattle.rules.specs.Lists.{at, mem, distinct}
 use Rattle.rules.specs.Limits.{maxTasks}
 use Rattle.rules.proofs.Sums.{decide, same-or-not, only-true, only-false}
 use Rattle.rules.proofs.Orders.{
-  clash,
   place,
   mem-none,
   mem-here,
@@ -36,12 +35,12 @@ unfolding spot
 spot-out order i e = only-false (mem i order) (place i order + 1) e
 
 -- one entry more: it has its spot, and the others keep theirs
-pub spot-new : (order : List ℕ) (x : ℕ) → mem x order ≡ false → spot (order ++ x ∷ []) x ≡ length order + 1
+spot-new : (order : List ℕ) (x : ℕ) → mem x order ≡ false → spot (order ++ x ∷ []) x ≡ length order + 1
 spot-new order x new =
     spot-in (order ++ x ∷ []) x (mem-among x x order [] ∙ mem-here x x (order ++ []) refl)
     ∙ ap (λ k. k + 1) (place-split x order [] new)
 
-pub spot-kept : (order : List ℕ) (x i : ℕ) → (i ≡ x → ⊥) → spot (order ++ x ∷ []) i ≡ spot order i
+spot-kept : (order : List ℕ) (x i : ℕ) → (i ≡ x → ⊥) → spot (order ++ x ∷ []) i ≡ spot order i
 spot-kept order x i d =
     ⊎-elim
     (λ e.

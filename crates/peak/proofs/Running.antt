@@ -25,7 +25,7 @@ ran-none n par work out l =
     record { passed = omega arith; level-is = sym (level-first n par out); best-is = omega arith }
 
 -- the task at k has its turn
-pub ran-turn :
+ran-turn :
     (n : ℕ) (par : ℕ → ℕ) (l : List ℕ) (k : ℕ)
     → Valid n par (take n l)
     → n ≤ length l

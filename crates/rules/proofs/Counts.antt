@@ -2,11 +2,11 @@
 use mathlib.Core.Path.{_≡_, refl, ap, _∙_}
 use mathlib.Core.Bool.{Bool, true, false, not}
 use mathlib.Core.Logic.{⊎-elim}
-use Prim.Native.Nat.{ℕ, zero, suc, _+_, _≤_}
+use Prim.Native.Nat.{ℕ, zero, suc, _+_}
 use native.Mathlib.Omega.{arith}
 use native.Mathlib.Numerals.{add-one}
 use Rattle.rules.specs.Sums.{only, sumTo, countTo}
-use Rattle.rules.proofs.Sums.{Task, decide, sum-cong, sum-le, sum-add, term-le, only-true, only-false, only-le}
+use Rattle.rules.proofs.Sums.{Task, decide, sum-cong, sum-add, term-le, only-true, only-false}
 
 -- one task more, which passes or does not
 pub count-yes : (test : ℕ → Bool) (n : ℕ) → test (n + 1) ≡ true → countTo test (n + 1) ≡ countTo test n + 1
@@ -17,17 +17,11 @@ pub count-no : (test : ℕ → Bool) (n : ℕ) → test (n + 1) ≡ false → co
 unfolding countTo sumTo
 count-no test n e = rw (add-one n) (omega (arith, only-false (test (suc n)) 1 (rw (add-one n) at e)))
 
--- of n tasks
+-- a sum of ones
 ones : (n : ℕ) → sumTo (λ _. 1) n ≡ n
 unfolding sumTo
 ones zero = refl
 ones (suc n) = omega (arith, ones n)
-
--- no count is above n
-pub count-le : (test : ℕ → Bool) (n : ℕ) → countTo test n ≤ n
-unfolding countTo
-count-le test n =
-    omega (arith, sum-le (λ i. only (test i) 1) (λ _. 1) n (λ i _. only-le (test i) 1), ones n)
 
 -- a count that comes to n leaves no task out
 pub count-full : (test : ℕ → Bool) (n : ℕ) → countTo test n ≡ n → (i : ℕ) → Task n i → test i ≡ true

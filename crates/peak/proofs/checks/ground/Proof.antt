@@ -100,7 +100,7 @@ returns-4 c =
     ground-roots _ _ _ (limits (c .before .before .before .before .before)) (once (c .before .before))
     (λ one. c .if4 .taken (c .before .roots .ensures ∙ one))
 
--- past 7, with the spots of the tasks
+-- past 5, with the spots of the tasks
 spotted :
     (c : tie.Else3)
     → Spotted (start-3 c .args .n) (start-3 c .args .parents .now) (order (start-3 c)) (c .before .placed .last .1 .1 .0)
