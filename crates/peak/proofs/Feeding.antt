@@ -13,7 +13,8 @@ use Rattle.rules.specs.Sums.{only, sumTo}
 use Rattle.rules.specs.Lists.{at}
 use Rattle.rules.specs.Limits.{maxTasks}
 use Rattle.rules.specs.Need.{childrenOut}
-use Rattle.rules.proofs.Sums.{same-or-not, sum-le, only-true, only-false, only-le}
+use Rattle.rules.proofs.Tests.{same-or-not}
+use Rattle.rules.proofs.Sums.{sum-le, only-true, only-false, only-le}
 
 -- a sum of numbers of 32 bits
 pub sum-fits : (f : ℕ → ℕ) (n : ℕ) → ((i : ℕ) → f i < 4294967296) → sumTo f n ≤ n * 4294967296

@@ -1,6 +1,6 @@
 -- The checks in their order: the first that fails gives the number, and where none fails the order is valid.
 use mathlib.Core.Path.{_≡_, refl}
-use mathlib.Core.Bool.{Bool, true, false, _&&_, and-eq-true-iff}
+use mathlib.Core.Bool.{Bool, true, false, _&&_}
 use mathlib.Core.List.{List}
 use Prim.Native.Nat.{ℕ, _≤_}
 use native.Mathlib.Omega.{arith}
@@ -13,6 +13,7 @@ use Rattle.rules.specs.Limits.{maxTasks}
 use Rattle.rules.specs.Peak.{roots, ordered}
 use Rattle.rules.specs.Grounds.{within, demand}
 use Rattle.rules.specs.Desk.{deskGround}
+use Rattle.rules.proofs.Tests.{and-true}
 use Rattle.rules.proofs.Orders.{within-task}
 use Rattle.rules.proofs.Turns.{Valid}
 use Rattle.peak.specs.Checks.{isStray, isTask, isRoot}
@@ -116,9 +117,9 @@ clear n parents order none =
     let met-5 = demand-met (distinct order) 5 seven (omega arith) (met-4 .1) in
     let met-7 = demand-met (eqb (roots n (at parents)) 1) 7 eight (omega arith) (met-5 .1) in
     let met-8 = demand-met (ordered (at parents) order) 8 0 (omega arith) (met-7 .1) in
-    let entries = and-eq-true-iff limits (every (λ i. within i n) order) .0 (met-4 .0) in
-    let parents-in = and-eq-true-iff sized (eqb (countTo (isStray n parents) n) 0) .0 (entries .0) in
-    let sizes = and-eq-true-iff (eqb (length order) n) (within n maxTasks) .0 (parents-in .0) in
+    let entries = and-true limits (every (λ i. within i n) order) (met-4 .0) in
+    let parents-in = and-true sized (eqb (countTo (isStray n parents) n) 0) (entries .0) in
+    let sizes = and-true (eqb (length order) n) (within n maxTasks) (parents-in .0) in
     record {
       small = within-task maxTasks n (sizes .1) .high;
       strays = eqb-true (countTo (isStray n parents) n) 0 (parents-in .1);

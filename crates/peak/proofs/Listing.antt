@@ -2,15 +2,15 @@
 use mathlib.Core.Path.{_≡_, refl, sym}
 use mathlib.Core.Bool.{Bool, true, false}
 use mathlib.Core.List.{List, [], _∷_, _++_}
-use mathlib.Core.Logic.{⊎-elim}
 use Prim.Native.Nat.{ℕ, suc, _+_, _≤_, _<_}
 use native.Mathlib.Omega.{arith}
 use native.Mathlib.Numerals.{add-one}
 use lib.ListN.{length, getD, take, drop}
 use lib.Seq.{take-suc, take-take, split-at, getD-take, length-take-le}
 use Rattle.rules.specs.Lists.{every}
-use Rattle.rules.proofs.Sums.{Task, decide}
-use Rattle.rules.proofs.Orders.{clash, within-task, mem-at, every-mem, every-append}
+use Rattle.rules.proofs.Tests.{clash, fails}
+use Rattle.rules.proofs.Sums.{Task}
+use Rattle.rules.proofs.Orders.{within-task, mem-at, every-mem, every-append}
 use Rattle.peak.specs.Checks.{isTask}
 
 -- one entry more
@@ -80,8 +80,7 @@ pub tested-not :
     → test (getD l k 0) ≡ false
     → false ≡ every test (take n l)
 tested-not test n l k long h e =
-    ⊎-elim (λ all. absurd (clash (test (getD l k 0)) (every-at test n l k long h all) e)) (λ no-all. sym no-all)
-    (decide (every test (take n l)))
+    sym (fails (every test (take n l)) (λ all. clash (every-at test n l k long h all) e))
 
 -- all n entries
 pub tested-all :

@@ -1,6 +1,6 @@
 -- What the counts of strays and of late tasks say of a column of parents.
 use mathlib.Core.Path.{_≡_, _∙_}
-use mathlib.Core.Bool.{true, false, not, and-eq-true-iff}
+use mathlib.Core.Bool.{true, false, not}
 use mathlib.Core.List.{List}
 use mathlib.Core.Logic.{⊎-elim}
 use Prim.Native.Nat.{ℕ, _+_, _≤_, _<_}
@@ -12,7 +12,8 @@ use Rattle.rules.specs.Sums.{countTo}
 use Rattle.rules.specs.Lists.{at, mem, every, distinct}
 use Rattle.rules.specs.Limits.{maxTasks}
 use Rattle.rules.specs.Peak.{ordered}
-use Rattle.rules.proofs.Sums.{Task, decide, none-counted, counted}
+use Rattle.rules.proofs.Tests.{decide, fails, and-true}
+use Rattle.rules.proofs.Sums.{Task, none-counted, counted}
 use Rattle.rules.proofs.Orders.{place, within-task, every-mem, all-in, ordered-rises, rises-ordered}
 use Rattle.peak.specs.Checks.{isStray, isTask, spot, lagging, isLate}
 use Rattle.peak.proofs.Placing.{spot-in, spot-out}
@@ -32,7 +33,7 @@ not-lagging parent above own e child =
 is-lagging : (parent above own : ℕ) → lagging parent above own ≡ true → (parent ≡ 0 → ⊥) × (above ≤ own)
 unfolding lagging
 is-lagging parent above own e =
-    let both = and-eq-true-iff (not (eqb parent 0)) (leb above own) .0 e in
+    let both = and-true (not (eqb parent 0)) (leb above own) e in
     (eqb-false parent 0 (not-true (eqb parent 0) (both .0)), leb-true above own (both .1))
 
 -- an order that holds each task once, under parents in their limits, with the tasks' spots
@@ -80,8 +81,7 @@ some-late n parents order places s some =
     let own : at places x ≡ place x order + 1 = s .spots x (omega arith) ∙ spot-in order x e in
     let its : at places (at parents x) ≡ spot order (at parents x)
     = s .spots (at parents x) (omega (arith, parent-le n parents x (s .strays) task)) in
-    ⊎-elim
+    fails (ordered (at parents) order)
     (λ o.
     let up = ordered-rises (at parents) order x o (s .once) e (lag .0) in
-    absurd (omega (arith, up .rises, lag .1, spot-in order (at parents x) (up .member))))
-    (λ o. o) (decide (ordered (at parents) order))
+    omega (arith, up .rises, lag .1, spot-in order (at parents x) (up .member)))

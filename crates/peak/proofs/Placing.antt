@@ -9,7 +9,8 @@ use lib.ListN.{length, getD, take, drop, set, replicate, length-set, length-repl
 use lib.Seq.{length-take-le, getD-set-same, getD-set-other}
 use Rattle.rules.specs.Lists.{at, mem, distinct}
 use Rattle.rules.specs.Limits.{maxTasks}
-use Rattle.rules.proofs.Sums.{decide, same-or-not, only-true, only-false}
+use Rattle.rules.proofs.Tests.{decide, fails, same-or-not}
+use Rattle.rules.proofs.Sums.{only-true, only-false}
 use Rattle.rules.proofs.Orders.{
   place,
   mem-none,
@@ -82,7 +83,7 @@ pub placed-next :
 placed-next n l k places x p long h at-k small free =
     let more : take (k + 1) l ≡ take k l ++ x ∷ [] = rw (← at-k) (take-more l k (omega arith)) in
     let new : mem x (take k l) ≡ false
-    = ⊎-elim (λ e. absurd (omega (arith, spot-in (take k l) x e, p .spots x small))) (λ e. e) (decide (mem x (take k l))) in
+    = fails (mem x (take k l)) (λ e. omega (arith, spot-in (take k l) x e, p .spots x small)) in
     record {
       passed = omega arith;
       size = length-set places x (k + 1) ∙ p .size;
@@ -110,11 +111,11 @@ pub placed-twice :
     → false ≡ distinct (take n l)
 placed-twice n l k places x p long h at-k small taken =
     let split : take n l ≡ take k l ++ x ∷ drop (suc k) (take n l) = rw (← at-k) (front-split n l k long h) in
-    ⊎-elim
+    sym
+    (fails (distinct (take n l))
     (λ once.
     let alone = distinct-split (take k l) x (drop (suc k) (take n l)) (ap distinct (sym split) ∙ once) in
-    absurd (taken (p .spots x small ∙ spot-out (take k l) x (alone .not-earlier))))
-    (λ e. sym e) (decide (distinct (take n l)))
+    taken (p .spots x small ∙ spot-out (take k l) x (alone .not-earlier))))
 
 -- all n entries
 pub placed-all :

@@ -1,6 +1,6 @@
 -- What a survey answers where the columns cover the tasks.
 use mathlib.Core.Path.{_≡_}
-use mathlib.Core.Bool.{Bool, true, _&&_, and-eq-true-iff}
+use mathlib.Core.Bool.{Bool, true, _&&_}
 use mathlib.Core.List.{List}
 use Prim.Native.Nat.{ℕ, _≤_, _<_}
 use lib.Dec.{leb, ltb}
@@ -11,6 +11,7 @@ use Rattle.rules.specs.Limits.{maxTasks}
 use Rattle.rules.specs.Peak.{peak}
 use Rattle.rules.specs.Grounds.{within}
 use Rattle.rules.specs.Desk.{deskGround, deskAnswer}
+use Rattle.rules.proofs.Tests.{and-true}
 use Rattle.peak.specs.Survey.{covered, surveyed}
 
 -- columns and an order of these lengths cover n tasks
@@ -29,10 +30,10 @@ unfolding covered
 covers n parents works outs activation e =
     let to-parents : Bool = within n maxTasks && ltb n parents in
     let to-works : Bool = to-parents && ltb n works in
-    let last = and-eq-true-iff (to-works && ltb n outs) (leb n activation) .0 e in
-    let third = and-eq-true-iff to-works (ltb n outs) .0 (last .0) in
-    let second = and-eq-true-iff to-parents (ltb n works) .0 (third .0) in
-    let first = and-eq-true-iff (within n maxTasks) (ltb n parents) .0 (second .0) in
+    let last = and-true (to-works && ltb n outs) (leb n activation) e in
+    let third = and-true to-works (ltb n outs) (last .0) in
+    let second = and-true to-parents (ltb n works) (third .0) in
+    let first = and-true (within n maxTasks) (ltb n parents) (second .0) in
     record {
       size = first .0;
       parents-cover = ltb-true n parents (first .1);

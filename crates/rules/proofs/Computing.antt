@@ -37,6 +37,7 @@ use Rattle.rules.specs.Obey.{
   begun,
   proceed,
   fresh,
+  endedStandings,
   shared,
   ended,
   phaseAfter,
@@ -113,6 +114,7 @@ unfolding
     begun
     proceed
     fresh
+    endedStandings
     shared
     ended
     phaseAfter

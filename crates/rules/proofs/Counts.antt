@@ -6,7 +6,8 @@ use Prim.Native.Nat.{ℕ, zero, suc, _+_}
 use native.Mathlib.Omega.{arith}
 use native.Mathlib.Numerals.{add-one}
 use Rattle.rules.specs.Sums.{only, sumTo, countTo}
-use Rattle.rules.proofs.Sums.{Task, decide, sum-cong, sum-add, term-le, only-true, only-false}
+use Rattle.rules.proofs.Tests.{decide}
+use Rattle.rules.proofs.Sums.{Task, sum-cong, sum-add, term-le, only-true, only-false}
 
 -- one task more, which passes or does not
 pub count-yes : (test : ℕ → Bool) (n : ℕ) → test (n + 1) ≡ true → countTo test (n + 1) ≡ countTo test n + 1

@@ -1,9 +1,44 @@
 -- What is proved of the rules.
+-- the paper's examples
 pub mod Computing
 pub mod Marked
--- laws
+-- the byte format
+pub mod Number
+pub mod Bytes
+-- sums, lists and orders
+pub mod Tests
 pub mod Sums
 pub mod Counts
 pub mod Orders
 pub mod Turns
 pub mod Peaks
+pub mod Ranks
+pub mod Branches
+-- the tree and the books, over functions and for one store
+pub mod Tree
+pub mod Children
+pub mod Shape
+pub mod Balance
+pub mod Activating
+pub mod Starting
+pub mod Climbing
+pub mod Finishing
+pub mod Usage
+pub mod Progress
+pub mod Roots
+-- the parts of a command, over lists
+pub mod Good
+pub mod Ahead
+pub mod Waiting
+pub mod Starts
+pub mod Sharing
+-- the list of commands
+pub mod Log
+pub mod Formed
+pub mod Course
+pub mod InDay
+pub mod Opening
+pub mod Reporting
+pub mod Holds
+pub mod Steps
+pub mod Theorem

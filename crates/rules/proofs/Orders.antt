@@ -1,6 +1,6 @@
 -- Laws of lists of tasks as orders: who stands in a list and where, and lists that hold every task once.
 use mathlib.Core.Path.{_≡_, refl, sym, ap, _∙_}
-use mathlib.Core.Bool.{Bool, true, false, not, cond, _&&_, _||_, and-eq-true-iff, and-assoc, or-assoc, or-comm, or-true}
+use mathlib.Core.Bool.{Bool, true, false, not, cond, _&&_, _||_, and-assoc, or-assoc, or-comm, or-true}
 use mathlib.Core.List.{List, [], _∷_, _++_}
 use mathlib.Core.Logic.{⊎-elim}
 use Prim.Native.Nat.{ℕ, zero, suc, _+_, _<_}
@@ -12,10 +12,9 @@ use Rattle.rules.specs.Sums.{only, sumTo, countTo}
 use Rattle.rules.specs.Lists.{mem, every, distinct}
 use Rattle.rules.specs.Peak.{ordered}
 use Rattle.rules.specs.Grounds.{within}
+use Rattle.rules.proofs.Tests.{clash, fails, same-or-not, or-false, and-true}
 use Rattle.rules.proofs.Sums.{
   Task,
-  decide,
-  same-or-not,
   sum-cong,
   sum-zero,
   sum-change,
@@ -24,19 +23,10 @@ use Rattle.rules.proofs.Sums.{
 }
 use Rattle.rules.proofs.Counts.{count-full}
 
--- true is not false
-pub clash : (t : Bool) → t ≡ true → t ≡ false → ⊥
-clash t e d = let z : _≡_ {A = ℕ} 0 1 = cc in omega arith
-
--- neither holds where one of two does not
-pub neither : (s t : Bool) → (s || t) ≡ false → (s ≡ false) × (t ≡ false)
-neither true t e = absurd (clash true refl e)
-neither false t e = (refl, e)
-
 -- a task in the limits, as a test and as a fact
 pub within-task : (n i : ℕ) → within i n ≡ true → Task n i
 within-task n i e =
-    let both = and-eq-true-iff (leb 1 i) (leb i n) .0 e in
+    let both = and-true (leb 1 i) (leb i n) e in
     record { low = leb-true 1 i (both .0); high = leb-true i n (both .1) }
 
 pub task-within : (n i : ℕ) → Task n i → within i n ≡ true
@@ -57,7 +47,7 @@ mem-later i x l d = rw (ne-eqb i x d)
 
 -- nobody stands in an empty list
 pub nobody : (i : ℕ) → mem i [] ≡ true → ⊥
-nobody i e = clash (mem i []) e (mem-none i)
+nobody i e = clash e (mem-none i)
 
 -- whoever stands in a list and is not its first entry stands later
 pub mem-rest : (i x : ℕ) (l : List ℕ) → mem i (x ∷ l) ≡ true → (i ≡ x → ⊥) → mem i l ≡ true
@@ -71,7 +61,7 @@ mem-more i x l e = rw (e, or-true)
 -- whoever stands in no place of a list is not its first entry, and stands nowhere later
 pub mem-out : (i x : ℕ) (l : List ℕ) → mem i (x ∷ l) ≡ false → (i ≡ x → ⊥) × (mem i l ≡ false)
 mem-out i x l e =
-    let d : i ≡ x → ⊥ = λ q. clash (mem i (x ∷ l)) (mem-here i x l q) e in
+    let d : i ≡ x → ⊥ = λ q. clash (mem-here i x l q) e in
     (d, sym (mem-later i x l d) ∙ e)
 
 -- each entry stands in its list
@@ -98,7 +88,7 @@ mem-among i x (y ∷ l) m =
 
 -- who stands in a list is not who does not
 pub mem-other : (x y : ℕ) (l : List ℕ) → mem x l ≡ true → mem y l ≡ false → x ≡ y → ⊥
-mem-other x y l e d q = clash (mem x l) e (ap (λ i. mem i l) q ∙ d)
+mem-other x y l e d q = clash e (ap (λ i. mem i l) q ∙ d)
 
 -- a list taken apart where x first stands
 pub record Split (x : ℕ) (l : List ℕ) : Type 0 where
@@ -126,7 +116,7 @@ pub every-mem : (test : ℕ → Bool) (l : List ℕ) (x : ℕ) → every test l 
 unfolding every
 every-mem test [] x h e = absurd (nobody x e)
 every-mem test (y ∷ l) x h e =
-    let both = and-eq-true-iff (test y) (every test l) .0 h in
+    let both = and-true (test y) (every test l) h in
     ⊎-elim (λ q. ap test q ∙ both .0) (λ d. every-mem test l x (both .1) (mem-rest x y l e d)) (same-or-not x y)
 
 pub every-append :
@@ -144,7 +134,7 @@ pub record Fresh (x : ℕ) (l : List ℕ) : Type 0 where
 pub distinct-cons : (x : ℕ) (l : List ℕ) → distinct (x ∷ l) ≡ true → Fresh x l
 unfolding distinct
 distinct-cons x l e =
-    let both = and-eq-true-iff (not (mem x l)) (distinct l) .0 e in
+    let both = and-true (not (mem x l)) (distinct l) e in
     record { new = not-true (mem x l) (both .0); later = both .1 }
 
 -- two lists, one after the other, with no entry twice
@@ -160,7 +150,7 @@ distinct-append [] m e =
 distinct-append (x ∷ l) m e =
     let f = distinct-cons x (l ++ m) e in
     let a = distinct-append l m (f .later) in
-    let h = neither (mem x l) (mem x m) (sym (mem-append x l m) ∙ f .new) in
+    let h = or-false (mem x l) (mem x m) (sym (mem-append x l m) ∙ f .new) in
     record {
       first = rw (h .0) (a .first);
       second = a .second;
@@ -193,9 +183,9 @@ distinct-split pre x post e =
     let a = distinct-append pre (x ∷ post) e in
     let f = distinct-cons x post (a .second) in
     let other : (i : ℕ) → mem i pre ≡ true → i ≡ x → ⊥
-    = λ i h q. clash (mem i (x ∷ post)) (mem-here i x post q) (a .apart i h) in
+    = λ i h q. clash (mem-here i x post q) (a .apart i h) in
     record {
-      not-earlier = ⊎-elim (λ h. absurd (other x h refl)) (λ h. h) (decide (mem x pre));
+      not-earlier = fails (mem x pre) (λ h. other x h refl);
       not-later = f .new;
       earlier = a .first;
       later = f .later;
@@ -273,7 +263,7 @@ unfolding sumOver every
 sum-members f n [] inside once =
     sym (sum-zero (λ i. only (mem i []) (f i)) n (λ i t. only-false (mem i []) (f i) (mem-none i)))
 sum-members f n (x ∷ l) inside once =
-    let both = and-eq-true-iff (within x n) (every (λ i. within i n) l) .0 inside in
+    let both = and-true (within x n) (every (λ i. within i n) l) inside in
     let fresh = distinct-cons x l once in
     let rest : sumOver f l ≡ sumTo (λ i. only (mem i l) (f i)) n = sum-members f n l (both .1) (fresh .later) in
     let here : only (mem x (x ∷ l)) (f x) ≡ only (mem x l) (f x) + f x
@@ -329,7 +319,7 @@ pub ordered-rises :
 unfolding ordered
 ordered-rises par [] x order once e child = absurd (nobody x e)
 ordered-rises par (y ∷ l) x order once e child =
-    let both = and-eq-true-iff (eqb (par y) 0 || mem (par y) l) (ordered par l) .0 order in
+    let both = and-true (eqb (par y) 0 || mem (par y) l) (ordered par l) order in
     let fresh = distinct-cons y l once in
     ⊎-elim
     (λ q.

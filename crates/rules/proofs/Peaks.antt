@@ -11,7 +11,8 @@ use Rattle.rules.specs.Sums.{only, sumTo}
 use Rattle.rules.specs.Lists.{mem, largest}
 use Rattle.rules.specs.Need.{childrenOut, need, resident}
 use Rattle.rules.specs.Peak.{sums, peak}
-use Rattle.rules.proofs.Sums.{Task, same-or-not, sum-cong, sum-le, sum-add, sum-zero, sum-change, only-le}
+use Rattle.rules.proofs.Tests.{same-or-not}
+use Rattle.rules.proofs.Sums.{Task, sum-cong, sum-le, sum-add, sum-zero, sum-change, only-le}
 use Rattle.rules.proofs.Orders.{mem-here, mem-later, mem-among}
 use Rattle.rules.proofs.Turns.{Valid, Left, Turn, left-split, left-next, left-turn}
 

@@ -1,30 +1,14 @@
 -- Laws of sums and counts over the tasks 1 to n.
 use mathlib.Core.Path.{_≡_, refl, sym, ap, _∙_}
-use mathlib.Core.Bool.{Bool, true, false, not}
+use mathlib.Core.Bool.{Bool, true, false, _&&_}
 use mathlib.Core.Logic.{_⊎_, inl, inr, ⊎-elim}
 use Prim.Native.Nat.{ℕ, zero, suc, _+_, _≤_, _<_}
 use native.Mathlib.Omega.{arith}
 use lib.Dec.{eqb}
-use borrow.Author.Tests.{eqb-true, eqb-false, eq-eqb, ne-eqb}
+use borrow.Author.Tests.{eq-eqb, ne-eqb}
 use Rattle.rules.specs.Sums.{only, sumTo, countTo}
-
--- i is one of the tasks 1 to n
-pub record Task (n i : ℕ) : Type 0 where
-  pub low : 1 ≤ i
-  pub high : i ≤ n
-
--- a test holds or it fails
-pub decide : (t : Bool) → (t ≡ true) ⊎ (t ≡ false)
-decide true = inl refl
-decide false = inr refl
-
--- of two numbers
-pub same-or-not : (i x : ℕ) → (i ≡ x) ⊎ (i ≡ x → ⊥)
-same-or-not i x = go (decide (eqb i x))
-  where
-    go : (eqb i x ≡ true) ⊎ (eqb i x ≡ false) → (i ≡ x) ⊎ (i ≡ x → ⊥)
-    go (inl e) = inl (eqb-true i x e)
-    go (inr e) = inr (eqb-false i x e)
+pub use Rattle.rules.specs.Sums.{Task}
+use Rattle.rules.proofs.Tests.{decide, same-or-not}
 
 -- sums of equal terms are equal
 pub sum-cong : (f g : ℕ → ℕ) (n : ℕ) → ((i : ℕ) → Task n i → f i ≡ g i) → sumTo f n ≡ sumTo g n
@@ -108,6 +92,26 @@ pub only-add : (t : Bool) (x y : ℕ) → only t (x + y) ≡ only t x + only t y
 only-add true x y = refl
 only-add false x y = refl
 
+-- values that are compared only where the test holds
+pub only-mono : (t : Bool) (x y : ℕ) → (t ≡ true → x ≤ y) → only t x ≤ only t y
+only-mono true x y h = h refl
+only-mono false x y h = omega arith
+
+pub only-cong : (t : Bool) (x y : ℕ) → (t ≡ true → x ≡ y) → only t x ≡ only t y
+only-cong true x y h = h refl
+only-cong false x y h = refl
+
+-- both of two tests, one after the other
+pub only-and : (s t : Bool) (x : ℕ) → only (s && t) x ≡ only s (only t x)
+only-and true t x = refl
+only-and false t x = refl
+
+-- two tests in either order
+pub only-swap : (s t : Bool) (x : ℕ) → only s (only t x) ≡ only t (only s x)
+only-swap true t x = refl
+only-swap false true x = refl
+only-swap false false x = refl
+
 -- a sum with one term
 pub sum-single : (f : ℕ → ℕ) (n x : ℕ) → Task n x → sumTo (λ i. only (eqb i x) (f i)) n ≡ f x
 sum-single f n x t =
@@ -165,3 +169,17 @@ counted test n h = let k = sum-positive (λ i. only (test i) 1) n h in (k .0, k 
         go : (test i ≡ true) ⊎ (test i ≡ false) → test i ≡ true
         go (inl e) = e
         go (inr e) = absurd (omega (arith, only-false (test i) 1 e))
+
+-- no more than n are counted, and all n where all pass
+pub count-le : (test : ℕ → Bool) (n : ℕ) → countTo test n ≤ n
+unfolding countTo sumTo
+count-le test zero = omega arith
+count-le test (suc n) = let k = count-le test n in let o = only-le (test (suc n)) 1 in omega arith
+
+pub count-all : (test : ℕ → Bool) (n : ℕ) → ((i : ℕ) → Task n i → test i ≡ true) → countTo test n ≡ n
+unfolding countTo sumTo
+count-all test zero h = refl
+count-all test (suc n) h =
+    let k = count-all test n (λ i t. h i (omega arith)) in
+    let o = only-true (test (suc n)) 1 (h (suc n) (omega arith)) in
+    omega arith

@@ -67,17 +67,17 @@ module _ (n : ℕ) (par need : ℕ → ℕ) where
         | false ↦ activate bound later s
       ]
 
-module _ (n : ℕ) (par : ℕ → ℕ) (execution : List ℕ) where
-  -- a booked task with all its children ended
-  unfoldable pub ready : List ℕ → ℕ → Bool
-  ready st i = eqb (at st i) activated && fed n par (at st) i
+-- a booked task with all its children ended
+unfoldable pub ready : (n : ℕ) (par : ℕ → ℕ) → List ℕ → ℕ → Bool
+ready n par st i = eqb (at st i) activated && fed n par (at st) i
 
+module _ (n : ℕ) (par : ℕ → ℕ) (execution : List ℕ) where
   -- "Starting. While a station is free, and some booked step has all its children ended, the one of these that is earliest in
   -- the execution order starts": the tasks started, in order, where so many processors are free
   unfoldable pub starts : (free : ℕ) → List ℕ → List ℕ
   starts zero st = []
   starts (suc free) st =
-      elim (first (ready st) execution) [ zero ↦ [] | suc i ↦ suc i ∷ starts free (set st (suc i) running) ]
+      elim (first (ready n par st) execution) [ zero ↦ [] | suc i ↦ suc i ∷ starts free (set st (suc i) running) ]
 
 -- the standings once the tasks of a list run
 unfoldable pub start : List ℕ → List ℕ → List ℕ
@@ -98,11 +98,11 @@ pub record Climbed : Type 0 where
 unfoldable pub offer : ℕ → Climbed → Climbed
 offer i c = record { offered = i ∷ c .offered; left = c .left; booked = c .booked }
 
-module _ (n : ℕ) (par need : ℕ → ℕ) (st : ℕ → ℕ) where
-  -- "it gets max(0, need of i − its subtree figure)"
-  unfoldable pub gift : List ℕ → ℕ → ℕ
-  gift b i = need i - figure n par (at b) i
+-- "it gets max(0, need of i − its subtree figure)"
+unfoldable pub gift : (n : ℕ) (par need : ℕ → ℕ) → List ℕ → ℕ → ℕ
+gift n par need b i = need i - figure n par (at b) i
 
+module _ (n : ℕ) (par need : ℕ → ℕ) (st : ℕ → ℕ) where
   -- "climb from parent to parent .., ending at the first of: past the root, a step that is waiting, R is 0. .. Each step i on
   -- the way is one offer: it gets [its gift], and R falls by that."
   unfoldable pub climb : List ℕ → ℕ → List ℕ → Climbed
@@ -110,7 +110,7 @@ module _ (n : ℕ) (par need : ℕ → ℕ) (st : ℕ → ℕ) where
   climb (i ∷ above) r b =
       elim (eqb (st i) waiting || eqb r 0) [
         | true ↦ record { offered = []; left = r; booked = b }
-        | false ↦ offer i (climb above (r - gift b i) (set b i (at b i + gift b i)))
+        | false ↦ offer i (climb above (r - gift n par need b i) (set b i (at b i + gift n par need b i)))
       ]
 
   -- "When step j ends, its booked trays, call them R, are taken from it. If it has a parent, the parent is given j's out, and R

@@ -33,6 +33,15 @@ isPlan (read (execution i) used) = false
 isPlan (read begin used) = false
 isPlan (read (done i) used) = false
 
+unfoldable pub isBegin : Decoded → Bool
+isBegin (refused k) = false
+isBegin (read (plan n p bound) used) = false
+isBegin (read (task parent work out) used) = false
+isBegin (read (activation i) used) = false
+isBegin (read (execution i) used) = false
+isBegin (read begin used) = true
+isBegin (read (done i) used) = false
+
 unfoldable pub reported : Decoded → List ℕ
 reported (refused k) = []
 reported (read (plan n p bound) used) = []
@@ -75,15 +84,6 @@ ends (ended i ∷ later) = i ∷ ends later
 -- "A day is an accepted BEGIN and all commands after it, until a next plan is opened or the list ends."
 unfoldable pub opensDay : State → Asking → Bool
 opensDay s a = accepted s a && isBegin (decode (a .stream) (a .place))
-  where
-    isBegin : Decoded → Bool
-    isBegin (refused k) = false
-    isBegin (read (plan n p bound) used) = false
-    isBegin (read (task parent work out) used) = false
-    isBegin (read (activation i) used) = false
-    isBegin (read (execution i) used) = false
-    isBegin (read begin used) = true
-    isBegin (read (done i) used) = false
 
 unfoldable pub opensPlan : State → Asking → Bool
 opensPlan s a = accepted s a && isPlan (decode (a .stream) (a .place))

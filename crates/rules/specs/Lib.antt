@@ -19,4 +19,5 @@ pub mod Question
 pub mod Desk
 pub mod Text
 pub mod Day
+pub mod Theorem
 pub mod Marked

@@ -105,14 +105,18 @@ proceed s phase k peak offers =
 unfoldable pub fresh : ℕ → Books
 fresh n = record { standings = replicate (suc n) Standing.waiting; booked = replicate (suc n) 0 }
 
--- sharing out the booked trays of task j, which ends
+-- the standings once task j has ended
+unfoldable pub endedStandings : State → ℕ → List ℕ
+endedStandings s j = set (s .standings) j Standing.finished
+
+-- sharing out the booked trays of task j
 unfoldable pub shared : State → ℕ → Climbed
 shared s j =
-    dispatch (s .size) (at (s .parents)) (needs s) (at (s .standings)) (at (s .memory .outs)) (s .memory .booked) j
+    dispatch (s .size) (at (s .parents)) (needs s) (at (endedStandings s j)) (at (s .memory .outs)) (s .memory .booked) j
 
 -- the books once task j has ended and its booked trays are shared out
 unfoldable pub ended : State → ℕ → Books
-ended s j = record { standings = set (s .standings) j Standing.finished; booked = shared s j .booked }
+ended s j = record { standings = endedStandings s j; booked = shared s j .booked }
 
 -- "when the root ends the phase is over"
 unfoldable pub phaseAfter : State → ℕ → ℕ

@@ -1,6 +1,11 @@
 -- Sums and counts over the tasks 1 to n.
 use mathlib.Core.Bool.{Bool, true, false}
-use Prim.Native.Nat.{ℕ, zero, suc, _+_}
+use Prim.Native.Nat.{ℕ, zero, suc, _+_, _≤_}
+
+-- "n steps, numbered 1 to n": i is one of them
+pub record Task (n i : ℕ) : Type 0 where
+  pub low : 1 ≤ i
+  pub high : i ≤ n
 
 -- the value where the test holds, 0 elsewhere
 abbrev pub only : Bool → ℕ → ℕ

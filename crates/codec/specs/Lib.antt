@@ -1,0 +1,2 @@
+-- What the contracts of the decoder cite.
+pub mod Meaning

@@ -1,0 +1,122 @@
+// Bytes to commands: "A command is one byte and operands of fixed width, lowest byte first."
+ghost use mathlib.Core.Path.{_≡_};
+ghost use Prim.Native.Nat.{_+_, _*_};
+ghost use lib.ListN.{drop};
+ghost use Rattle.rules.specs.Command as rules;
+ghost use Rattle.codec.specs.Meaning.{commandOf, decoded};
+
+pub enum Command {
+    // PLAN: n, p and M
+    Plan { n: u16, p: u8, bound: u32 },
+    // STEP: the next task
+    Task { parent: u16, work: u16, out: u16 },
+    // next in the activation order, and in the execution order
+    Activation(u16),
+    Execution(u16),
+    Begin,
+    // this task has ended
+    Done(u16),
+}
+
+// What stands at a place of a stream.
+pub enum Decoded {
+    // the number of the ground for refusing
+    Refused(u8),
+    // a command and the bytes that it uses
+    Read { command: Command, used: usize },
+}
+
+// What follows the first `count` bytes: nothing, where there are fewer.
+fn after(given: &[u8], count: usize) -> &[u8]
+    ensures { λ r. ⌜ now r ≡ drop count (now (given .entry)) ⌝ }
+{
+    if count <= given.len() {
+        &given[count..]
+    } else {
+        &given[..0]
+    }
+}
+
+// Two numbers joined, the low one first.
+fn join2(low: u8, high: u8) -> u16
+    ensures { λ r. ⌜ r ≡ low + 256 * high ⌝ }
+{
+    (low as u16) + 256 * (high as u16)
+}
+
+fn join4(low: u16, high: u16) -> u32
+    ensures { λ r. ⌜ r ≡ low + 65536 * high ⌝ }
+{
+    (low as u32) + 65536 * (high as u32)
+}
+
+// The number in the first byte, the first two and the first four. A byte past the end counts as 0.
+fn one(given: &[u8]) -> u8
+    ensures { λ r. ⌜ r ≡ rules.number 1 (now (given .entry)) ⌝ }
+{
+    if 0 < given.len() { given[0] } else { 0 }
+}
+
+fn two(given: &[u8]) -> u16
+    ensures { λ r. ⌜ r ≡ rules.number 2 (now (given .entry)) ⌝ }
+{
+    join2(one(given), one(after(given, 1)))
+}
+
+fn four(given: &[u8]) -> u32
+    ensures { λ r. ⌜ r ≡ rules.number 4 (now (given .entry)) ⌝ }
+{
+    join4(two(given), two(after(given, 2)))
+}
+
+// A command with `width` bytes of operands, or "operands are cut short" (1).
+fn whole(given: &[u8], width: usize, command: Command) -> Decoded
+    ensures { λ r. ⌜ decoded r ≡ rules.whole (now (given .entry)) width (commandOf command) ⌝ }
+{
+    if given.len() < width {
+        return Decoded::Refused(1);
+    }
+    let used = 1 + width;
+    Decoded::Read { command, used }
+}
+
+// The table of commands: the byte picks operand width and meaning; "the byte is none of 01 to 06" (2).
+fn table(byte: u8, given: &[u8]) -> Decoded
+    ensures { λ r. ⌜ decoded r ≡ rules.table byte (now (given .entry)) ⌝ }
+{
+    match byte {
+        1 => whole(
+            given,
+            7,
+            Command::Plan {
+                n: two(given),
+                p: one(after(given, 2)),
+                bound: four(after(given, 3)),
+            },
+        ),
+        2 => whole(
+            given,
+            6,
+            Command::Task {
+                parent: two(given),
+                work: two(after(given, 2)),
+                out: two(after(given, 4)),
+            },
+        ),
+        3 => whole(given, 2, Command::Activation(two(given))),
+        4 => whole(given, 2, Command::Execution(two(given))),
+        5 => whole(given, 0, Command::Begin),
+        6 => whole(given, 2, Command::Done(two(given))),
+        _ => Decoded::Refused(2),
+    }
+}
+
+// The command at a place of a stream, or "no byte is left" (1).
+pub fn decode(stream: &[u8], place: usize) -> Decoded
+    ensures { λ r. ⌜ decoded r ≡ rules.decode (now (stream .entry)) place ⌝ }
+{
+    if stream.len() <= place {
+        return Decoded::Refused(1);
+    }
+    table(stream[place], after(stream, place + 1))
+}

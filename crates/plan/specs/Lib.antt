@@ -1,0 +1,3 @@
+-- What the code keeps, and what it means.
+pub mod Kept
+pub mod Starting

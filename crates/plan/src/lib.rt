@@ -1,0 +1,3 @@
+// The plan of a kitchen's day: commands in, answers out.
+mod numbers;
+pub mod plan;

@@ -1,0 +1,210 @@
+-- Booking ahead keeps what holds of the day, and stops where the first waiting task does not fit.
+use mathlib.Core.Path.{_≡_, refl, sym, ap, _∙_}
+use mathlib.Core.Bool.{Bool, true, false}
+use mathlib.Core.Logic.{⊎-elim}
+use mathlib.Core.List.{List, [], _∷_, _++_, append-nil, append-assoc}
+use Prim.Native.Nat.{ℕ, zero, suc, _+_, _-_, _≤_, _<_}
+use native.Mathlib.Omega.{arith}
+use lib.Dec.{eqb}
+use lib.ListN.{length, set, length-set}
+use borrow.Author.Tests.{eqb-true, eqb-false, eq-eqb, leb-true}
+use Rattle.rules.specs.Lists.{at, mem}
+use Rattle.rules.specs.Standing.{waiting, activated}
+use Rattle.rules.specs.Grounds.{within}
+use Rattle.rules.specs.Booking.{Books, total, figure, missing, lacks, allows, book, activate}
+use Rattle.rules.proofs.Tests.{decide, same-or-not, or-cases, or-right}
+use Rattle.rules.proofs.Sums.{Task, sum-change}
+use Rattle.rules.proofs.Orders.{mem-append, mem-here, mem-rest, nobody, within-task, every-mem}
+use Rattle.rules.proofs.Turns.{Valid}
+use Rattle.rules.proofs.Ranks.{rankIn, stands, same-rank, in-front}
+use Rattle.rules.proofs.Tree.{Tree}
+use Rattle.rules.proofs.Shape.{Shape, Moved}
+use Rattle.rules.proofs.Balance.{Balanced, Roomy, missing-is}
+use Rattle.rules.proofs.Activating.{activating-shape, activating-balanced}
+use Rattle.rules.proofs.Branches.{activate-pass, activate-book, activate-stop}
+use Rattle.rules.proofs.Good.{Good, Sized, at-set, at-other, moved-by-set}
+
+-- x waits, and nobody of lower rank does
+pub record FirstWaiting (n : ℕ) (rank st : ℕ → ℕ) (x : ℕ) : Type 0 where
+  pub task : Task n x
+  pub waits : st x ≡ waiting
+  pub first : (j : ℕ) → Task n j → rank j < rank x → st j ≡ waiting → ⊥
+
+-- what booking ahead makes of the books k
+pub record Activated (n : ℕ) (par rank need out : ℕ → ℕ) (bound : ℕ) (k k′ : Books) : Type 0 where
+  pub good : Good n par rank need out bound k′
+  -- only waiting tasks change, and become booked
+  pub kept : (i : ℕ) → Task n i → (at (k .standings) i ≡ waiting → ⊥) → at (k′ .standings) i ≡ at (k .standings) i
+  pub waited : (i : ℕ) → Task n i → at (k .standings) i ≡ waiting → at (k′ .standings) i ≤ activated
+  -- the first that still waits is not allowed
+  pub halted : (x : ℕ) → FirstWaiting n rank (at (k′ .standings)) x → allows n par need bound k′ x ≡ false
+
+module _ (n : ℕ) (par : ℕ → ℕ) (order : List ℕ) (valid : Valid n par order) (tree : Tree n par (rankIn order))
+    (need out : ℕ → ℕ) (roomy : Roomy n par need out) (bound : ℕ) where
+  -- one task booked
+  book-good :
+      (k : Books) (x : ℕ)
+      → Good n par (rankIn order) need out bound k
+      → FirstWaiting n (rankIn order) (at (k .standings)) x
+      → allows n par need bound k x ≡ true
+      → Good n par (rankIn order) need out bound (book n par need k x)
+  unfolding book lacks allows total
+  book-good k x good w a =
+      let t = w .task in
+      let moved = moved-by-set n (k .standings) x activated (good .sized .standings) t in
+      let is : missing n par need (at (k .standings)) (at (k .booked)) x ≡ need x - figure n par (at (k .booked)) x =
+      missing-is n par (rankIn order) tree need out (at (k .standings)) (at (k .booked)) (good .shape) [] 0 (good .books) x t
+      in
+      let granted = at-set n (k .booked) x (at (k .booked) x + lacks n par need k x) (good .sized .booked) t in
+      record {
+        sized =
+            record {
+              standings = length-set (k .standings) x activated ∙ good .sized .standings;
+              booked = length-set (k .booked) x (at (k .booked) x + lacks n par need k x) ∙ good .sized .booked;
+            };
+        shape = activating-shape n par (rankIn order) tree (at (k .standings)) _ (good .shape) x t (w .waits) (w .first) moved;
+        books =
+            activating-balanced n par (rankIn order) tree (at (k .standings)) _ (good .shape) x t (w .waits) (w .first) moved need out
+            (at (k .booked)) _ roomy (good .books) (granted ∙ ap (λ (m : ℕ). at (k .booked) x + m) is)
+            (λ i _ d. at-other (k .booked) x (at (k .booked) x + lacks n par need k x) i d);
+        within =
+            let sum =
+            sum-change (at (k .booked)) (at (book n par need k x .booked)) n x (lacks n par need k x) t granted
+            (λ i _ d. at-other (k .booked) x (at (k .booked) x + lacks n par need k x) i d)
+            in
+            let fits = leb-true (total n (at (k .booked)) + lacks n par need k x) bound a in
+            omega arith;
+      }
+
+  -- who stands in front of the rest of the order, with one more
+  one-more :
+      (pre : List ℕ) (x : ℕ) (k : Books)
+      → ((j : ℕ) → mem j pre ≡ true → at (k .standings) j ≡ waiting → ⊥)
+      → (at (k .standings) x ≡ waiting → ⊥)
+      → (j : ℕ)
+      → mem j (pre ++ (x ∷ [])) ≡ true
+      → at (k .standings) j ≡ waiting
+      → ⊥
+  one-more pre x k busy d j m w =
+      ⊎-elim (λ (e : mem j pre ≡ true). busy j e w)
+      (λ (e : mem j (x ∷ []) ≡ true).
+      ⊎-elim (λ q. d (ap (at (k .standings)) (sym q) ∙ w)) (λ v. nobody j (mem-rest j x [] e v)) (same-or-not j x))
+      (or-cases (mem j pre) (mem j (x ∷ [])) (sym (mem-append j pre (x ∷ [])) ∙ m))
+
+  -- once x is booked nobody in front of the rest waits
+  booked-busy :
+      (pre : List ℕ) (x : ℕ) (k : Books)
+      → Task n x
+      → ((j : ℕ) → mem j pre ≡ true → at (k .standings) j ≡ waiting → ⊥)
+      → Good n par (rankIn order) need out bound k
+      → (j : ℕ)
+      → mem j (pre ++ (x ∷ [])) ≡ true
+      → at (book n par need k x .standings) j ≡ waiting
+      → ⊥
+  unfolding book
+  booked-busy pre x k t busy good =
+      let there = at-set n (k .standings) x activated (good .sized .standings) t in
+      one-more pre x (book n par need k x)
+      (λ j m w.
+      ⊎-elim
+      (λ q. let z : at (set (k .standings) x activated) j ≡ activated = ap (at (set (k .standings) x activated)) q ∙ there in omega arith)
+      (λ d. busy j m (sym (at-other (k .standings) x activated j d) ∙ w))
+      (same-or-not j x))
+      (λ w. omega arith)
+
+  -- what is made of the books with x booked is made of the books before
+  after-book :
+      (x : ℕ) (k : Books) {k′ : Books}
+      → FirstWaiting n (rankIn order) (at (k .standings)) x
+      → Good n par (rankIn order) need out bound k
+      → Activated n par (rankIn order) need out bound (book n par need k x) k′
+      → Activated n par (rankIn order) need out bound k k′
+  unfolding book
+  after-book x k first good done =
+      let there = at-set n (k .standings) x activated (good .sized .standings) (first .task) in
+      record {
+        good = done .good;
+        kept =
+            λ i t d.
+            let i-not : i ≡ x → ⊥ = λ q. d (ap (at (k .standings)) q ∙ first .waits) in
+            let same = at-other (k .standings) x activated i i-not in
+            done .kept i t (λ w. d (sym same ∙ w)) ∙ same;
+        waited =
+            λ i t w.
+            ⊎-elim
+            (λ q.
+            let now : at (set (k .standings) x activated) i ≡ activated =
+            ap (at (set (k .standings) x activated)) q ∙ there
+            in
+            let end = done .kept i t (λ z. omega arith) in
+            omega arith)
+            (λ d. done .waited i t (at-other (k .standings) x activated i d ∙ w))
+            (same-or-not i x);
+        halted = done .halted;
+      }
+
+  -- an entry of the order is a task
+  entry : (pre : List ℕ) (x : ℕ) (later : List ℕ) → order ≡ pre ++ x ∷ later → Task n x
+  entry pre x later e =
+      within-task n x
+      (every-mem (λ i. within i n) order x (valid .inside)
+      (rw e (mem-append x pre (x ∷ later) ∙ or-right (mem x pre) (mem x (x ∷ later)) (mem-here x x later refl))))
+
+  -- two tasks that are first to wait are one
+  first-waiting-one :
+      (st : ℕ → ℕ) (x y : ℕ) → FirstWaiting n (rankIn order) st x → FirstWaiting n (rankIn order) st y → x ≡ y
+  first-waiting-one st x y v w =
+      let low : rankIn order x < rankIn order y → ⊥ = λ h. w .first x (v .task) h (v .waits) in
+      let high : rankIn order y < rankIn order x → ⊥ = λ h. v .first y (w .task) h (w .waits) in
+      same-rank n par order valid x y (v .task) (w .task) (omega arith)
+
+  -- along what is left of the order, where nobody in front waits
+  pub activates :
+      (pre later : List ℕ) (k : Books)
+      → order ≡ pre ++ later
+      → ((j : ℕ) → mem j pre ≡ true → at (k .standings) j ≡ waiting → ⊥)
+      → Good n par (rankIn order) need out bound k
+      → Activated n par (rankIn order) need out bound k (activate n par need bound later k)
+  unfolding activate
+  activates pre [] k e busy good =
+      record {
+        good = good;
+        kept = λ i t d. refl;
+        waited = λ i t w. omega arith;
+        halted =
+            λ x w.
+            absurd (busy x (rw (append-nil pre) at (rw e at (stands n par order valid x (w .task)))) (w .waits));
+      }
+  activates pre (x ∷ later) k e busy good =
+      let rest : order ≡ (pre ++ (x ∷ [])) ++ later = e ∙ sym (append-assoc pre (x ∷ []) later) in
+      ⊎-elim
+      (λ (w : eqb (at (k .standings) x) waiting ≡ true).
+      let waits = eqb-true (at (k .standings) x) waiting w in
+      let t = entry pre x later e in
+      let first : FirstWaiting n (rankIn order) (at (k .standings)) x =
+      record {
+        task = t;
+        waits = waits;
+        first = λ j _ h. busy j (in-front n par order valid pre x later e j h);
+      }
+      in
+      ⊎-elim
+      (λ (a : allows n par need bound k x ≡ true).
+      rw (activate-book n par need bound x later k w a)
+      (after-book x k first good
+      (activates (pre ++ (x ∷ [])) later (book n par need k x) rest (booked-busy pre x k t busy good)
+      (book-good k x good first a))))
+      (λ (a : allows n par need bound k x ≡ false).
+      rw (activate-stop n par need bound x later k w a)
+      (record {
+        good = good;
+        kept = λ i u d. refl;
+        waited = λ i u z. omega arith;
+        halted = λ y v. ap (allows n par need bound k) (first-waiting-one (at (k .standings)) y x v first) ∙ a;
+      }))
+      (decide (allows n par need bound k x)))
+      (λ (w : eqb (at (k .standings) x) waiting ≡ false).
+      rw (activate-pass n par need bound x later k w)
+      (activates (pre ++ (x ∷ [])) later k rest
+      (one-more pre x k busy (eqb-false (at (k .standings) x) waiting w)) good))
+      (decide (eqb (at (k .standings) x) waiting))

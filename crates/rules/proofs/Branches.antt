@@ -1,0 +1,87 @@
+-- The rules' recursions, one equation a branch: no later proof opens them.
+use mathlib.Core.Path.{_≡_, refl, sym, ap, _∙_}
+use mathlib.Core.Bool.{Bool, true, false, _||_}
+use mathlib.Core.List.{List, [], _∷_}
+use Prim.Native.Nat.{ℕ, zero, suc, _+_, _-_}
+use lib.Dec.{eqb}
+use lib.ListN.{set}
+use Rattle.rules.specs.Lists.{at, mem, first}
+use Rattle.rules.specs.Standing.{waiting, running}
+use Rattle.rules.specs.Booking.{Books, Climbed, allows, book, activate, ready, starts, chain, offer, gift, climb, dispatch}
+
+module _ (n : ℕ) (par need : ℕ → ℕ) (bound : ℕ) (i : ℕ) (later : List ℕ) (s : Books) where
+  -- booking ahead passes a task that does not wait, books one that is allowed, and stops at one that is not
+  pub activate-pass :
+      eqb (at (s .standings) i) waiting ≡ false
+      → activate n par need bound (i ∷ later) s ≡ activate n par need bound later s
+  unfolding activate
+  activate-pass e = rw (e, activate)
+
+  pub activate-book :
+      eqb (at (s .standings) i) waiting ≡ true
+      → allows n par need bound s i ≡ true
+      → activate n par need bound (i ∷ later) s ≡ activate n par need bound later (book n par need s i)
+  unfolding activate
+  activate-book e a = rw (e, a, activate)
+
+  pub activate-stop :
+      eqb (at (s .standings) i) waiting ≡ true
+      → allows n par need bound s i ≡ false
+      → activate n par need bound (i ∷ later) s ≡ s
+  unfolding activate
+  activate-stop e a = rw (e, a, activate)
+
+module _ (n : ℕ) (par : ℕ → ℕ) (execution : List ℕ) (free : ℕ) (st : List ℕ) where
+  -- starting stops where nobody is ready, and starts the first that is
+  pub starts-none : first (ready n par st) execution ≡ 0 → starts n par execution (suc free) st ≡ []
+  unfolding starts
+  starts-none e = rw (e, starts)
+
+  pub starts-one :
+      (i : ℕ)
+      → first (ready n par st) execution ≡ suc i
+      → starts n par execution (suc free) st ≡ suc i ∷ starts n par execution free (set st (suc i) running)
+  unfolding starts
+  starts-one i e = rw (e, starts)
+
+module _ (n : ℕ) (par need st : ℕ → ℕ) (i : ℕ) (above : List ℕ) (r : ℕ) (b : List ℕ) where
+  -- a climb stops at a waiting task or with nothing left, and offers to any other
+  pub climb-stop :
+      (eqb (st i) waiting || eqb r 0) ≡ true
+      → climb n par need st (i ∷ above) r b ≡ record { offered = []; left = r; booked = b }
+  unfolding climb
+  climb-stop e = rw (e, climb)
+
+  pub climb-offer :
+      (eqb (st i) waiting || eqb r 0) ≡ false
+      → climb n par need st (i ∷ above) r b
+      ≡ offer i
+      (climb n par need st above (r - gift n par need b i) (set b i (at b i + gift n par need b i)))
+  unfolding climb
+  climb-offer e = rw (e, climb)
+
+-- the first that passes a test
+module _ (test : ℕ → Bool) (x : ℕ) (later : List ℕ) where
+  pub first-here : test x ≡ true → first test (x ∷ later) ≡ x
+  unfolding first
+  first-here e = rw (e, first)
+
+  pub first-later : test x ≡ false → first test (x ∷ later) ≡ first test later
+  unfolding first
+  first-later e = rw (e, first)
+
+-- the booked trays of an ended task, with and without a parent
+module _ (n : ℕ) (par need st out : ℕ → ℕ) (b : List ℕ) (j : ℕ) where
+  pub dispatch-root :
+      eqb (par j) 0 ≡ true
+      → dispatch n par need st out b j ≡ record { offered = []; left = at b j; booked = set b j 0 }
+  unfolding dispatch climb
+  dispatch-root e = rw (e, dispatch)
+
+  pub dispatch-child :
+      eqb (par j) 0 ≡ false
+      → dispatch n par need st out b j
+      ≡ climb n par need st (chain n par (par j)) (at b j - out j)
+      (set (set b j 0) (par j) (at (set b j 0) (par j) + out j))
+  unfolding dispatch
+  dispatch-child e = rw (e, dispatch)

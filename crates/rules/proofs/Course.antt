@@ -1,0 +1,189 @@
+-- Booking ahead and starting, the end of BEGIN and of DONE: what they leave behind.
+use mathlib.Core.Path.{_≡_, refl, sym, ap, _∙_}
+use mathlib.Core.Bool.{Bool, true, false, not, _&&_}
+use mathlib.Core.Logic.{_⊎_, inl, inr, ⊎-elim}
+use mathlib.Core.List.{List, [], _∷_, _++_, map}
+use Prim.Native.Nat.{ℕ, zero, suc, _+_, _-_, _≤_, _<_}
+use native.Mathlib.Omega.{arith}
+use lib.Dec.{eqb, leb}
+use lib.ListN.{length}
+use borrow.Author.Tests.{ne-eqb}
+use Rattle.rules.specs.Sums.{only, sumTo, countTo}
+use Rattle.rules.specs.Lists.{at, mem, every, distinct}
+use Rattle.rules.specs.Grounds.{within}
+use Rattle.rules.specs.Standing.{waiting, activated, running, finished, count}
+use Rattle.rules.specs.Booking.{
+  Books,
+  total,
+  figure,
+  childrenFigure,
+  missing,
+  lacks,
+  allows,
+  activate,
+  ready,
+  starts,
+  start,
+  free,
+}
+use Rattle.rules.specs.Day.{Event, started}
+use Rattle.rules.proofs.Tests.{same-or-not}
+use Rattle.rules.proofs.Sums.{Task, sum-cong}
+use Rattle.rules.proofs.Orders.{all-in, nobody}
+use Rattle.rules.proofs.Turns.{Valid}
+use Rattle.rules.proofs.Ranks.{rankIn}
+use Rattle.rules.proofs.Tree.{Tree}
+use Rattle.rules.proofs.Balance.{Roomy}
+use Rattle.rules.proofs.Good.{Good, Sized}
+use Rattle.rules.proofs.Ahead.{FirstWaiting, Activated, activates}
+use Rattle.rules.proofs.Starts.{
+  Startable,
+  starts-startable,
+  starts-length,
+  starts-halt,
+  start-length,
+  start-count,
+  start-good,
+  start-kind,
+}
+use Rattle.rules.proofs.Log.{Logged, InOrder, logged-same, starts-logged}
+
+-- what a task lacks goes by who has ended
+pub allows-same :
+    (n : ℕ) (par need : ℕ → ℕ) (bound : ℕ) (st st′ b : List ℕ)
+    → ((c : ℕ) → Task n c → eqb (at st′ c) finished ≡ eqb (at st c) finished)
+    → (x : ℕ)
+    → allows n par need bound (record { standings = st′; booked = b }) x
+    ≡ allows n par need bound (record { standings = st; booked = b }) x
+unfolding allows lacks missing childrenFigure
+allows-same n par need bound st st′ b same x =
+    ap (λ (f : ℕ). leb (total n (at b) + (need x - (at b x + f))) bound)
+    (sum-cong (λ c. only (eqb (par c) x && not (eqb (at st′ c) finished)) (figure n par (at b) c))
+    (λ c. only (eqb (par c) x && not (eqb (at st c) finished)) (figure n par (at b) c)) n
+    (λ c t. ap (λ (e : Bool). only (eqb (par c) x && not e) (figure n par (at b) c)) (same c t)))
+
+-- the books between two commands: the first waiting task does not fit, and processors are free only where nobody is ready
+pub record Settled (n : ℕ) (par rank need out : ℕ → ℕ) (bound processors : ℕ) (k : Books) : Type 0 where
+  pub good : Good n par rank need out bound k
+  pub halted : (x : ℕ) → FirstWaiting n rank (at (k .standings)) x → allows n par need bound k x ≡ false
+  pub staffed : count n (at (k .standings)) running ≤ processors
+  pub busy :
+      count n (at (k .standings)) running < processors → (i : ℕ) → Task n i → ready n par (k .standings) i ≡ false
+
+module _ (n : ℕ) (par : ℕ → ℕ) (order : List ℕ) (valid : Valid n par order) (tree : Tree n par (rankIn order))
+    (need out : ℕ → ℕ) (roomy : Roomy n par need out) (bound processors : ℕ) (execution : List ℕ)
+    (inside : every (λ i. within i n) execution ≡ true) (once : distinct execution ≡ true) (whole : length execution ≡ n)
+    (k k₁ : Books) (good : Good n par (rankIn order) need out bound k)
+    (staffed : count n (at (k .standings)) running ≤ processors) (ahead : k₁ ≡ activate n par need bound order k) (l : List ℕ)
+    (begun : l ≡ starts n par execution (free n processors (k₁ .standings)) (k₁ .standings)) where
+  activated-ahead : Activated n par (rankIn order) need out bound k k₁
+  activated-ahead =
+      rw ahead (activates n par order valid tree need out roomy bound [] order k refl (λ j m. absurd (nobody j m)) good)
+
+  -- booking ahead starts and ends nobody
+  same-ahead :
+      (i : ℕ)
+      → Task n i
+      → (at (k₁ .standings) i ≡ at (k .standings) i) ⊎ ((at (k .standings) i ≤ activated) × (at (k₁ .standings) i ≤ activated))
+  same-ahead i t =
+      ⊎-elim (λ w. inr (omega arith, activated-ahead .waited i t w)) (λ d. inl (activated-ahead .kept i t d))
+      (same-or-not (at (k .standings) i) waiting)
+
+  running-ahead : count n (at (k₁ .standings)) running ≡ count n (at (k .standings)) running
+  unfolding count countTo
+  running-ahead =
+      sum-cong (λ i. only (eqb (at (k₁ .standings) i) running) 1) (λ i. only (eqb (at (k .standings) i) running) 1) n
+      (λ i t.
+      ⊎-elim (λ e. ap (λ (v : ℕ). only (eqb v running) 1) e)
+      (λ h.
+      ap (λ (v : Bool). only v 1)
+      (ne-eqb (at (k₁ .standings) i) running (λ q. omega (arith, h .1))
+      ∙ sym (ne-eqb (at (k .standings) i) running (λ q. omega (arith, h .0)))))
+      (same-ahead i t))
+
+  may-start : Startable n par (k₁ .standings) l
+  may-start = rw begun (starts-startable n par execution inside (free n processors (k₁ .standings)) (k₁ .standings))
+
+  sized-ahead : length (k₁ .standings) ≡ suc n
+  sized-ahead = activated-ahead .good .sized .standings
+
+  kind : (i : ℕ) → (at (start l (k₁ .standings)) i ≡ at (k₁ .standings) i)
+      ⊎ ((at (k₁ .standings) i ≡ activated) × (at (start l (k₁ .standings)) i ≡ running))
+  kind = start-kind n par l (k₁ .standings) sized-ahead may-start
+
+  -- so many run then
+  running-then : count n (at (start l (k₁ .standings))) running ≡ count n (at (k .standings)) running + length l
+  running-then =
+      start-count n par l (k₁ .standings) sized-ahead may-start ∙ ap (λ (v : ℕ). v + length l) running-ahead
+
+  within-free : length l ≤ processors - count n (at (k .standings)) running
+  unfolding free
+  within-free =
+      let h = rw (← begun) at (starts-length n par execution inside (free n processors (k₁ .standings)) (k₁ .standings)) in
+      let r = running-ahead in
+      omega arith
+
+  -- starting ends nobody
+  same-ended : (c : ℕ) → Task n c → eqb (at (start l (k₁ .standings)) c) finished ≡ eqb (at (k₁ .standings) c) finished
+  same-ended c _ =
+      ⊎-elim (λ e. ap (λ (v : ℕ). eqb v finished) e)
+      (λ h.
+      ne-eqb (at (start l (k₁ .standings)) c) finished (λ q. omega (arith, h .1))
+      ∙ sym (ne-eqb (at (k₁ .standings) c) finished (λ q. omega (arith, h .0))))
+      (kind c)
+
+  -- who waits afterwards waited after booking ahead, and the other way round
+  waits-before : (i : ℕ) → at (start l (k₁ .standings)) i ≡ waiting → at (k₁ .standings) i ≡ waiting
+  waits-before i w = ⊎-elim (λ e. sym e ∙ w) (λ h. absurd (omega (arith, h .1))) (kind i)
+
+  waits-after : (i : ℕ) → at (k₁ .standings) i ≡ waiting → at (start l (k₁ .standings)) i ≡ waiting
+  waits-after i w = ⊎-elim (λ e. e ∙ w) (λ h. absurd (omega (arith, h .0))) (kind i)
+
+  pub settles :
+      Settled n par (rankIn order) need out bound processors (record { standings = start l (k₁ .standings); booked = k₁ .booked })
+  unfolding free
+  settles =
+      record {
+        good = start-good n par (rankIn order) need out bound l (k₁ .standings) (k₁ .booked) may-start (activated-ahead .good);
+        halted =
+            λ x w.
+            allows-same n par need bound (k₁ .standings) (start l (k₁ .standings)) (k₁ .booked) same-ended x
+            ∙ activated-ahead .halted x
+            (record {
+              task = w .task;
+              waits = waits-before x (w .waits);
+              first = λ j t h v. w .first j t h (waits-after j v);
+            });
+        staffed = (let r = running-then in let f = within-free in omega arith);
+        busy =
+            λ few i t.
+            let r = running-then in
+            let a = running-ahead in
+            let short : length (starts n par execution (free n processors (k₁ .standings)) (k₁ .standings)) < free n processors (k₁ .standings) =
+            rw (← begun) (omega arith)
+            in
+            rw begun
+            (starts-halt n par execution inside (free n processors (k₁ .standings)) (k₁ .standings) short i
+            (all-in n execution inside once whole i t));
+      }
+
+  -- what happened, with the starts
+  pub course-logged :
+      (happened : List Event)
+      → Logged n (at (k .standings)) happened
+      → InOrder n par happened
+      → Logged n (at (start l (k₁ .standings))) (happened ++ map started l) × InOrder n par (happened ++ map started l)
+  course-logged happened logged order =
+      starts-logged n par l (k₁ .standings) happened sized-ahead may-start
+      (logged-same n (at (k .standings)) (at (k₁ .standings)) happened same-ahead logged) order
+
+  -- nobody ends
+  pub course-ends :
+      (i : ℕ) → Task n i → eqb (at (start l (k₁ .standings)) i) finished ≡ eqb (at (k .standings) i) finished
+  course-ends i t =
+      same-ended i t
+      ∙ ⊎-elim (λ e. ap (λ (v : ℕ). eqb v finished) e)
+      (λ h.
+      ne-eqb (at (k₁ .standings) i) finished (λ q. omega (arith, h .1))
+      ∙ sym (ne-eqb (at (k .standings) i) finished (λ q. omega (arith, h .0))))
+      (same-ahead i t)

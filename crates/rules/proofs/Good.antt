@@ -1,0 +1,33 @@
+-- What holds of the books of a day, as lists, between the parts of a command.
+use mathlib.Core.Path.{_≡_, refl, sym, ap, _∙_}
+use mathlib.Core.List.{List}
+use Prim.Native.Nat.{ℕ, zero, suc, _+_, _≤_, _<_}
+use native.Mathlib.Omega.{arith}
+use lib.ListN.{length, getD, set, length-set}
+use lib.Seq.{getD-set-same, getD-set-other}
+use Rattle.rules.specs.Lists.{at}
+use Rattle.rules.specs.Booking.{Books, total}
+use Rattle.rules.proofs.Sums.{Task}
+use Rattle.rules.proofs.Shape.{Shape, Moved}
+use Rattle.rules.proofs.Balance.{Balanced}
+
+-- both lists have an entry for each task, and one for nobody
+pub record Sized (n : ℕ) (k : Books) : Type 0 where
+  pub standings : length (k .standings) ≡ suc n
+  pub booked : length (k .booked) ≡ suc n
+
+pub record Good (n : ℕ) (par rank need out : ℕ → ℕ) (bound : ℕ) (k : Books) : Type 0 where
+  pub sized : Sized n k
+  pub shape : Shape n par rank (at (k .standings))
+  pub books : Balanced n par need out (at (k .standings)) (at (k .booked))
+  pub within : total n (at (k .booked)) ≤ bound
+
+-- an entry that is set, and the others
+pub at-set : (n : ℕ) (l : List ℕ) (i v : ℕ) → length l ≡ suc n → Task n i → at (set l i v) i ≡ v
+at-set n l i v e t = getD-set-same l i v 0 (omega arith)
+
+pub at-other : (l : List ℕ) (i v k : ℕ) → (k ≡ i → ⊥) → at (set l i v) k ≡ at l k
+at-other l i v k d = getD-set-other l i k v 0 d
+
+pub moved-by-set : (n : ℕ) (l : List ℕ) (i v : ℕ) → length l ≡ suc n → Task n i → Moved n (at l) (at (set l i v)) i v
+moved-by-set n l i v e t = record { there = at-set n l i v e t; elsewhere = λ k _ d. at-other l i v k d }

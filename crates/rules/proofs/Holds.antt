@@ -1,0 +1,256 @@
+-- What is promised of a day follows from what is kept of it.
+use mathlib.Core.Path.{_≡_, refl, sym, ap, ap₂, subst, _∙_}
+use mathlib.Core.Bool.{Bool, true, false, not, _&&_}
+use mathlib.Core.Logic.{_↔_, _⊎_, inl, inr, ⊎-elim}
+use mathlib.Core.List.{List, [], _∷_, _++_}
+use Prim.Native.Nat.{ℕ, zero, suc, _+_, _≤_, _<_}
+use native.Mathlib.Omega.{arith}
+use lib.Dec.{eqb, leb}
+use lib.ListN.{length}
+use borrow.Author.Tests.{eqb-true, eqb-false, eq-eqb, ne-eqb, leb-true, le-leb, lt-leb, not-true}
+use Rattle.rules.specs.Sums.{only, sumTo, countTo}
+use Rattle.rules.specs.Lists.{at, mem}
+use Rattle.rules.specs.Need.{need, resident}
+use Rattle.rules.specs.Need
+use Rattle.rules.specs.Phase
+use Rattle.rules.specs.Standing.{waiting, activated, running, finished, count}
+use Rattle.rules.specs.State.{State, needs}
+use Rattle.rules.specs.Grounds.{within, peakOf}
+use Rattle.rules.specs.Booking.{total, lacks, allows, ready, fed}
+use Rattle.rules.specs.Question
+use Rattle.rules.specs.Day.{Event, starts, ends}
+use Rattle.rules.specs.Theorem.{runs, usedBy, DayHolds}
+use Rattle.rules.proofs.Tests.{decide, clash, same-or-not, and-true, and-both, or-right}
+use Rattle.rules.proofs.Sums.{Task, sum-cong, sum-le, sum-zero, counted, none-counted, count-le, count-all, only-le, only-mono, only-true, only-false}
+use Rattle.rules.proofs.Counts.{count-full}
+use Rattle.rules.proofs.Orders.{mem-here, mem-append, sum-members, sum-length, within-task, every-mem}
+use Rattle.rules.proofs.Peaks.{resident-cong}
+use Rattle.rules.proofs.Ranks.{rankIn, stands}
+use Rattle.rules.proofs.Tree.{Tree, parent-task}
+use Rattle.rules.proofs.Roots.{some-root}
+use Rattle.rules.proofs.Balance.{running-holds-need}
+use Rattle.rules.proofs.Usage.{hasEnded, hasBegun, in-use-within}
+use Rattle.rules.proofs.Progress.{Stuck, waits-or-ended}
+use Rattle.rules.proofs.Waiting.{Found, first-waiting, found-first, found-fits}
+use Rattle.rules.proofs.Starts.{children-fed}
+use Rattle.rules.proofs.Log.{Logged}
+use Rattle.rules.proofs.InDay.{Closing, open-day, closed, InDay, needs-roomy, tree}
+
+-- begun and not ended is running
+between : (v : ℕ) → v ≤ finished → (leb running v && not (eqb v finished)) ≡ eqb v running
+between v h =
+    ⊎-elim (λ (e : v ≡ running). rw e)
+    (λ d.
+    ⊎-elim (λ (e : v ≡ finished). rw e)
+    (λ c. rw (lt-leb running v (omega arith), ne-eqb v running d))
+    (same-or-not v finished))
+    (same-or-not v running)
+
+module _ (s : State) (happened : List Event) (day : InDay s happened) where
+  -- the reports are those that have ended
+  reports : length (ends happened) ≡ count (s .size) (at (s .standings)) finished
+  unfolding count countTo
+  reports =
+      sym (sum-length (ends happened))
+      ∙ sum-members (λ _. 1) (s .size) (ends happened) (day .logged .inside) (day .logged .apart)
+      ∙ sum-cong (λ i. only (mem i (ends happened)) 1) (λ i. only (eqb (at (s .standings) i) finished) 1) (s .size)
+      (λ i t. ap (λ (b : Bool). only b 1) (day .logged .done i t))
+
+  -- a task runs by what happened just where its standing says so
+  runs-is : (i : ℕ) → Task (s .size) i → runs happened i ≡ eqb (at (s .standings) i) running
+  unfolding runs
+  runs-is i t =
+      ap₂ (λ (a b : Bool). a && not b) (day .logged .begun i t) (day .logged .done i t)
+      ∙ between (at (s .standings) i) (day .settled .good .shape .four i t)
+
+  -- where nobody runs, nobody can start: processors are free
+  stuck : count (s .size) (at (s .standings)) running ≡ 0 → Stuck (s .size) (at (s .parents)) (at (s .standings))
+  unfolding count ready
+  stuck none =
+      record {
+        idle =
+            λ i t e.
+            clash (eq-eqb (at (s .standings) i) running e)
+            (none-counted (λ k. eqb (at (s .standings) k) running) (s .size) none i t);
+        unfed =
+            λ i t e children.
+            let p = day .planned .staffed in
+            clash
+            (and-both (eqb (at (s .standings) i) activated) (fed (s .size) (at (s .parents)) (at (s .standings)) i)
+            (eq-eqb (at (s .standings) i) activated e)
+            (children-fed (s .size) (at (s .parents)) (at (s .standings)) i children))
+            (day .settled .busy (omega arith) i t);
+      }
+
+  -- then the first waiting task would fit, and it does not; so all have ended
+  stuck-at : count (s .size) (at (s .standings)) running ≡ 0 → Found (at (s .standings)) (s .activation) → ⊥
+  unfolding allows lacks peakOf
+  stuck-at none found =
+      let n = s .size in
+      let valid = day .planned .valid in
+      let t = tree s (day .planned) in
+      let shape = day .settled .good .shape in
+      let task : Task (s .size) (found .x) =
+      within-task (s .size) (found .x)
+      (every-mem (λ i. within i (s .size)) (s .activation) (found .x) (valid .inside)
+      (ap (mem (found .x)) (found .whole)
+      ∙ mem-append (found .x) (found .pre) (found .x ∷ found .post)
+      ∙ or-right (mem (found .x) (found .pre)) (mem (found .x) (found .x ∷ found .post))
+      (mem-here (found .x) (found .x) (found .post) refl)))
+      in
+      let first = found-first (s .size) (at (s .parents)) (s .activation) valid t (at (s .standings)) shape found task in
+      let fits =
+      found-fits (s .size) (at (s .parents)) (s .activation) valid t (at (s .standings)) shape found task (stuck none)
+      (at (s .memory .works)) (at (s .memory .outs)) (at (s .memory .booked)) (needs-roomy s) (day .settled .good .books)
+      in
+      let bound = day .planned .fits in
+      clash (le-leb _ (s .memory .bound) (omega arith)) (day .settled .halted (found .x) first)
+
+  nobody-runs : count (s .size) (at (s .standings)) running ≡ 0 → (i : ℕ) → Task (s .size) i → at (s .standings) i ≡ finished
+  nobody-runs none i t =
+      ⊎-elim (λ found. absurd (stuck-at none found))
+      (λ busy.
+      waits-or-ended (s .size) (at (s .parents)) (rankIn (s .activation)) (tree s (day .planned)) (at (s .standings))
+      (day .settled .good .shape) (stuck none) i t
+      (busy i (stands (s .size) (at (s .parents)) (s .activation) (day .planned .valid) i t)))
+      (first-waiting (at (s .standings)) (s .activation))
+
+  -- all have ended just where the reports are n
+  all-ended : length (ends happened) ≡ s .size → (i : ℕ) → Task (s .size) i → at (s .standings) i ≡ finished
+  unfolding count
+  all-ended e i t =
+      eqb-true (at (s .standings) i) finished
+      (count-full (λ k. eqb (at (s .standings) k) finished) (s .size) (sym reports ∙ e) i t)
+
+  ended-all : ((i : ℕ) → Task (s .size) i → at (s .standings) i ≡ finished) → length (ends happened) ≡ s .size
+  unfolding count
+  ended-all h =
+      reports ∙ count-all (λ k. eqb (at (s .standings) k) finished) (s .size) (λ i t. eq-eqb (at (s .standings) i) finished (h i t))
+
+  -- "some step is running exactly while fewer than n of the day's reports were accepted"
+  going : ((i : ℕ) × Task (s .size) i × (runs happened i ≡ true)) ↔ (length (ends happened) < s .size)
+  unfolding count
+  going = (
+    (λ k.
+        let most : length (ends happened) ≤ s .size =
+        (let c = count-le (λ i. eqb (at (s .standings) i) finished) (s .size) in let r = reports in omega arith)
+        in
+        let not-all : length (ends happened) ≡ s .size → ⊥ =
+        λ e.
+        let over = all-ended e (k .0) (k .1) in
+        let busy = eqb-true (at (s .standings) (k .0)) running (sym (runs-is (k .0) (k .1)) ∙ k .2) in
+        omega arith
+        in
+        omega arith),
+    (λ few.
+        let some : 1 ≤ countTo (λ i. eqb (at (s .standings) i) running) (s .size) =
+        ⊎-elim
+        (λ (none : countTo (λ i. eqb (at (s .standings) i) running) (s .size) ≡ 0).
+        let e = ended-all (nobody-runs none) in absurd (omega arith))
+        (λ d. omega arith)
+        (same-or-not (countTo (λ i. eqb (at (s .standings) i) running) (s .size)) 0)
+        in
+        let k = counted (λ i. eqb (at (s .standings) i) running) (s .size) some in
+        (k .0, k .1, runs-is (k .0) (k .1) ∙ k .2)),
+  )
+
+  -- "the phase is over then and only then"
+  over : (s .phase ≡ Phase.over) ↔ (length (ends happened) ≡ s .size)
+  over = by-closing (day .closing)
+    where
+      by-closing : Closing s → (s .phase ≡ Phase.over) ↔ (length (ends happened) ≡ s .size)
+      by-closing (open-day p h) = (
+        (λ e. absurd (omega arith)),
+        (λ e.
+            let r = some-root (s .size) (at (s .parents)) (day .planned .rooted) in
+            absurd (h (r .0) (r .1) (r .2) (all-ended e (r .0) (r .1)))),
+      )
+      by-closing (closed p h) = ((λ _. ended-all h), (λ _. p))
+
+  -- in use, by what happened and by the standings
+  used-is :
+      usedBy s happened
+      ≡ Need.inUse (s .size) (at (s .parents)) (at (s .memory .works)) (at (s .memory .outs)) (hasEnded (at (s .standings)))
+      (hasBegun (at (s .standings)))
+  unfolding usedBy Need.inUse
+  used-is =
+      let t = tree s (day .planned) in
+      ap₂ (λ (a b : ℕ). a + b)
+      (sum-cong (λ i. only (mem i (starts happened) && not (mem i (ends happened))) (needs s i))
+      (λ i. only (hasBegun (at (s .standings)) i && not (hasEnded (at (s .standings)) i)) (needs s i)) (s .size)
+      (λ i u.
+      ap₂ (λ (a b : Bool). only (a && not b) (needs s i)) (day .logged .begun i u) (day .logged .done i u)))
+      (resident-cong (s .size) (at (s .parents)) (at (s .memory .outs)) (λ i. mem i (ends happened)) (hasEnded (at (s .standings)))
+      (λ i. mem i (starts happened)) (hasBegun (at (s .standings))) (λ i u. day .logged .done i u)
+      (λ i u d.
+      day .logged .begun (at (s .parents) i) (parent-task (s .size) (at (s .parents)) (rankIn (s .activation)) t i u d)))
+
+  in-use-booked :
+      Need.inUse (s .size) (at (s .parents)) (at (s .memory .works)) (at (s .memory .outs)) (hasEnded (at (s .standings)))
+      (hasBegun (at (s .standings)))
+      ≤ total (s .size) (at (s .memory .booked))
+  in-use-booked =
+      in-use-within (s .size) (at (s .parents)) (rankIn (s .activation)) (tree s (day .planned)) (at (s .memory .works))
+      (at (s .memory .outs)) (at (s .standings)) (at (s .memory .booked)) (day .settled .good .shape) (day .settled .good .books)
+
+  -- at the end nothing is booked
+  nothing-booked : ((i : ℕ) → Task (s .size) i → at (s .standings) i ≡ finished) → total (s .size) (at (s .memory .booked)) ≡ 0
+  unfolding total
+  nothing-booked h =
+      sum-zero (at (s .memory .booked)) (s .size) (λ i t. day .settled .good .books .empty i t (h i t))
+
+  used : Question.inUse s ≡ usedBy s happened
+  unfolding Question.inUse Question.isRunning
+  used = by-closing (day .closing)
+    where
+      by-closing : Closing s → Question.inUse s ≡ usedBy s happened
+      by-closing (open-day p h) = only-true (eqb (s .phase) Phase.running) _ (eq-eqb (s .phase) Phase.running p) ∙ sym used-is
+      by-closing (closed p h) =
+          only-false (eqb (s .phase) Phase.running) _ (ne-eqb (s .phase) Phase.running (λ q. omega arith))
+          ∙ (let u = used-is in let w = in-use-booked in let z = nothing-booked h in omega arith)
+
+  -- "trays in use never exceed trays booked, nor booked trays the cold room's places"
+  covered : Question.inUse s ≤ Question.booked s
+  unfolding Question.inUse Question.booked
+  covered = only-mono (Question.isRunning s) _ (total (s .size) (at (s .memory .booked))) (λ _. in-use-booked)
+
+  within-bound : Question.booked s ≤ s .memory .bound
+  unfolding Question.booked
+  within-bound =
+      let o = only-le (Question.isRunning s) (total (s .size) (at (s .memory .booked))) in
+      let w = day .settled .good .within in
+      omega arith
+
+  staffed : countTo (runs happened) (s .size) ≤ s .processors
+  unfolding countTo count
+  staffed =
+      let same =
+      sum-cong (λ i. only (runs happened i) 1) (λ i. only (eqb (at (s .standings) i) running) 1) (s .size)
+      (λ i t. ap (λ (b : Bool). only b 1) (runs-is i t))
+      in
+      let few = day .settled .staffed in
+      omega arith
+
+  pub day-holds : DayHolds s happened
+  day-holds =
+      record {
+        once = day .order .once;
+        fed = day .order .fed;
+        going = going;
+        complete =
+            λ e i t.
+            let over = all-ended e i t in (
+              day .logged .begun i t ∙ le-leb running (at (s .standings) i) (omega arith),
+              day .logged .done i t ∙ eq-eqb (at (s .standings) i) finished over,
+            );
+        over = over;
+        used = used;
+        covered = covered;
+        within = within-bound;
+        staffed = staffed;
+        exact =
+            λ i t r.
+            running-holds-need (s .size) (at (s .parents)) (rankIn (s .activation)) (tree s (day .planned)) (needs s)
+            (at (s .memory .outs)) (at (s .standings)) (at (s .memory .booked)) (day .settled .good .shape)
+            (day .settled .good .books) i t (eqb-true (at (s .standings) i) running (sym (runs-is i t) ∙ r));
+      }

@@ -1,0 +1,231 @@
+-- A plan in its day: what holds after an accepted BEGIN and after each accepted DONE.
+use mathlib.Core.Path.{_≡_, refl, sym, ap, subst, _∙_}
+use mathlib.Core.Bool.{Bool, true, false, not, cond, _&&_}
+use mathlib.Core.Logic.{_⊎_, inl, inr, ⊎-elim}
+use mathlib.Core.List.{List, [], _∷_, _++_, map, append-assoc}
+use Prim.Native.Nat.{ℕ, zero, suc, _+_, _-_, _≤_, _<_}
+use native.Mathlib.Omega.{arith}
+use lib.Dec.{eqb, leb}
+use lib.ListN.{length, set, length-set, replicate, length-replicate, getD-replicate}
+use borrow.Author.Tests.{eqb-true, eqb-false, eq-eqb, ne-eqb, leb-true}
+use Rattle.rules.specs.Sums.{only, sumTo, countTo}
+use Rattle.rules.specs.Lists.{at, mem, every, distinct}
+use Rattle.rules.specs.Need.{childrenOut, need}
+use Rattle.rules.specs.Peak.{roots, ordered}
+use Rattle.rules.specs.Phase
+use Rattle.rules.specs.Standing.{waiting, activated, running, finished, count}
+use Rattle.rules.specs.State.{State, needs}
+use Rattle.rules.specs.Command.{Command, begin, done}
+use Rattle.rules.specs.Grounds.{inTurn, inLimits, within, demand, peakOf, ownGround}
+use Rattle.rules.specs.Booking.{Books, total, activate, starts, start, free, dispatch}
+use Rattle.rules.specs.Obey.{
+  withBooks,
+  ahead,
+  begun,
+  proceed,
+  fresh,
+  endedStandings,
+  shared,
+  ended,
+  phaseAfter,
+  obey,
+}
+use Rattle.rules.specs.Day.{Event, started}
+use Rattle.rules.specs.Day
+use Rattle.rules.proofs.Tests.{decide, clash, same-or-not, and-true}
+use Rattle.rules.proofs.Sums.{Task, sum-change, sum-zero, only-true, only-false}
+use Rattle.rules.proofs.Orders.{within-task}
+use Rattle.rules.proofs.Turns.{Valid}
+use Rattle.rules.proofs.Ranks.{rankIn, tree-of}
+use Rattle.rules.proofs.Tree.{Tree}
+use Rattle.rules.proofs.Children.{children, children-out, children-zero}
+use Rattle.rules.proofs.Shape.{Shape}
+use Rattle.rules.proofs.Balance.{Balanced, Roomy, arrived}
+use Rattle.rules.proofs.Good.{Good, Sized, at-set, at-other}
+use Rattle.rules.proofs.Sharing.{sharing-good}
+use Rattle.rules.proofs.Course.{Settled, settles, course-logged, course-ends}
+use Rattle.rules.proofs.Log.{Logged, InOrder, nothing-logged, nothing-in-order, ended-logged, ended-in-order}
+use Rattle.rules.proofs.Formed.{Formed, Accepted, demand-none, with-books-formed}
+
+-- the plan as BEGIN found it in order, and the bound in force above its peak
+pub record Planned (s : State) : Type 0 where
+  pub formed : Formed s
+  pub valid : Valid (s .size) (at (s .parents)) (s .activation)
+  pub executed : length (s .execution) ≡ s .size
+  pub rooted : roots (s .size) (at (s .parents)) ≡ 1
+  pub staffed : 1 ≤ s .processors
+  pub fits : peakOf s ≤ s .memory .bound
+
+-- the books of a plan
+abbrev pub booksOf : State → Books
+booksOf s = record { standings = s .standings; booked = s .memory .booked }
+
+-- the root has not ended, or all have
+pub data Closing (s : State) : Type 0 where
+  open-day :
+      s .phase ≡ Phase.running
+      → ((r : ℕ) → Task (s .size) r → at (s .parents) r ≡ 0 → at (s .standings) r ≡ finished → ⊥)
+      → Closing s
+  closed : s .phase ≡ Phase.over → ((i : ℕ) → Task (s .size) i → at (s .standings) i ≡ finished) → Closing s
+
+pub record InDay (s : State) (happened : List Event) : Type 0 where
+  pub planned : Planned s
+  pub settled :
+      Settled (s .size) (at (s .parents)) (rankIn (s .activation)) (needs s) (at (s .memory .outs)) (s .memory .bound)
+      (s .processors) (booksOf s)
+  pub logged : Logged (s .size) (at (s .standings)) happened
+  pub order : InOrder (s .size) (at (s .parents)) happened
+  pub closing : Closing s
+
+-- the needs leave room for the children's outs and the own out
+pub needs-roomy : (s : State) → Roomy (s .size) (at (s .parents)) (needs s) (at (s .memory .outs))
+unfolding need
+needs-roomy s i t =
+    let c = children-out (s .size) (at (s .parents)) (at (s .memory .outs)) i in
+    omega arith
+
+-- a planned plan is a tree by the places of its activation order
+pub tree : (s : State) → Planned s → Tree (s .size) (at (s .parents)) (rankIn (s .activation))
+tree s p = tree-of (s .size) (at (s .parents)) (s .activation) (p .valid) (λ i _. p .formed .parents i)
+
+-- the first day of the books: nobody has begun, and nothing is booked
+fresh-at : (n i : ℕ) → Task n i → at (replicate (suc n) 0) i ≡ 0
+fresh-at n i t = getD-replicate (suc n) i 0 0 (omega arith)
+
+pub fresh-good :
+    (n : ℕ) (par rank need out : ℕ → ℕ) (bound : ℕ) → Good n par rank need out bound (fresh n)
+unfolding fresh total arrived
+fresh-good n par rank need out bound =
+    record {
+      sized = record { standings = length-replicate (suc n) waiting; booked = length-replicate (suc n) 0 };
+      shape =
+          record {
+            behind = λ i j t u h w. fresh-at n j u;
+            fed = λ i c t u e r. let z = fresh-at n i t in absurd (omega arith);
+            four = λ i t. let z = fresh-at n i t in omega arith;
+          };
+      books =
+          record {
+            waits =
+                λ i t w.
+                fresh-at n i t
+                ∙ sym
+                (children-zero n par (λ c. only (eqb (at (replicate (suc n) waiting) c) finished) (out c)) i
+                (λ c u _.
+                only-false (eqb (at (replicate (suc n) waiting) c) finished) (out c)
+                (let z = fresh-at n c u in ne-eqb (at (replicate (suc n) waiting) c) finished (λ q. omega arith))));
+            keeps = λ i t a. let z = fresh-at n i t in absurd (omega arith);
+            covered = λ i t a. let z = fresh-at n i t in absurd (omega arith);
+            capped = λ i t a. let z = fresh-at n i t in absurd (omega arith);
+            empty = λ i t e. fresh-at n i t;
+          };
+      within =
+          (let z : sumTo (at (replicate (suc n) 0)) n ≡ 0 = sum-zero (at (replicate (suc n) 0)) n (λ i t. fresh-at n i t) in omega arith);
+    }
+
+-- everybody waits, and nobody runs
+pub fresh-waits : (n i : ℕ) → Task n i → at (fresh n .standings) i ≡ waiting
+unfolding fresh
+fresh-waits = fresh-at
+
+pub fresh-idle : (n : ℕ) → count n (at (fresh n .standings)) running ≡ 0
+unfolding fresh count countTo
+fresh-idle n =
+    sum-zero (λ i. only (eqb (at (replicate (suc n) waiting) i) running) 1) n
+    (λ i t.
+    only-false (eqb (at (replicate (suc n) waiting) i) running) 1
+    (let z = fresh-at n i t in ne-eqb (at (replicate (suc n) waiting) i) running (λ q. omega arith)))
+
+-- what BEGIN's checks give
+pub begin-planned : (s : State) → Formed s → Accepted s begin → Planned s
+unfolding inTurn ownGround
+begin-planned s formed a =
+    let turn =
+    and-true (eqb (s .phase) Phase.orders && eqb (length (s .activation)) (s .size))
+    (eqb (length (s .execution)) (s .size)) (a .turn)
+    in
+    let early = and-true (eqb (s .phase) Phase.orders) (eqb (length (s .activation)) (s .size)) (turn .0) in
+    let seven =
+    demand-none (eqb (roots (s .size) (at (s .parents))) 1) 7
+    (demand (ordered (at (s .parents)) (s .activation)) 8 (demand (leb (peakOf s) (s .memory .bound)) 9 0))
+    (λ q. omega arith) (a .own)
+    in
+    let eight =
+    demand-none (ordered (at (s .parents)) (s .activation)) 8 (demand (leb (peakOf s) (s .memory .bound)) 9 0)
+    (λ q. omega arith) (seven .1)
+    in
+    let nine = demand-none (leb (peakOf s) (s .memory .bound)) 9 0 (λ q. omega arith) (eight .1) in
+    let phase = eqb-true (s .phase) Phase.orders (early .0) in
+    record {
+      formed = formed;
+      valid =
+          record {
+            inside = formed .activation-inside;
+            once = formed .activation-once;
+            whole = eqb-true (length (s .activation)) (s .size) (early .1);
+            upward = eight .0;
+          };
+      executed = eqb-true (length (s .execution)) (s .size) (turn .1);
+      rooted = eqb-true (roots (s .size) (at (s .parents))) 1 (seven .0);
+      staffed = formed .staffed (λ z. omega arith);
+      fits = leb-true (peakOf s) (s .memory .bound) (nine .0);
+    }
+
+-- the plan itself stays as it was in its day
+pub books-planned :
+    (s : State) (phase : ℕ) (st b : List ℕ) → Planned s → Planned (withBooks s phase st b)
+unfolding withBooks peakOf
+books-planned s phase st b p =
+    record {
+      formed = with-books-formed s phase st b (p .staffed) (p .formed);
+      valid = p .valid;
+      executed = p .executed;
+      rooted = p .rooted;
+      staffed = p .staffed;
+      fits = p .fits;
+    }
+
+-- booking ahead and starting, from books in which what holds of the day is kept
+module _ (s : State) (p : Planned s) (phase : ℕ) (k : Books) (peak offers : ℕ)
+    (good : Good (s .size) (at (s .parents)) (rankIn (s .activation)) (needs s) (at (s .memory .outs)) (s .memory .bound) k)
+    (few : count (s .size) (at (k .standings)) running ≤ s .processors) where
+  -- nobody ends there
+  pub proceed-ends :
+      (i : ℕ)
+      → Task (s .size) i
+      → eqb (at (proceed s phase k peak offers .state .standings) i) finished ≡ eqb (at (k .standings) i) finished
+  unfolding proceed withBooks ahead begun
+  proceed-ends =
+      course-ends (s .size) (at (s .parents)) (s .activation) (p .valid) (tree s p) (needs s) (at (s .memory .outs)) (needs-roomy s)
+      (s .memory .bound) (s .processors) (s .execution) (p .formed .execution-inside) (p .formed .execution-once) (p .executed) k
+      (ahead s k) good few refl (begun s (ahead s k)) refl
+
+  pub proceed-settled :
+      Settled (s .size) (at (s .parents)) (rankIn (s .activation)) (needs s) (at (s .memory .outs)) (s .memory .bound)
+      (s .processors) (booksOf (proceed s phase k peak offers .state))
+  unfolding proceed withBooks ahead begun
+  proceed-settled =
+      settles (s .size) (at (s .parents)) (s .activation) (p .valid) (tree s p) (needs s) (at (s .memory .outs)) (needs-roomy s)
+      (s .memory .bound) (s .processors) (s .execution) (p .formed .execution-inside) (p .formed .execution-once) (p .executed) k
+      (ahead s k) good few refl (begun s (ahead s k)) refl
+
+  pub proceed-in-day :
+      (happened : List Event)
+      → Logged (s .size) (at (k .standings)) happened
+      → InOrder (s .size) (at (s .parents)) happened
+      → Closing (proceed s phase k peak offers .state)
+      → InDay (proceed s phase k peak offers .state) (happened ++ map started (proceed s phase k peak offers .started))
+  unfolding proceed withBooks ahead begun
+  proceed-in-day happened logged order closing =
+      let log =
+      course-logged (s .size) (at (s .parents)) (s .activation) (p .valid) (tree s p) (needs s) (at (s .memory .outs))
+      (needs-roomy s) (s .memory .bound) (s .processors) (s .execution) (p .formed .execution-inside)
+      (p .formed .execution-once) (p .executed) k (ahead s k) good few refl (begun s (ahead s k)) refl happened logged order
+      in
+      record {
+        planned = books-planned s phase _ _ p;
+        settled = proceed-settled;
+        logged = log .0;
+        order = log .1;
+        closing = closing;
+      }

@@ -1,0 +1,290 @@
+-- Laws of what happens in a day: starts and ends in order, and how they agree with the standings.
+use mathlib.Core.Path.{_≡_, refl, sym, ap, subst, _∙_}
+use mathlib.Core.Bool.{Bool, true, false, _||_}
+use mathlib.Core.Logic.{_⊎_, inl, inr, ⊎-elim}
+use mathlib.Core.List.{List, [], _∷_, _++_, map, append-nil, append-assoc}
+use Prim.Native.Nat.{ℕ, zero, suc, _+_, _≤_, _<_}
+use native.Mathlib.Omega.{arith}
+use lib.Dec.{eqb, leb}
+use lib.ListN.{length, set, length-set, length-append}
+use borrow.Author.Tests.{eq-eqb, ne-eqb, le-leb, lt-leb, leb-true}
+use Rattle.rules.specs.Lists.{at, mem, every, distinct}
+use Rattle.rules.specs.Grounds.{within}
+use Rattle.rules.specs.Standing.{activated, running, finished}
+use Rattle.rules.specs.Booking.{start}
+use Rattle.rules.specs.Day.{Event, started, ended, starts, ends}
+use Rattle.rules.proofs.Tests.{same-or-not, or-right, or-none, and-both}
+use Rattle.rules.proofs.Sums.{Task}
+use Rattle.rules.proofs.Orders.{mem-append, mem-here, mem-later, mem-none, every-append, distinct-snoc, task-within}
+use Rattle.rules.proofs.Good.{at-set, at-other}
+use Rattle.rules.proofs.Starts.{Startable}
+
+-- starts and ends of what happens one after the other
+pub starts-append : (l m : List Event) → starts (l ++ m) ≡ starts l ++ starts m
+unfolding starts
+starts-append [] m = refl
+starts-append (started i ∷ l) m = ap (λ (k : List ℕ). i ∷ k) (starts-append l m)
+starts-append (ended i ∷ l) m = starts-append l m
+
+pub ends-append : (l m : List Event) → ends (l ++ m) ≡ ends l ++ ends m
+unfolding ends
+ends-append [] m = refl
+ends-append (started i ∷ l) m = ends-append l m
+ends-append (ended i ∷ l) m = ap (λ (k : List ℕ). i ∷ k) (ends-append l m)
+
+-- where an event of a longer list stands: in the list before, or it is the new one
+pub data Where (old : List Event) (new : Event) (earlier : List Event) (x : Event) : Type 0 where
+  last : earlier ≡ old → x ≡ new → Where old new earlier x
+  before : (later : List Event) → old ≡ earlier ++ x ∷ later → Where old new earlier x
+
+pub snoc-where :
+    (old : List Event) (new : Event) (earlier : List Event) (x : Event) (later : List Event)
+    → old ++ (new ∷ []) ≡ earlier ++ x ∷ later
+    → Where old new earlier x
+snoc-where [] new [] x later e = last refl cc
+snoc-where [] new (y ∷ earlier) x later e = absurd (never earlier (cc))
+  where
+    never : (l : List Event) → [] ≡ l ++ x ∷ later → ⊥
+    never [] q = let z : _≡_ {A = ℕ} 0 1 = cc in omega arith
+    never (w ∷ l) q = let z : _≡_ {A = ℕ} 0 1 = cc in omega arith
+snoc-where (o ∷ old) new [] x later e = before old (let h : o ≡ x = cc in ap (λ (v : Event). v ∷ old) h)
+snoc-where (o ∷ old) new (y ∷ earlier) x later e =
+    let head : o ≡ y = cc in
+    let tail : old ++ (new ∷ []) ≡ earlier ++ x ∷ later = cc in
+    go head (snoc-where old new earlier x later tail)
+  where
+    go : o ≡ y → Where old new earlier x → Where (o ∷ old) new (y ∷ earlier) x
+    go h (last p q) = last (let r : y ∷ earlier ≡ o ∷ old = cc in r) q
+    go h (before l p) = before l (let r : o ∷ old ≡ y ∷ (earlier ++ x ∷ l) = cc in r)
+
+-- each start is the first of its task, and comes after the ends of all that feed it
+pub record InOrder (n : ℕ) (par : ℕ → ℕ) (happened : List Event) : Type 0 where
+  pub once :
+      (earlier later : List Event) (i : ℕ) → happened ≡ earlier ++ started i ∷ later → mem i (starts earlier) ≡ false
+  pub fed :
+      (earlier later : List Event) (i : ℕ)
+      → happened ≡ earlier ++ started i ∷ later
+      → (c : ℕ)
+      → Task n c
+      → par c ≡ i
+      → mem c (ends earlier) ≡ true
+
+module _ (n : ℕ) (par : ℕ → ℕ) where
+  pub nothing-in-order : InOrder n par []
+  nothing-in-order = record { once = λ e l i q. absurd (never e l i q); fed = λ e l i q. absurd (never e l i q) }
+    where
+      never : (earlier later : List Event) (i : ℕ) → [] ≡ earlier ++ started i ∷ later → ⊥
+      never [] later i q = let z : _≡_ {A = ℕ} 0 1 = cc in omega arith
+      never (w ∷ l) later i q = let z : _≡_ {A = ℕ} 0 1 = cc in omega arith
+
+  -- an end may come at any time
+  pub ended-in-order : (old : List Event) (j : ℕ) → InOrder n par old → InOrder n par (old ++ (ended j ∷ []))
+  ended-in-order old j h =
+      record {
+        once = λ e l i q. once-there e i (snoc-where old (ended j) e (started i) l q);
+        fed = λ e l i q. fed-there e i (snoc-where old (ended j) e (started i) l q);
+      }
+    where
+      once-there : (e : List Event) (i : ℕ) → Where old (ended j) e (started i) → mem i (starts e) ≡ false
+      once-there e i (last p q) = let z : _≡_ {A = ℕ} 0 1 = cc in absurd (omega arith)
+      once-there e i (before l p) = h .once e l i p
+
+      fed-there :
+          (e : List Event) (i : ℕ)
+          → Where old (ended j) e (started i)
+          → (c : ℕ)
+          → Task n c
+          → par c ≡ i
+          → mem c (ends e) ≡ true
+      fed-there e i (last p q) = let z : _≡_ {A = ℕ} 0 1 = cc in absurd (omega arith)
+      fed-there e i (before l p) = h .fed e l i p
+
+  -- a start comes once, and after those that feed it
+  pub started-in-order :
+      (old : List Event) (x : ℕ)
+      → InOrder n par old
+      → mem x (starts old) ≡ false
+      → ((c : ℕ) → Task n c → par c ≡ x → mem c (ends old) ≡ true)
+      → InOrder n par (old ++ (started x ∷ []))
+  started-in-order old x h new ready =
+      record {
+        once = λ e l i q. once-there e i (snoc-where old (started x) e (started i) l q);
+        fed = λ e l i q. fed-there e i (snoc-where old (started x) e (started i) l q);
+      }
+    where
+      once-there : (e : List Event) (i : ℕ) → Where old (started x) e (started i) → mem i (starts e) ≡ false
+      once-there e i (last p q) =
+          let same : i ≡ x = cc in ap (λ (v : List Event). mem i (starts v)) p ∙ ap (λ (v : ℕ). mem v (starts old)) same ∙ new
+      once-there e i (before l p) = h .once e l i p
+
+      fed-there :
+          (e : List Event) (i : ℕ)
+          → Where old (started x) e (started i)
+          → (c : ℕ)
+          → Task n c
+          → par c ≡ i
+          → mem c (ends e) ≡ true
+      fed-there e i (last p q) c t r =
+          let same : i ≡ x = cc in ap (λ (v : List Event). mem c (ends v)) p ∙ ready c t (r ∙ same)
+      fed-there e i (before l p) c t r = h .fed e l i p c t r
+
+-- what happened agrees with the standings
+pub record Logged (n : ℕ) (st : ℕ → ℕ) (happened : List Event) : Type 0 where
+  pub begun : (i : ℕ) → Task n i → mem i (starts happened) ≡ leb running (st i)
+  pub done : (i : ℕ) → Task n i → mem i (ends happened) ≡ eqb (st i) finished
+  -- ends are of tasks, each once
+  pub inside : every (λ i. within i n) (ends happened) ≡ true
+  pub apart : distinct (ends happened) ≡ true
+
+-- at first nobody has begun
+pub nothing-logged : (n : ℕ) (st : ℕ → ℕ) → ((i : ℕ) → Task n i → st i ≤ activated) → Logged n st []
+unfolding mem starts ends every distinct
+nothing-logged n st idle =
+    record {
+      begun = λ i t. let h = idle i t in sym (lt-leb running (st i) (omega arith));
+      done = λ i t. let h = idle i t in sym (ne-eqb (st i) finished (λ q. omega arith));
+      inside = refl;
+      apart = refl;
+    }
+
+-- standings that differ only in who waits and who is booked
+pub logged-same :
+    (n : ℕ) (st st′ : ℕ → ℕ) (happened : List Event)
+    → ((i : ℕ) → Task n i → (st′ i ≡ st i) ⊎ ((st i ≤ activated) × (st′ i ≤ activated)))
+    → Logged n st happened
+    → Logged n st′ happened
+logged-same n st st′ happened same h =
+    record {
+      begun =
+          λ i t.
+          h .begun i t
+          ∙ ⊎-elim (λ e. ap (leb running) (sym e))
+          (λ l. lt-leb running (st i) (omega (arith, l .0)) ∙ sym (lt-leb running (st′ i) (omega (arith, l .1)))) (same i t);
+      done =
+          λ i t.
+          h .done i t
+          ∙ ⊎-elim (λ e. ap (λ (v : ℕ). eqb v finished) (sym e))
+          (λ l.
+          ne-eqb (st i) finished (λ q. omega (arith, l .0)) ∙ sym (ne-eqb (st′ i) finished (λ q. omega (arith, l .1))))
+          (same i t);
+      inside = h .inside;
+      apart = h .apart;
+    }
+
+module _ (n : ℕ) (st : List ℕ) (sized : length st ≡ suc n) (happened : List Event) (x : ℕ) (task : Task n x)
+    (logged : Logged n (at st) happened) where
+  -- a running task ends
+  pub ended-logged :
+      at st x ≡ running → Logged n (at (set st x finished)) (happened ++ (ended x ∷ []))
+  unfolding starts ends every
+  ended-logged runs =
+      let there = at-set n st x finished sized task in
+      let s-is : starts (happened ++ (ended x ∷ [])) ≡ starts happened =
+      starts-append happened (ended x ∷ []) ∙ append-nil (starts happened)
+      in
+      let e-is : ends (happened ++ (ended x ∷ [])) ≡ ends happened ++ (x ∷ []) = ends-append happened (ended x ∷ []) in
+      let new : mem x (ends happened) ≡ false = logged .done x task ∙ ne-eqb (at st x) finished (λ q. omega arith) in
+      record {
+        begun =
+            λ i t.
+            ap (mem i) s-is
+            ∙ logged .begun i t
+            ∙ ⊎-elim
+            (λ q.
+            let old : at st i ≡ running = ap (at st) q ∙ runs in
+            let now : at (set st x finished) i ≡ finished = ap (at (set st x finished)) q ∙ there in
+            le-leb running (at st i) (omega arith) ∙ sym (le-leb running (at (set st x finished) i) (omega arith)))
+            (λ d. ap (leb running) (sym (at-other st x finished i d)))
+            (same-or-not i x);
+        done =
+            λ i t.
+            ap (mem i) e-is
+            ∙ mem-append i (ends happened) (x ∷ [])
+            ∙ ⊎-elim
+            (λ q.
+            let now : at (set st x finished) i ≡ finished = ap (at (set st x finished)) q ∙ there in
+            or-right (mem i (ends happened)) (mem i (x ∷ [])) (mem-here i x [] q) ∙ sym (eq-eqb (at (set st x finished) i) finished now))
+            (λ d.
+            ap (λ (v : Bool). mem i (ends happened) || v) (mem-later i x [] d ∙ mem-none i)
+            ∙ or-none (mem i (ends happened))
+            ∙ logged .done i t
+            ∙ ap (λ (v : ℕ). eqb v finished) (sym (at-other st x finished i d)))
+            (same-or-not i x);
+        inside =
+            ap (every (λ i. within i n)) e-is
+            ∙ every-append (λ i. within i n) (ends happened) (x ∷ [])
+            ∙ and-both (every (λ i. within i n) (ends happened)) (every (λ i. within i n) (x ∷ [])) (logged .inside)
+            (and-both (within x n) true (task-within n x task) refl);
+        apart = ap distinct e-is ∙ distinct-snoc (ends happened) x (logged .apart) new;
+      }
+
+  -- a booked task starts
+  pub started-logged :
+      at st x ≡ activated → Logged n (at (set st x running)) (happened ++ (started x ∷ []))
+  unfolding starts ends
+  started-logged booked =
+      let there = at-set n st x running sized task in
+      let s-is : starts (happened ++ (started x ∷ [])) ≡ starts happened ++ (x ∷ []) =
+      starts-append happened (started x ∷ [])
+      in
+      let e-is : ends (happened ++ (started x ∷ [])) ≡ ends happened =
+      ends-append happened (started x ∷ []) ∙ append-nil (ends happened)
+      in
+      record {
+        begun =
+            λ i t.
+            ap (mem i) s-is
+            ∙ mem-append i (starts happened) (x ∷ [])
+            ∙ ⊎-elim
+            (λ q.
+            let now : at (set st x running) i ≡ running = ap (at (set st x running)) q ∙ there in
+            or-right (mem i (starts happened)) (mem i (x ∷ [])) (mem-here i x [] q)
+            ∙ sym (le-leb running (at (set st x running) i) (omega arith)))
+            (λ d.
+            ap (λ (v : Bool). mem i (starts happened) || v) (mem-later i x [] d ∙ mem-none i)
+            ∙ or-none (mem i (starts happened))
+            ∙ logged .begun i t
+            ∙ ap (leb running) (sym (at-other st x running i d)))
+            (same-or-not i x);
+        done =
+            λ i t.
+            ap (mem i) e-is
+            ∙ logged .done i t
+            ∙ ⊎-elim
+            (λ q.
+            let old : at st i ≡ activated = ap (at st) q ∙ booked in
+            let now : at (set st x running) i ≡ running = ap (at (set st x running)) q ∙ there in
+            ne-eqb (at st i) finished (λ z. omega arith) ∙ sym (ne-eqb (at (set st x running) i) finished (λ z. omega arith)))
+            (λ d. ap (λ (v : ℕ). eqb v finished) (sym (at-other st x running i d)))
+            (same-or-not i x);
+        inside = ap (every (λ i. within i n)) e-is ∙ logged .inside;
+        apart = ap distinct e-is ∙ logged .apart;
+      }
+
+-- tasks that start one after the other
+pub starts-logged :
+    (n : ℕ) (par : ℕ → ℕ) (l st : List ℕ) (happened : List Event)
+    → length st ≡ suc n
+    → Startable n par st l
+    → Logged n (at st) happened
+    → InOrder n par happened
+    → Logged n (at (start l st)) (happened ++ map started l) × InOrder n par (happened ++ map started l)
+unfolding Startable start
+starts-logged n par [] st happened sized s logged order = (
+  subst (λ (v : List Event). Logged n (at st) v) (sym (append-nil happened)) logged,
+  subst (λ (v : List Event). InOrder n par v) (sym (append-nil happened)) order,
+)
+starts-logged n par (x ∷ l) st happened sized s logged order =
+    let whole : (happened ++ (started x ∷ [])) ++ map started l ≡ happened ++ (started x ∷ map started l) =
+    append-assoc happened (started x ∷ []) (map started l)
+    in
+    let later =
+    starts-logged n par l (set st x running) (happened ++ (started x ∷ [])) (length-set st x running ∙ sized) (s .3)
+    (started-logged n st sized happened x (s .0) logged (s .1))
+    (started-in-order n par happened x order
+    (logged .begun x (s .0) ∙ lt-leb running (at st x) (let b = s .1 in omega arith))
+    (λ c t e. logged .done c t ∙ eq-eqb (at st c) finished (s .2 c t e)))
+    in (
+      subst (λ (v : List Event). Logged n (at (start l (set st x running))) v) whole (later .0),
+      subst (λ (v : List Event). InOrder n par v) whole (later .1),
+    )

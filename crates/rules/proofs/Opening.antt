@@ -1,0 +1,63 @@
+-- An accepted BEGIN opens a day.
+use mathlib.Core.Path.{_≡_, refl, sym, ap, _∙_}
+use mathlib.Core.Bool.{true, false}
+use mathlib.Core.List.{List, [], map}
+use Prim.Native.Nat.{ℕ, _≤_}
+use native.Mathlib.Omega.{arith}
+use lib.Dec.{eqb}
+use borrow.Author.Tests.{eq-eqb, ne-eqb}
+use Rattle.rules.specs.Lists.{at}
+use Rattle.rules.specs.Phase
+use Rattle.rules.specs.Standing.{waiting, activated, running, finished, count}
+use Rattle.rules.specs.State.{State, needs}
+use Rattle.rules.specs.Command.{begin}
+use Rattle.rules.specs.Grounds.{peakOf}
+use Rattle.rules.specs.Obey.{fresh, withBooks, proceed, obey}
+use Rattle.rules.specs.Day.{started}
+use Rattle.rules.proofs.Tests.{clash}
+use Rattle.rules.proofs.Sums.{Task}
+use Rattle.rules.proofs.Ranks.{rankIn}
+use Rattle.rules.proofs.Good.{Good}
+use Rattle.rules.proofs.Log.{nothing-logged, nothing-in-order}
+use Rattle.rules.proofs.Formed.{Formed, Accepted}
+use Rattle.rules.proofs.InDay.{
+  Planned,
+  InDay,
+  Closing,
+  open-day,
+  fresh-waits,
+  fresh-good,
+  fresh-idle,
+  begin-planned,
+  proceed-ends,
+  proceed-in-day,
+}
+
+-- the root has not ended at once
+still-open :
+    (s : State) (p : Planned s)
+    → Good (s .size) (at (s .parents)) (rankIn (s .activation)) (needs s) (at (s .memory .outs)) (s .memory .bound) (fresh (s .size))
+    → count (s .size) (at (fresh (s .size) .standings)) running ≤ s .processors
+    → Closing (proceed s Phase.running (fresh (s .size)) (peakOf s) 0 .state)
+unfolding proceed withBooks
+still-open s p good few =
+    open-day refl
+    (λ r t z e.
+    let same = proceed-ends s p Phase.running (fresh (s .size)) (peakOf s) 0 good few r t in
+    let w = fresh-waits (s .size) r t in
+    clash (sym same ∙ eq-eqb _ finished e) (ne-eqb (at (fresh (s .size) .standings) r) finished (λ q. omega arith)))
+
+pub begin-in-day :
+    (s : State) → Formed s → Accepted s begin → InDay (obey s begin .state) (map started (obey s begin .started))
+unfolding obey
+begin-in-day s formed a =
+    let p = begin-planned s formed a in
+    let good =
+    fresh-good (s .size) (at (s .parents)) (rankIn (s .activation)) (needs s) (at (s .memory .outs)) (s .memory .bound)
+    in
+    let few : count (s .size) (at (fresh (s .size) .standings)) running ≤ s .processors =
+    (let z = fresh-idle (s .size) in omega arith)
+    in
+    proceed-in-day s p Phase.running (fresh (s .size)) (peakOf s) 0 good few []
+    (nothing-logged (s .size) (at (fresh (s .size) .standings)) (λ i t. let z = fresh-waits (s .size) i t in omega arith))
+    (nothing-in-order (s .size) (at (s .parents))) (still-open s p good few)

@@ -1,0 +1,60 @@
+-- A valid activation order gives each task a rank, its place, that rises towards the root.
+use mathlib.Core.Path.{_≡_, refl, sym, ap, _∙_}
+use mathlib.Core.Bool.{Bool, true, false}
+use mathlib.Core.Logic.{⊎-elim}
+use mathlib.Core.List.{List, [], _∷_, _++_}
+use Prim.Native.Nat.{ℕ, zero, suc, _+_, _≤_, _<_}
+use native.Mathlib.Omega.{arith}
+use lib.ListN.{length}
+use Rattle.rules.specs.Lists.{mem}
+use Rattle.rules.proofs.Tests.{decide}
+use Rattle.rules.proofs.Sums.{Task}
+use Rattle.rules.proofs.Orders.{
+  place,
+  place-lt,
+  place-second,
+  place-split,
+  place-injective,
+  distinct-split,
+  all-in,
+  ordered-rises,
+}
+use Rattle.rules.proofs.Turns.{Valid}
+use Rattle.rules.proofs.Tree.{Tree}
+
+-- the rank of a task
+abbrev pub rankIn : List ℕ → ℕ → ℕ
+rankIn order i = place i order
+
+module _ (n : ℕ) (par : ℕ → ℕ) (order : List ℕ) (valid : Valid n par order) where
+  -- every task stands in the order
+  pub stands : (i : ℕ) → Task n i → mem i order ≡ true
+  stands = all-in n order (valid .inside) (valid .once) (valid .whole)
+
+  -- two tasks of one rank are one
+  pub same-rank : (i j : ℕ) → Task n i → Task n j → rankIn order i ≡ rankIn order j → i ≡ j
+  same-rank i j t u e = place-injective i j order (stands i t) (stands j u) e
+
+  pub tree-of : ((i : ℕ) → Task n i → par i ≤ n) → Tree n par (rankIn order)
+  tree-of within =
+      record {
+        within = within;
+        rises = λ i t d. ordered-rises par order i (valid .upward) (valid .once) (stands i t) d .rises;
+        below = λ i t. let p = place-lt i order (stands i t) in let w = valid .whole in omega arith;
+      }
+
+  -- those of lower rank than x stand in front of it
+  pub in-front :
+      (pre : List ℕ) (x : ℕ) (later : List ℕ)
+      → order ≡ pre ++ x ∷ later
+      → (j : ℕ)
+      → rankIn order j < rankIn order x
+      → mem j pre ≡ true
+  in-front pre x later e j h =
+      ⊎-elim (λ m. m)
+      (λ (m : mem j pre ≡ false).
+      let alone = distinct-split pre x later (rw e at (valid .once)) in
+      let own : place x order ≡ length pre = rw e (place-split x pre later (alone .not-earlier)) in
+      let other : place j order ≡ length pre + place j (x ∷ later) = rw e (place-second j pre (x ∷ later) m) in
+      absurd (omega arith))
+      (decide (mem j pre))

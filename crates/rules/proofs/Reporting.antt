@@ -1,0 +1,146 @@
+-- An accepted DONE keeps the day.
+use mathlib.Core.Path.{_≡_, refl, sym, ap, subst, _∙_}
+use mathlib.Core.Bool.{Bool, true, false, cond}
+use mathlib.Core.Logic.{⊎-elim}
+use mathlib.Core.List.{List, [], _∷_, _++_, map, append-assoc}
+use Prim.Native.Nat.{ℕ, suc, _+_, _≤_}
+use native.Mathlib.Omega.{arith}
+use lib.Dec.{eqb}
+use lib.ListN.{length, set, length-set}
+use borrow.Author.Tests.{eqb-true, eqb-false, eq-eqb, ne-eqb}
+use Rattle.rules.specs.Sums.{only, sumTo, countTo}
+use Rattle.rules.specs.Lists.{at}
+use Rattle.rules.specs.Phase
+use Rattle.rules.specs.Standing.{running, finished, count}
+use Rattle.rules.specs.State.{State, needs}
+use Rattle.rules.specs.Command.{done}
+use Rattle.rules.specs.Grounds.{inTurn, inLimits, ownGround}
+use Rattle.rules.specs.Obey.{withBooks, proceed, endedStandings, shared, phaseAfter, obey}
+use Rattle.rules.specs.Obey
+use Rattle.rules.specs.Day.{Event, started, ended}
+use Rattle.rules.proofs.Tests.{decide, clash}
+use Rattle.rules.proofs.Sums.{Task, sum-change, only-true, only-false}
+use Rattle.rules.proofs.Orders.{within-task}
+use Rattle.rules.proofs.Ranks.{rankIn}
+use Rattle.rules.proofs.Roots.{root-last}
+use Rattle.rules.proofs.Good.{Good, at-set, at-other}
+use Rattle.rules.proofs.Sharing.{sharing-good}
+use Rattle.rules.proofs.Log.{Logged, ended-logged, ended-in-order}
+use Rattle.rules.proofs.Formed.{Accepted, demand-none}
+use Rattle.rules.proofs.InDay.{
+  Planned,
+  InDay,
+  Closing,
+  open-day,
+  closed,
+  booksOf,
+  tree,
+  needs-roomy,
+  proceed-ends,
+  proceed-settled,
+  proceed-in-day,
+}
+
+-- one fewer runs
+one-fewer :
+    (n : ℕ) (st : List ℕ) (j : ℕ)
+    → length st ≡ suc n
+    → Task n j
+    → at st j ≡ running
+    → count n (at st) running ≡ count n (at (set st j finished)) running + 1
+unfolding count countTo
+one-fewer n st j sized t runs =
+    sum-change (λ i. only (eqb (at (set st j finished) i) running) 1) (λ i. only (eqb (at st i) running) 1) n j 1 t
+    (let there = at-set n st j finished sized t in
+    let old = only-true (eqb (at st j) running) 1 (eq-eqb (at st j) running runs) in
+    let new =
+    only-false (eqb (at (set st j finished) j) running) 1 (ne-eqb (at (set st j finished) j) running (λ q. omega arith))
+    in
+    omega arith)
+    (λ i _ d. ap (λ (v : ℕ). only (eqb v running) 1) (sym (at-other st j finished i d)))
+
+module _ (s : State) (happened : List Event) (day : InDay s happened) (j : ℕ) (a : Accepted s (done j)) where
+  task : Task (s .size) j
+  unfolding inLimits
+  task = within-task (s .size) j (a .limits)
+
+  runs : at (s .standings) j ≡ running
+  unfolding ownGround
+  runs =
+      eqb-true (at (s .standings) j) running
+      (demand-none (eqb (at (s .standings) j) running) 6 0 (λ q. omega arith) (a .own) .0)
+
+  in-running : s .phase ≡ Phase.running
+  unfolding inTurn
+  in-running = eqb-true (s .phase) Phase.running (a .turn)
+
+  good :
+      Good (s .size) (at (s .parents)) (rankIn (s .activation)) (needs s) (at (s .memory .outs)) (s .memory .bound)
+      (Obey.ended s j)
+  unfolding Obey.ended shared endedStandings
+  good =
+      sharing-good (s .size) (at (s .parents)) (rankIn (s .activation)) (tree s (day .planned)) (needs s) (at (s .memory .outs))
+      (needs-roomy s) (s .memory .bound) (booksOf s) (day .settled .good) j task runs
+
+  few : count (s .size) (at (Obey.ended s j .standings)) running ≤ s .processors
+  unfolding Obey.ended endedStandings
+  few =
+      let one = one-fewer (s .size) (s .standings) j (day .settled .good .sized .standings) task runs in
+      let all = day .settled .staffed in
+      omega arith
+
+  -- who has ended: j, and those that had
+  ended-there : at (Obey.ended s j .standings) j ≡ finished
+  unfolding Obey.ended endedStandings
+  ended-there = at-set (s .size) (s .standings) j finished (day .settled .good .sized .standings) task
+
+  ended-other : (i : ℕ) → (i ≡ j → ⊥) → at (Obey.ended s j .standings) i ≡ at (s .standings) i
+  unfolding Obey.ended endedStandings
+  ended-other i d = at-other (s .standings) j finished i d
+
+  closes : (offers : ℕ) → Closing (proceed s (phaseAfter s j) (Obey.ended s j) 0 offers .state)
+  unfolding proceed withBooks phaseAfter
+  closes offers =
+      let ends = proceed-ends s (day .planned) (phaseAfter s j) (Obey.ended s j) 0 offers good few in
+      let settled = proceed-settled s (day .planned) (phaseAfter s j) (Obey.ended s j) 0 offers good few in
+      ⊎-elim
+      (λ (z : eqb (at (s .parents) j) 0 ≡ true).
+      closed (rw z refl)
+      (root-last (s .size) (at (s .parents)) (rankIn (s .activation)) (tree s (day .planned)) _ (settled .good .shape)
+      (day .planned .rooted) j task (eqb-true (at (s .parents) j) 0 z)
+      (eqb-true _ finished (ends j task ∙ eq-eqb _ finished ended-there))))
+      (λ (z : eqb (at (s .parents) j) 0 ≡ false).
+      open-day (rw z refl)
+      (λ r t root e.
+      let r-not : r ≡ j → ⊥ = λ q. eqb-false (at (s .parents) j) 0 z (ap (at (s .parents)) (sym q) ∙ root) in
+      let before : at (s .standings) r ≡ finished =
+      sym (ended-other r r-not) ∙ eqb-true _ finished (sym (ends r t) ∙ eq-eqb _ finished e)
+      in
+      not-yet (day .closing) r t root before))
+      (decide (eqb (at (s .parents) j) 0))
+    where
+      not-yet :
+          Closing s
+          → (r : ℕ)
+          → Task (s .size) r
+          → at (s .parents) r ≡ 0
+          → at (s .standings) r ≡ finished
+          → ⊥
+      not-yet (open-day _ h) = h
+      not-yet (closed e _) = λ _ _ _ _. let q = in-running in omega arith
+
+  logged : Logged (s .size) (at (Obey.ended s j .standings)) (happened ++ (ended j ∷ []))
+  unfolding Obey.ended endedStandings
+  logged =
+      ended-logged (s .size) (s .standings) (day .settled .good .sized .standings) happened j task (day .logged) runs
+
+  pub done-in-day :
+      InDay (obey s (done j) .state) (happened ++ (ended j ∷ map started (obey s (done j) .started)))
+  unfolding obey
+  done-in-day =
+      subst (λ (l : List Event). InDay (proceed s (phaseAfter s j) (Obey.ended s j) 0 (length (shared s j .offered)) .state) l)
+      (append-assoc happened (ended j ∷ [])
+      (map started (proceed s (phaseAfter s j) (Obey.ended s j) 0 (length (shared s j .offered)) .started)))
+      (proceed-in-day s (day .planned) (phaseAfter s j) (Obey.ended s j) 0 (length (shared s j .offered)) good few
+      (happened ++ (ended j ∷ [])) logged (ended-in-order (s .size) (at (s .parents)) happened j (day .order))
+      (closes (length (shared s j .offered))))

@@ -1,0 +1,62 @@
+-- The root: there is one, and when it has ended all have.
+use mathlib.Core.Path.{_≡_, refl, sym, ap, _∙_}
+use mathlib.Core.Bool.{Bool, true, false, not}
+use mathlib.Core.Logic.{⊎-elim}
+use Prim.Native.Nat.{ℕ, zero, suc, _+_, _≤_, _<_}
+use native.Mathlib.Omega.{arith}
+use lib.Dec.{eqb}
+use borrow.Author.Tests.{eqb-true, eq-eqb, ne-eqb}
+use Rattle.rules.specs.Sums.{only, sumTo, countTo}
+use Rattle.rules.specs.Peak.{roots}
+use Rattle.rules.specs.Standing.{finished}
+use Rattle.rules.proofs.Tests.{same-or-not}
+use Rattle.rules.proofs.Sums.{Task, term-le, sum-change, counted, only-true, only-false}
+use Rattle.rules.proofs.Tree.{Tree, parent-task}
+use Rattle.rules.proofs.Shape.{Shape}
+
+-- there is a root
+pub some-root : (n : ℕ) (par : ℕ → ℕ) → roots n par ≡ 1 → (r : ℕ) × Task n r × (par r ≡ 0)
+unfolding roots
+some-root n par one =
+    let k = counted (λ i. eqb (par i) 0) n (omega arith) in
+    (k .0, k .1, eqb-true (par (k .0)) 0 (k .2))
+
+-- one root only
+pub one-root :
+    (n : ℕ) (par : ℕ → ℕ) → roots n par ≡ 1 → (i j : ℕ) → Task n i → Task n j → par i ≡ 0 → par j ≡ 0 → i ≡ j
+unfolding roots countTo
+one-root n par one i j t u p q =
+    ⊎-elim (λ e. e)
+    (λ d.
+    let rest : ℕ → ℕ = λ k. only (not (eqb k i)) (only (eqb (par k) 0) 1) in
+    let sum : sumTo (λ k. only (eqb (par k) 0) 1) n ≡ sumTo rest n + 1 =
+    sum-change rest (λ k. only (eqb (par k) 0) 1) n i 1 t
+    (let a = only-true (eqb (par i) 0) 1 (eq-eqb (par i) 0 p) in
+    let b = only-false (not (eqb i i)) (only (eqb (par i) 0) 1) (rw (eq-eqb i i refl) refl) in
+    omega arith)
+    (λ k _ v. sym (only-true (not (eqb k i)) (only (eqb (par k) 0) 1) (rw (ne-eqb k i v) refl)))
+    in
+    let other : rest j ≡ 1 =
+    only-true (not (eqb j i)) (only (eqb (par j) 0) 1) (rw (ne-eqb j i (λ e. d (sym e))) refl)
+    ∙ only-true (eqb (par j) 0) 1 (eq-eqb (par j) 0 q)
+    in
+    absurd (omega (arith, term-le rest n j u)))
+    (same-or-not i j)
+
+-- when the root has ended all have
+module _ (n : ℕ) (par rank : ℕ → ℕ) (tree : Tree n par rank) (st : ℕ → ℕ) (shape : Shape n par rank st)
+    (one : roots n par ≡ 1) (r : ℕ) (task : Task n r) (root : par r ≡ 0) (ends : st r ≡ finished) where
+  -- by how far a task may rank from the last
+  ended-within : (m i : ℕ) → Task n i → n ≤ m + rank i → st i ≡ finished
+  ended-within zero i t h = let b = tree .below i t in absurd (omega arith)
+  ended-within (suc m) i t h =
+      ⊎-elim (λ z. ap st (one-root n par one i r t task z root) ∙ ends)
+      (λ d.
+      let higher = tree .rises i t d in
+      let u = parent-task n par rank tree i t d in
+      let parent = ended-within m (par i) u (omega arith) in
+      shape .fed (par i) i u t refl (omega arith))
+      (same-or-not (par i) 0)
+
+  pub root-last : (i : ℕ) → Task n i → st i ≡ finished
+  root-last i t = ended-within n i t (omega arith)

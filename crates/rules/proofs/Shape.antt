@@ -1,0 +1,64 @@
+-- What holds of the standings of a day, over functions: waiting tasks come last in rank, and who has begun is fed.
+use mathlib.Core.Path.{_≡_, refl, sym, ap, _∙_}
+use mathlib.Core.Bool.{Bool, true, false}
+use mathlib.Core.Logic.{⊎-elim}
+use Prim.Native.Nat.{ℕ, zero, suc, _+_, _≤_, _<_}
+use native.Mathlib.Omega.{arith}
+use lib.Dec.{eqb}
+use borrow.Author.Tests.{eqb-true}
+use Rattle.rules.specs.Standing.{waiting, activated, running, finished}
+use Rattle.rules.proofs.Tests.{clash, le-or-lt, or-cases}
+use Rattle.rules.proofs.Sums.{Task}
+use Rattle.rules.proofs.Tree.{Tree, up, up-nobody, up-step, parent-task}
+
+pub record Shape (n : ℕ) (par rank st : ℕ → ℕ) : Type 0 where
+  -- whoever ranks behind a waiting task waits
+  pub behind : (i j : ℕ) → Task n i → Task n j → rank i < rank j → st i ≡ waiting → st j ≡ waiting
+  -- the children of a task that runs or has ended have ended
+  pub fed : (i c : ℕ) → Task n i → Task n c → par c ≡ i → running ≤ st i → st c ≡ finished
+  -- there are four standings
+  pub four : (i : ℕ) → Task n i → st i ≤ finished
+
+-- one standing changed, the others kept
+pub record Moved (n : ℕ) (st st′ : ℕ → ℕ) (x new : ℕ) : Type 0 where
+  pub there : st′ x ≡ new
+  pub elsewhere : (i : ℕ) → Task n i → (i ≡ x → ⊥) → st′ i ≡ st i
+
+module _ (n : ℕ) (par rank : ℕ → ℕ) (tree : Tree n par rank) (st : ℕ → ℕ) (shape : Shape n par rank st) where
+  -- a child ranks before its parent
+  pub child-before : (i c : ℕ) → Task n i → Task n c → par c ≡ i → rank c < rank i
+  child-before i c t u e =
+      let d : par c ≡ 0 → ⊥ = λ z. omega arith in
+      rw e at (tree .rises c u d)
+
+  -- a child of a task that does not wait does not wait
+  pub child-not-waiting :
+      (i c : ℕ) → Task n i → Task n c → par c ≡ i → (st i ≡ waiting → ⊥) → st c ≡ waiting → ⊥
+  child-not-waiting i c t u e d w = d (shape .behind c i u t (child-before i c t u e) w)
+
+  -- whoever is strictly below a task that has begun has ended; m is how far k may rank from the last
+  begun-within : (m i k : ℕ) → Task n k → n ≤ m + rank k → up n par i (par k) ≡ true → running ≤ st i → st k ≡ finished
+  begun-within zero i k t far h r = let b = tree .below k t in absurd (omega arith)
+  begun-within (suc m) i k t far h r =
+      let d : par k ≡ 0 → ⊥ = λ z. clash h (up-nobody n par i (par k) z) in
+      let u = parent-task n par rank tree k t d in
+      let higher = tree .rises k t d in
+      ⊎-elim (λ e. shape .fed (par k) k u t refl (rw (eqb-true i (par k) e) at r))
+      (λ a.
+      let parent : st (par k) ≡ finished = begun-within m i (par k) u (omega arith) a r in
+      shape .fed (par k) k u t refl (omega arith))
+      (or-cases (eqb i (par k)) (up n par i (par (par k))) (sym (up-step n par rank tree i (par k) u) ∙ h))
+
+  pub begun-above : (i k : ℕ) → Task n k → up n par i (par k) ≡ true → running ≤ st i → st k ≡ finished
+  begun-above i k t h r = begun-within n i k t (omega arith) h r
+
+  -- whoever is below an ended task has ended
+  pub finished-below : (i k : ℕ) → Task n k → up n par i k ≡ true → st i ≡ finished → st k ≡ finished
+  finished-below i k t h e =
+      ⊎-elim (λ q. ap st (sym (eqb-true i k q)) ∙ e) (λ a. begun-above i k t a (omega arith))
+      (or-cases (eqb i k) (up n par i (par k)) (sym (up-step n par rank tree i k t) ∙ h))
+
+  -- nobody above a task that has not ended has begun
+  pub not-begun-above : (i k : ℕ) → Task n k → up n par i (par k) ≡ true → (st k ≡ finished → ⊥) → st i ≤ activated
+  not-begun-above i k t h d =
+      ⊎-elim (λ l. l) (λ l. absurd (d (begun-above i k t h l))) (le-or-lt (st i) activated)

@@ -1,0 +1,162 @@
+-- One asking: it is refused and changes nothing, or its command has no ground against it and is obeyed.
+use mathlib.Core.Path.{_≡_, refl, sym, ap, subst, _∙_}
+use mathlib.Core.Bool.{Bool, true, false, cond}
+use mathlib.Core.Logic.{⊎-elim}
+use mathlib.Core.List.{List, [], _∷_, _++_, map}
+use Prim.Native.Nat.{ℕ, zero, suc, _+_}
+use native.Mathlib.Omega.{arith}
+use lib.Dec.{eqb, leb, ltb}
+use lib.ListN.{length, take, drop}
+use lib.Seq.{take-append-seam}
+use borrow.Author.Tests.{eqb-true, eqb-false, eq-eqb, ne-eqb}
+use Rattle.rules.specs.Limits.{leastStarts}
+use Rattle.rules.specs.Lists.{at}
+use Rattle.rules.specs.State.{State}
+use Rattle.rules.specs.Command.{Command, Decoded, refused, read, whole, table, decode}
+use Rattle.rules.specs.Grounds.{ground}
+use Rattle.rules.specs.Obey.{Outcome, obey}
+use Rattle.rules.specs.Answer.{Asking, Answer, Answered, refuse, front, accept, judge, respond, command}
+use Rattle.rules.specs.Day.{Event, started, ended, accepted, reported, events}
+use Rattle.rules.proofs.Tests.{decide}
+use Rattle.rules.proofs.Formed.{Accepted, no-ground}
+
+-- a refusal
+pub record Refused (s : State) (a : Asking) : Type 0 where
+  pub not-accepted : accepted s a ≡ false
+  pub unchanged : command s a .state ≡ s
+
+-- an acceptance
+pub record Obeyed (s : State) (a : Asking) (c : Command) (used : ℕ) : Type 0 where
+  pub decoded : decode (a .stream) (a .place) ≡ read c used
+  pub granted : Accepted s c
+  pub is-accepted : accepted s a ≡ true
+  pub after : command s a .state ≡ obey s c .state
+  pub happens : events s a ≡ map ended (reported (read c used)) ++ map started (obey s c .started)
+
+pub data Step (s : State) (a : Asking) : Type 0 where
+  is-refused : Refused s a → Step s a
+  is-obeyed : (c : Command) (used : ℕ) → Obeyed s a c used → Step s a
+
+-- what cannot be decoded is refused with a number
+abbrev Numbered : Decoded → Type 0
+Numbered (refused k) = k ≡ 0 → ⊥
+Numbered (read c used) = Unit {0}
+
+either : (t : Bool) (d e : Decoded) → Numbered d → Numbered e → Numbered (cond t d e)
+either true d e p q = p
+either false d e p q = q
+
+whole-numbered : (given : List ℕ) (width : ℕ) (c : Command) → Numbered (whole given width c)
+whole-numbered given width c = either (ltb (length given) width) (refused 1) (read c (1 + width)) (λ z. omega arith) tt
+
+table-numbered : (byte : ℕ) (given : List ℕ) → Numbered (table byte given)
+unfolding table
+table-numbered byte given =
+    either (eqb byte 1) _ _ (whole-numbered given 7 _)
+    (either (eqb byte 2) _ _ (whole-numbered given 6 _)
+    (either (eqb byte 3) _ _ (whole-numbered given 2 _)
+    (either (eqb byte 4) _ _ (whole-numbered given 2 _)
+    (either (eqb byte 5) _ _ (whole-numbered given 0 _)
+    (either (eqb byte 6) _ _ (whole-numbered given 2 _) (λ z. omega arith))))))
+
+decode-numbered : (stream : List ℕ) (place : ℕ) → Numbered (decode stream place)
+unfolding decode
+decode-numbered stream place =
+    either (leb (length stream) place) (refused 1) (table (at stream place) (drop (suc place) stream)) (λ z. omega arith)
+    (table-numbered (at stream place) (drop (suc place) stream))
+
+-- an answer that refuses
+refusing : (s : State) (a : Asking) (k : ℕ) → (k ≡ 0 → ⊥) → command s a ≡ refuse k s (a .list) → Step s a
+unfolding accepted refuse
+refusing s a k d e =
+    is-refused
+    (record {
+      not-accepted = ap (λ (r : Answered). eqb (r .answer .number) 0) e ∙ ne-eqb k 0 d;
+      unchanged = ap (λ (r : Answered). r .state) e;
+    })
+
+-- an answer that accepts
+accepting :
+    (s : State) (a : Asking) (c : Command) (used : ℕ)
+    → decode (a .stream) (a .place) ≡ read c used
+    → ground s c ≡ 0
+    → command s a ≡ accept (obey s c) used (a .list)
+    → Step s a
+unfolding accepted accept front events
+accepting s a c used d g e =
+    let yes-accepted : accepted s a ≡ true = ap (λ (r : Answered). eqb (r .answer .number) 0) e in
+    is-obeyed c used
+    (record {
+      decoded = d;
+      granted = no-ground s c g;
+      is-accepted = yes-accepted;
+      after = ap (λ (r : Answered). r .state) e;
+      happens =
+          ap
+          (λ (t : Bool).
+          cond t
+          (map ended (reported (decode (a .stream) (a .place))) ++ map started (take (command s a .answer .starts) (command s a .list)))
+          [])
+          yes-accepted
+          ∙ ap (λ (x : Decoded). map ended (reported x) ++ map started (take (command s a .answer .starts) (command s a .list))) d
+          ∙ ap (λ (r : Answered). map ended (reported (read c used)) ++ map started (take (r .answer .starts) (r .list))) e
+          ∙ ap (λ (l : List ℕ). map ended (reported (read c used)) ++ map started l)
+          (take-append-seam (obey s c .started) (drop (length (obey s c .started)) (a .list)));
+    })
+
+-- the branches of an answer
+short-list : (s : State) (a : Asking) → ltb (length (a .list)) leastStarts ≡ true → command s a ≡ refuse 10 s (a .list)
+unfolding command respond
+short-list s a e = rw e
+
+not-decoded :
+    (s : State) (a : Asking) (k : ℕ)
+    → ltb (length (a .list)) leastStarts ≡ false
+    → decode (a .stream) (a .place) ≡ refused k
+    → command s a ≡ refuse k s (a .list)
+unfolding command respond
+not-decoded s a k e d = rw (e, d)
+
+judged :
+    (s : State) (a : Asking) (c : Command) (used : ℕ)
+    → ltb (length (a .list)) leastStarts ≡ false
+    → decode (a .stream) (a .place) ≡ read c used
+    → command s a ≡ judge s c used (a .list)
+unfolding command respond
+judged s a c used e d = rw (e, d)
+
+judged-well :
+    (s : State) (c : Command) (used : ℕ) (list : List ℕ)
+    → eqb (ground s c) 0 ≡ true
+    → judge s c used list ≡ accept (obey s c) used list
+unfolding judge
+judged-well s c used list e = rw e
+
+judged-ill :
+    (s : State) (c : Command) (used : ℕ) (list : List ℕ)
+    → eqb (ground s c) 0 ≡ false
+    → judge s c used list ≡ refuse (ground s c) s list
+unfolding judge
+judged-ill s c used list e = rw e
+
+pub step : (s : State) (a : Asking) → Step s a
+step s a =
+    ⊎-elim (λ (e : ltb (length (a .list)) leastStarts ≡ true). refusing s a 10 (λ z. omega arith) (short-list s a e))
+    (λ (e : ltb (length (a .list)) leastStarts ≡ false).
+    by-decoded (decode (a .stream) (a .place)) refl (decode-numbered (a .stream) (a .place)) e)
+    (decide (ltb (length (a .list)) leastStarts))
+  where
+    by-decoded :
+        (d : Decoded)
+        → decode (a .stream) (a .place) ≡ d
+        → Numbered d
+        → ltb (length (a .list)) leastStarts ≡ false
+        → Step s a
+    by-decoded (refused k) d p e = refusing s a k p (not-decoded s a k e d)
+    by-decoded (read c used) d p e =
+        ⊎-elim
+        (λ (g : eqb (ground s c) 0 ≡ true).
+        accepting s a c used d (eqb-true (ground s c) 0 g) (judged s a c used e d ∙ judged-well s c used (a .list) g))
+        (λ (g : eqb (ground s c) 0 ≡ false).
+        refusing s a (ground s c) (eqb-false (ground s c) 0 g) (judged s a c used e d ∙ judged-ill s c used (a .list) g))
+        (decide (eqb (ground s c) 0))

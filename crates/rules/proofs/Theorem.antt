@@ -1,0 +1,160 @@
+-- Demand 3: every day of every list of askings holds what is promised.
+use mathlib.Core.Path.{_≡_, refl, sym, ap, subst, subst₂, _∙_}
+use mathlib.Core.Bool.{Bool, true, false, _&&_, _||_}
+use mathlib.Core.List.{List, [], _∷_, _++_, map, append-nil, append-assoc}
+use Prim.Native.Nat.{ℕ, zero, suc, _+_}
+use native.Mathlib.Omega.{arith}
+use lib.Dec.{eqb}
+use lib.ListN.{length}
+use borrow.Author.Tests.{eqb-true}
+use Rattle.rules.specs.Phase
+use Rattle.rules.specs.State.{State, none}
+use Rattle.rules.specs.Command.{Command, plan, task, activation, execution, begin, done, Decoded, refused, read, decode}
+use Rattle.rules.specs.Grounds.{inTurn}
+use Rattle.rules.specs.Obey.{obey}
+use Rattle.rules.specs.Answer.{Asking, Answered, command}
+use Rattle.rules.specs.Day.{
+  Event,
+  started,
+  ended,
+  after,
+  log,
+  events,
+  accepted,
+  reported,
+  isPlan,
+  isBegin,
+  opensDay,
+  opensPlan,
+  nextPlan,
+}
+use Rattle.rules.specs.Theorem.{DayHolds, EveryDayHolds}
+use Rattle.rules.proofs.Tests.{clash, and-true, or-false}
+use Rattle.rules.proofs.Formed.{Formed, Accepted, none-formed, obey-formed}
+use Rattle.rules.proofs.InDay.{InDay, Closing, open-day, closed}
+use Rattle.rules.proofs.Opening.{begin-in-day}
+use Rattle.rules.proofs.Reporting.{done-in-day}
+use Rattle.rules.proofs.Holds.{day-holds}
+use Rattle.rules.proofs.Steps.{Step, Refused, Obeyed, is-refused, is-obeyed, step}
+
+-- every asking leaves a plan that commands can lead to
+command-formed : (s : State) (a : Asking) → Formed s → Formed (command s a .state)
+command-formed s a h = go (step s a)
+  where
+    go : Step s a → Formed (command s a .state)
+    go (is-refused r) = subst (λ (t : State). Formed t) (sym (r .unchanged)) h
+    go (is-obeyed c used o) = subst (λ (t : State). Formed t) (sym (o .after)) (obey-formed s c (o .granted) h)
+
+pub after-formed : (l : List Asking) (s : State) → Formed s → Formed (after s l)
+unfolding after
+after-formed [] s h = h
+after-formed (a ∷ l) s h = after-formed l (command s a .state) (command-formed s a h)
+
+-- nothing happens with a refused asking
+nothing-happens : (s : State) (a : Asking) → accepted s a ≡ false → events s a ≡ []
+unfolding events
+nothing-happens s a e = rw e
+
+-- the phase of a day
+day-phase : (s : State) → Closing s → (k : ℕ) → eqb (s .phase) k ≡ true → (k ≡ Phase.running → ⊥) → (k ≡ Phase.over → ⊥) → ⊥
+day-phase s (open-day p h) k e r o = r (sym (eqb-true (s .phase) k e) ∙ p)
+day-phase s (closed p h) k e r o = o (sym (eqb-true (s .phase) k e) ∙ p)
+
+-- in a day only DONE is obeyed, as long as no plan is opened
+obeyed-in-day :
+    (s : State) (happened : List Event) (c : Command) (used : ℕ)
+    → InDay s happened
+    → Accepted s c
+    → isPlan (read c used) ≡ false
+    → InDay (obey s c .state) (happened ++ (map ended (reported (read c used)) ++ map started (obey s c .started)))
+unfolding inTurn isPlan reported
+obeyed-in-day s happened (plan n p bound) used day a e = absurd (clash refl e)
+obeyed-in-day s happened (task parent work out) used day a e =
+    absurd (day-phase s (day .closing) Phase.steps (a .turn) (λ q. omega arith) (λ q. omega arith))
+obeyed-in-day s happened (activation i) used day a e =
+    absurd (day-phase s (day .closing) Phase.orders (and-true _ _ (a .turn) .0) (λ q. omega arith) (λ q. omega arith))
+obeyed-in-day s happened (execution i) used day a e =
+    absurd (day-phase s (day .closing) Phase.orders (and-true _ _ (a .turn) .0) (λ q. omega arith) (λ q. omega arith))
+obeyed-in-day s happened begin used day a e =
+    absurd
+    (day-phase s (day .closing) Phase.orders (and-true _ _ (and-true _ _ (a .turn) .0) .0) (λ q. omega arith) (λ q. omega arith))
+obeyed-in-day s happened (done j) used day a e = done-in-day s happened day j a
+
+-- one asking of a day
+asked-in-day :
+    (s : State) (happened : List Event) (a : Asking)
+    → InDay s happened
+    → opensPlan s a ≡ false
+    → InDay (command s a .state) (happened ++ events s a)
+unfolding opensPlan
+asked-in-day s happened a day e = go (step s a)
+  where
+    go : Step s a → InDay (command s a .state) (happened ++ events s a)
+    go (is-refused r) =
+        subst₂ (λ (t : State) (l : List Event). InDay t l) (sym (r .unchanged))
+        (sym (ap (λ (l : List Event). happened ++ l) (nothing-happens s a (r .not-accepted)) ∙ append-nil happened)) day
+    go (is-obeyed c used o) =
+        let other : isPlan (read c used) ≡ false =
+        ap isPlan (sym (o .decoded)) ∙ sym (ap (λ (t : Bool). t && isPlan (decode (a .stream) (a .place))) (o .is-accepted)) ∙ e
+        in
+        subst₂ (λ (t : State) (l : List Event). InDay t l) (sym (o .after)) (ap (λ (l : List Event). happened ++ l) (sym (o .happens)))
+        (obeyed-in-day s happened c used day (o .granted) other)
+
+-- a list of askings of a day
+asked-all :
+    (later : List Asking) (s : State) (happened : List Event)
+    → InDay s happened
+    → nextPlan s later ≡ false
+    → InDay (after s later) (happened ++ log s later)
+unfolding after log nextPlan
+asked-all [] s happened day e = subst (λ (l : List Event). InDay s l) (sym (append-nil happened)) day
+asked-all (a ∷ later) s happened day e =
+    let both = or-false (opensPlan s a) (nextPlan (command s a .state) later) e in
+    subst (λ (l : List Event). InDay (after (command s a .state) later) l)
+    (append-assoc happened (events s a) (log (command s a .state) later))
+    (asked-all later (command s a .state) (happened ++ events s a) (asked-in-day s happened a day (both .0)) (both .1))
+
+-- the asking that opens a day
+begun-by :
+    (s : State) (c : Command) (used : ℕ)
+    → Formed s
+    → Accepted s c
+    → isBegin (read c used) ≡ true
+    → InDay (obey s c .state) (map ended (reported (read c used)) ++ map started (obey s c .started))
+unfolding isBegin reported
+begun-by s (plan n p bound) used h a e = absurd (clash e refl)
+begun-by s (task parent work out) used h a e = absurd (clash e refl)
+begun-by s (activation i) used h a e = absurd (clash e refl)
+begun-by s (execution i) used h a e = absurd (clash e refl)
+begun-by s begin used h a e = begin-in-day s h a
+begun-by s (done j) used h a e = absurd (clash e refl)
+
+opened-day : (s : State) (a : Asking) → Formed s → opensDay s a ≡ true → InDay (command s a .state) (events s a)
+unfolding opensDay
+opened-day s a h e = go (step s a)
+  where
+    go : Step s a → InDay (command s a .state) (events s a)
+    go (is-refused r) =
+        absurd (clash (and-true (accepted s a) (isBegin (decode (a .stream) (a .place))) e .0) (r .not-accepted))
+    go (is-obeyed c used o) =
+        subst₂ (λ (t : State) (l : List Event). InDay t l) (sym (o .after)) (sym (o .happens))
+        (begun-by s c used h (o .granted)
+        (ap isBegin (sym (o .decoded)) ∙ and-true (accepted s a) (isBegin (decode (a .stream) (a .place))) e .1))
+
+-- a list of askings after another
+after-append : (l m : List Asking) (s : State) → after s (l ++ m) ≡ after (after s l) m
+unfolding after
+after-append [] m s = refl
+after-append (a ∷ l) m s = after-append l m (command s a .state)
+
+pub every-day-holds : EveryDayHolds
+unfolding after log nextPlan
+every-day-holds earlier opening later opens next =
+    let formed : Formed (after none earlier) = after-formed earlier none none-formed in
+    let both = or-false (opensPlan (after none earlier) opening) (nextPlan (command (after none earlier) opening .state) later) next in
+    let day =
+    asked-all later (command (after none earlier) opening .state) (events (after none earlier) opening)
+    (opened-day (after none earlier) opening formed opens) (both .1)
+    in
+    subst (λ (t : State). DayHolds t (log (after none earlier) (opening ∷ later)))
+    (sym (after-append earlier (opening ∷ later) none)) (day-holds _ _ day)

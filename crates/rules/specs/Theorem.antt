@@ -1,0 +1,67 @@
+-- Demand 3, as one statement about every list of askings to an empty plan.
+use mathlib.Core.Path.{_≡_}
+use mathlib.Core.Bool.{Bool, true, false, not, _&&_}
+use mathlib.Core.Logic.{_↔_}
+use mathlib.Core.List.{List, _∷_, _++_}
+use Prim.Native.Nat.{ℕ, _≤_, _<_}
+use lib.ListN.{length}
+use Rattle.rules.specs.Sums.{Task, countTo}
+use Rattle.rules.specs.Lists.{at, mem}
+use Rattle.rules.specs.Need
+use Rattle.rules.specs.Phase
+use Rattle.rules.specs.State.{State, none, needs}
+use Rattle.rules.specs.Answer.{Asking, command}
+use Rattle.rules.specs.Question
+use Rattle.rules.specs.Day.{Event, started, ended, starts, ends, log, after, opensDay, nextPlan}
+
+-- a task has started and not ended, by what happened
+unfoldable pub runs : List Event → ℕ → Bool
+runs happened i = mem i (starts happened) && not (mem i (ends happened))
+
+-- trays in use, "reckoned from the starts and ends alone"
+unfoldable pub usedBy : State → List Event → ℕ
+usedBy s happened =
+    Need.inUse (s .size) (at (s .parents)) (at (s .memory .works)) (at (s .memory .outs))
+    (λ i. mem i (ends happened))
+    (λ i. mem i (starts happened))
+
+-- what is promised of a day: s is the plan as it stands, and `happened` the day's starts and ends so far, in order. The day's
+-- reports that were accepted are its ends
+pub record DayHolds (s : State) (happened : List Event) : Type 0 where
+  -- "no step has started twice"
+  pub once :
+      (earlier later : List Event) (i : ℕ) → happened ≡ earlier ++ started i ∷ later → mem i (starts earlier) ≡ false
+  -- "or before all that feed it ended"
+  pub fed :
+      (earlier later : List Event) (i : ℕ)
+      → happened ≡ earlier ++ started i ∷ later
+      → (c : ℕ)
+      → Task (s .size) c
+      → at (s .parents) c ≡ i
+      → mem c (ends earlier) ≡ true
+  -- "some step is running exactly while fewer than n of the day's reports were accepted"
+  pub going : ((i : ℕ) × Task (s .size) i × (runs happened i ≡ true)) ↔ (length (ends happened) < s .size)
+  -- "at the n-th each has started and ended"; the phase is over then and only then
+  pub complete :
+      length (ends happened) ≡ s .size
+      → (i : ℕ)
+      → Task (s .size) i
+      → (mem i (starts happened) ≡ true) × (mem i (ends happened) ≡ true)
+  pub over : (s .phase ≡ Phase.over) ↔ (length (ends happened) ≡ s .size)
+  -- what the plan answers for trays in use is what the starts and ends give
+  pub used : Question.inUse s ≡ usedBy s happened
+  -- "trays in use never exceed trays booked, nor booked trays the cold room's places"
+  pub covered : Question.inUse s ≤ Question.booked s
+  pub within : Question.booked s ≤ s .memory .bound
+  -- no more tasks run than there are processors, and each that runs holds exactly its need
+  pub staffed : countTo (runs happened) (s .size) ≤ s .processors
+  pub exact : (i : ℕ) → Task (s .size) i → runs happened i ≡ true → at (s .memory .booked) i ≡ needs s i
+
+-- For every list of askings, refused ones included: a BEGIN that is accepted after some of them opens a day, and after each
+-- command of the day, as long as no next plan is opened, all this holds.
+abbrev pub EveryDayHolds : Type 0
+EveryDayHolds =
+    (earlier : List Asking) (opening : Asking) (later : List Asking)
+    → opensDay (after none earlier) opening ≡ true
+    → nextPlan (after none earlier) (opening ∷ later) ≡ false
+    → DayHolds (after none (earlier ++ opening ∷ later)) (log (after none earlier) (opening ∷ later))

@@ -1,0 +1,37 @@
+//! What a caller gets back.
+
+use crate::refusal::Refusal;
+
+/// The answer to one command.
+#[derive(Clone, Copy, Debug, Default, PartialEq, Eq)]
+pub struct Answer {
+    /// 0 when accepted, else the number of the ground for refusing.
+    pub number: u8,
+    /// Bytes used: the command byte and its operands.
+    pub used: usize,
+    /// How many tasks the command starts.
+    pub starts: usize,
+    /// The peak of the activation order; by BEGIN only.
+    pub peak: u32,
+    /// Offers made while sharing out; by DONE only.
+    pub offers: usize,
+}
+
+impl Answer {
+    /// A refusal answers its number, with every other count 0.
+    pub(crate) fn refused(refusal: Refusal) -> Answer {
+        Answer {
+            number: refusal.number(),
+            ..Answer::default()
+        }
+    }
+}
+
+/// The answer to the planners' desk.
+#[derive(Clone, Copy, Debug, Default, PartialEq, Eq)]
+pub struct DeskAnswer {
+    /// 0 when accepted, else the number of the ground for refusing.
+    pub number: u8,
+    /// The peak of the desk's activation list; 0 on a refusal.
+    pub peak: u32,
+}

@@ -1,0 +1,52 @@
+//! DONE: a task has ended.
+
+use crate::answer::Answer;
+use crate::figures::Standing;
+use crate::phase::Phase;
+use crate::plan::Plan;
+use crate::record::index;
+use crate::refusal::Refusal;
+
+impl Plan {
+    /// DONE shares out, books ahead and starts. When the root ends the phase
+    /// is over.
+    pub(crate) fn done(&mut self, task: u16, starts: &mut [u16]) -> Result<Answer, Refusal> {
+        if self.phase != Phase::Running {
+            return Err(Refusal::OutOfTurn);
+        }
+        self.check_number(task)?;
+        if self.figures[index(task)].standing != Standing::Running {
+            return Err(Refusal::NotRunning);
+        }
+        self.finish(index(task));
+        let offers = self.dispatch(index(task));
+        self.activate();
+        let starts = self.start(starts);
+        if self.finished == self.tasks {
+            self.phase = Phase::Over;
+        }
+        Ok(Answer {
+            starts,
+            offers,
+            ..Answer::default()
+        })
+    }
+
+    /// The task leaves its processor; its out stays in use unless it is the
+    /// root, and its parent has one child less to wait for.
+    fn finish(&mut self, task: usize) {
+        self.figures[task].standing = Standing::Finished;
+        self.running -= 1;
+        self.finished += 1;
+        self.in_use -= self.figures[task].need;
+        let record = self.records[task];
+        if let Some(parent) = record.parent_index() {
+            self.in_use += u32::from(record.out);
+            let figures = &mut self.figures[parent];
+            figures.unfinished_children -= 1;
+            if figures.unfinished_children == 0 && figures.standing == Standing::Activated {
+                self.ready.insert(self.execution.place(record.parent));
+            }
+        }
+    }
+}

@@ -1,0 +1,154 @@
+//! Lists of askings: days driven to their end with many refusals in between.
+
+use super::day::Habit;
+use super::draft::Draft;
+use super::encode::encode;
+use super::random::Random;
+use super::{flaw, nuisance};
+use crate::command::Command;
+use crate::phase::Phase;
+use crate::plan::Plan;
+
+/// One command asked of a plan: a stream, a place in it, and how many entries
+/// the start list has.
+#[derive(Clone, Debug, PartialEq, Eq)]
+pub struct Asking {
+    pub bytes: Vec<u8>,
+    pub place: usize,
+    pub starts_len: usize,
+}
+
+impl Asking {
+    /// A command somewhere in a stream, other bytes before and after it.
+    fn amid(random: &mut Random, command: &[u8], starts_len: usize) -> Asking {
+        let mut asking = Asking::at_end(random, command, starts_len);
+        asking.bytes.extend(random.bytes(9));
+        asking
+    }
+
+    /// A command at the end of a stream, other bytes before it.
+    fn at_end(random: &mut Random, command: &[u8], starts_len: usize) -> Asking {
+        let mut bytes = random.bytes(5);
+        let place = bytes.len();
+        bytes.extend(command);
+        Asking {
+            bytes,
+            place,
+            starts_len,
+        }
+    }
+
+    /// A place at or past the end of a stream.
+    fn past_end(random: &mut Random, command: &[u8], starts_len: usize) -> Asking {
+        let len = command.len();
+        Asking {
+            bytes: command.to_vec(),
+            place: random.pick(&[len, len + 1, 70_000, usize::MAX]),
+            starts_len,
+        }
+    }
+}
+
+/// The askings of one seed, for one plan that begins empty. Most lists go on
+/// to the end of a day, some stop anywhere.
+pub fn askings(seed: u64) -> Vec<Asking> {
+    let mut asker = Asker::new(seed);
+    for _ in 0..asker.random.pick(&[0, 0, 1, 1, 2, 3]) {
+        let mut draft = Draft::random(&mut asker.random);
+        if asker.random.chance(60) {
+            flaw::spoil(&mut asker.random, &mut draft);
+        }
+        asker.send(&draft);
+    }
+    let draft = Draft::random(&mut asker.random);
+    asker.send(&draft);
+    if asker.random.chance(10) {
+        let end = asker.random.below(asker.askings.len());
+        asker.askings.truncate(end);
+    }
+    asker.askings
+}
+
+/// Whoever asks: keeps a plan of its own to know what is in turn.
+struct Asker {
+    random: Random,
+    plan: Plan,
+    running: Vec<u16>,
+    nuisances: u32,
+    askings: Vec<Asking>,
+}
+
+impl Asker {
+    fn new(seed: u64) -> Asker {
+        let mut random = Random::new(seed);
+        Asker {
+            nuisances: random.pick(&[5, 20, 50, 70]),
+            random,
+            plan: Plan::new(),
+            running: Vec::new(),
+            askings: Vec::new(),
+        }
+    }
+
+    /// Sends a whole plan and, where BEGIN is accepted, reports until the day
+    /// is over.
+    fn send(&mut self, draft: &Draft) {
+        let n = draft.records.len().max(1) as u16;
+        for command in draft.commands(&mut self.random) {
+            self.ask(&command, n);
+        }
+        let habit = Habit::random(&mut self.random);
+        while self.plan.phase() == Phase::Running {
+            let task = habit.take(&mut self.random, &mut self.running);
+            self.ask(&encode(Command::Done(task)), n);
+        }
+        self.pester(&encode(Command::Begin), n);
+    }
+
+    /// Asks a command, after some that are refused.
+    fn ask(&mut self, command: &[u8], n: u16) {
+        while self.random.chance(self.nuisances) {
+            self.pester(command, n);
+        }
+        let starts_len = self.random.pick(&[64, 64, 64, 65, 100, 1024]);
+        let asking = Asking::amid(&mut self.random, command, starts_len);
+        let mut starts = vec![0; starts_len];
+        let answer = self.plan.command(&asking.bytes, asking.place, &mut starts);
+        self.running.extend(&starts[..answer.starts]);
+        self.askings.push(asking);
+    }
+
+    /// Asks something that is refused where `command` would come next.
+    fn pester(&mut self, command: &[u8], n: u16) {
+        let asking = nuisance(&mut self.random, command, n);
+        let mut plan = self.plan.clone();
+        let mut starts = vec![0; asking.starts_len];
+        let answer = plan.command(&asking.bytes, asking.place, &mut starts);
+        if answer.number != 0 {
+            self.askings.push(asking);
+        }
+    }
+}
+
+/// An asking that is likely refused where `command` would come next.
+fn nuisance(random: &mut Random, command: &[u8], n: u16) -> Asking {
+    let other = nuisance::any_command(random, n);
+    let either = if random.chance(50) { command } else { &other };
+    match random.between(0, 9) {
+        0 => {
+            let unknown = nuisance::unknown_byte(random);
+            Asking::amid(random, &unknown, 64)
+        }
+        1 | 2 => {
+            let cut = nuisance::cut(random, either);
+            Asking::at_end(random, &cut, 64)
+        }
+        3 => Asking::past_end(random, either, 64),
+        4 => {
+            let starts_len = random.pick(&[0, 1, 62, 63]);
+            let bytes = random.pick(&[either, &[], &[0x09], &either[..1]]);
+            Asking::at_end(random, bytes, starts_len)
+        }
+        _ => Asking::amid(random, &other, 65),
+    }
+}

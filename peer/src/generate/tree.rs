@@ -1,0 +1,59 @@
+//! Trees of many shapes.
+
+use super::random::Random;
+
+#[derive(Clone, Copy)]
+enum Shape {
+    Random,
+    Deep,
+    Chain,
+    Star,
+    Caterpillar,
+    Binary,
+    Broom,
+}
+
+/// The parents of n tasks that form a tree, the root's being 0.
+pub(crate) fn parents(random: &mut Random, n: usize) -> Vec<u16> {
+    let shape = random.pick(&[
+        Shape::Random,
+        Shape::Random,
+        Shape::Deep,
+        Shape::Chain,
+        Shape::Star,
+        Shape::Caterpillar,
+        Shape::Binary,
+        Shape::Broom,
+    ]);
+    let numbers = numbers(random, n);
+    let mut parents = vec![0; n];
+    for node in 1..n {
+        let parent = parent(random, shape, node, n);
+        parents[usize::from(numbers[node]) - 1] = numbers[parent];
+    }
+    parents
+}
+
+/// The parent of a node; node 0 is the root and parents come first.
+fn parent(random: &mut Random, shape: Shape, node: usize, n: usize) -> usize {
+    match shape {
+        Shape::Random => random.below(node),
+        Shape::Deep => node - 1 - random.below(node.min(3)),
+        Shape::Chain => node - 1,
+        Shape::Star => 0,
+        Shape::Caterpillar => (node - 1) / 2 * 2,
+        Shape::Binary => (node - 1) / 2,
+        Shape::Broom => (node - 1).min(n / 2),
+    }
+}
+
+/// Which step number each node gets: rising, falling or mixed.
+fn numbers(random: &mut Random, n: usize) -> Vec<u16> {
+    let mut numbers: Vec<u16> = (1..=n as u16).collect();
+    match random.between(0, 3) {
+        0 => {}
+        1 => numbers.reverse(),
+        _ => random.shuffle(&mut numbers),
+    }
+    numbers
+}

@@ -1,0 +1,40 @@
+//! An independent writing of the rules in document 01: the plan, the booking
+//! and the day. It shares nothing with the tool it is compared with.
+//!
+//! Terms follow research report RR-8966: a step is a task, a station a
+//! processor, the tray places the memory bound, and booked trays are booked
+//! memory units.
+
+mod activate;
+mod answer;
+mod begin;
+mod command;
+mod desk;
+mod dispatch;
+mod done;
+mod feed;
+mod figures;
+mod fullness;
+pub mod generate;
+mod order;
+mod peak;
+mod phase;
+mod plan;
+pub mod printer;
+mod ready;
+mod record;
+mod refusal;
+mod start;
+pub mod text;
+mod tree;
+mod turn;
+
+pub use answer::{Answer, DeskAnswer};
+pub use command::{decode, Command};
+pub use desk::desk_peak;
+pub use fullness::fullness;
+pub use peak::needs;
+pub use phase::Phase;
+pub use plan::Plan;
+pub use record::Record;
+pub use refusal::Refusal;

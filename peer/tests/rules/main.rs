@@ -1,0 +1,17 @@
+//! The rules of document 01, tried on this implementation.
+
+mod against_naive;
+mod astray;
+mod day;
+mod desk;
+mod fullness;
+mod generator;
+mod grounds;
+mod limits;
+mod menu;
+mod naive;
+mod plan_a;
+mod plan_c;
+mod printer;
+mod table;
+mod watch;

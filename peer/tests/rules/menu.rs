@@ -1,0 +1,151 @@
+//! Plans to try things on, and ways to give commands.
+
+use peer::generate::encode;
+use peer::{Answer, Command, Plan, Record};
+
+/// What unused entries of a start list hold before a command.
+pub const MARK: u16 = 0xbeef;
+
+/// A plan with its orders.
+#[derive(Clone)]
+pub struct Menu {
+    pub processors: u8,
+    pub memory_bound: u32,
+    pub records: Vec<Record>,
+    pub activation: Vec<u16>,
+    pub execution: Vec<u16>,
+}
+
+impl Menu {
+    /// A plan with both orders 1 to n; records are parent, work, out.
+    pub fn new(processors: u8, memory_bound: u32, records: &[(u16, u16, u16)]) -> Menu {
+        let records: Vec<Record> = records
+            .iter()
+            .map(|&(parent, work, out)| Record { parent, work, out })
+            .collect();
+        let order: Vec<u16> = (1..=records.len() as u16).collect();
+        Menu {
+            processors,
+            memory_bound,
+            records,
+            activation: order.clone(),
+            execution: order,
+        }
+    }
+
+    /// PLAN and the steps.
+    pub fn steps(&self) -> Vec<Vec<u8>> {
+        let mut commands = vec![encode(Command::Plan {
+            tasks: self.records.len() as u16,
+            processors: self.processors,
+            memory_bound: self.memory_bound,
+        })];
+        commands.extend(
+            self.records
+                .iter()
+                .map(|&record| encode(Command::Step(record))),
+        );
+        commands
+    }
+
+    /// All commands before BEGIN.
+    pub fn commands(&self) -> Vec<Vec<u8>> {
+        let mut commands = self.steps();
+        commands.extend(
+            self.activation
+                .iter()
+                .map(|&task| encode(Command::Activation(task))),
+        );
+        commands.extend(
+            self.execution
+                .iter()
+                .map(|&task| encode(Command::Execution(task))),
+        );
+        commands
+    }
+
+    /// A plan given all commands before BEGIN, each accepted.
+    pub fn given(&self) -> Plan {
+        accepting(&self.commands())
+    }
+
+    /// The answer to BEGIN, its starts, and the plan after it.
+    pub fn begun(&self) -> (Answer, Vec<u16>, Plan) {
+        let mut plan = self.given();
+        let (answer, starts) = give(&mut plan, &[0x05]);
+        (answer, starts, plan)
+    }
+}
+
+/// Plan A.
+pub fn plan_a() -> Menu {
+    Menu::new(2, 7, &[(3, 5, 1), (3, 5, 1), (0, 0, 1)])
+}
+
+/// Plan C.
+pub fn plan_c() -> Menu {
+    Menu::new(2, 6, &[(3, 1, 2), (3, 2, 1), (4, 1, 2), (0, 0, 3)])
+}
+
+/// A plan that accepted these commands from empty on.
+pub fn accepting(commands: &[Vec<u8>]) -> Plan {
+    let mut plan = Plan::new();
+    for command in commands {
+        let (answer, _) = give(&mut plan, command);
+        assert_eq!(
+            (answer.number, answer.used),
+            (0, command.len()),
+            "{command:02x?}"
+        );
+    }
+    plan
+}
+
+/// Gives one command with a start list of 64 entries.
+pub fn give(plan: &mut Plan, command: &[u8]) -> (Answer, Vec<u16>) {
+    ask(plan, command, 0, 64)
+}
+
+/// Gives DONE for a task.
+pub fn done(plan: &mut Plan, task: u16) -> (Answer, Vec<u16>) {
+    give(plan, &encode(Command::Done(task)))
+}
+
+/// Gives one command. Later entries of the start list must stay untouched,
+/// and a refusal must leave every answer of the plan as it was.
+pub fn ask(plan: &mut Plan, bytes: &[u8], place: usize, starts_len: usize) -> (Answer, Vec<u16>) {
+    let before = answers(plan);
+    let mut starts = vec![MARK; starts_len];
+    let answer = plan.command(bytes, place, &mut starts);
+    let later = starts.split_off(answer.starts);
+    assert!(later.iter().all(|&entry| entry == MARK));
+    if answer.number != 0 {
+        let refused = Answer {
+            number: answer.number,
+            ..Answer::default()
+        };
+        assert_eq!(answer, refused);
+        assert_eq!(answers(plan), before);
+    }
+    (answer, starts)
+}
+
+/// Everything that can be asked of a plan.
+fn answers(plan: &Plan) -> impl PartialEq + std::fmt::Debug {
+    let booked_by: Vec<u32> = (1..=8).map(|task| plan.booked_by(task)).collect();
+    (
+        plan.phase(),
+        plan.booked(),
+        plan.in_use(),
+        plan.fullness(),
+        plan.standing(),
+        booked_by,
+    )
+}
+
+/// Bytes as the paper writes them.
+pub fn hex(text: &str) -> Vec<u8> {
+    text.split_whitespace()
+        .map(|byte| u8::from_str_radix(byte, 16).unwrap())
+        .collect()
+}

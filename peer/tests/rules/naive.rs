@@ -1,0 +1,331 @@
+//! The rules written down once more, sentence by sentence and with no care
+//! for speed: every sum is taken anew each time it is asked for.
+
+use peer::Phase;
+
+#[derive(Clone, Copy, PartialEq)]
+enum State {
+    Waiting,
+    Booked,
+    Running,
+    Ended,
+}
+
+/// The answer to a command, with the starts themselves.
+#[derive(Debug, Default, PartialEq)]
+pub struct Reply {
+    pub number: u8,
+    pub used: usize,
+    pub starts: Vec<u16>,
+    pub peak: usize,
+    pub offers: usize,
+}
+
+/// A plan. Lists by step have an unused entry 0, so that a step is its index.
+pub struct Naive {
+    pub phase: Phase,
+    n: usize,
+    p: usize,
+    m: usize,
+    parent: Vec<usize>,
+    work: Vec<usize>,
+    out: Vec<usize>,
+    activation: Vec<usize>,
+    execution: Vec<usize>,
+    state: Vec<State>,
+    booked: Vec<usize>,
+}
+
+impl Naive {
+    pub fn new() -> Naive {
+        Naive {
+            phase: Phase::Empty,
+            n: 0,
+            p: 0,
+            m: 0,
+            parent: vec![],
+            work: vec![],
+            out: vec![],
+            activation: vec![],
+            execution: vec![],
+            state: vec![],
+            booked: vec![],
+        }
+    }
+
+    pub fn command(&mut self, bytes: &[u8], place: usize, starts_len: usize) -> Reply {
+        match self.answer(bytes, place, starts_len) {
+            Ok(reply) => reply,
+            Err(number) => Reply {
+                number,
+                ..Reply::default()
+            },
+        }
+    }
+
+    fn answer(&mut self, bytes: &[u8], place: usize, starts_len: usize) -> Result<Reply, u8> {
+        refuse(10, starts_len < 64)?;
+        refuse(1, place >= bytes.len())?;
+        let width = match bytes[place] {
+            0x01 => 7,
+            0x02 => 6,
+            0x03 | 0x04 | 0x06 => 2,
+            0x05 => 0,
+            _ => return Err(2),
+        };
+        refuse(1, bytes.len() - place < 1 + width)?;
+        refuse(3, !self.in_turn(bytes[place]))?;
+        let operand = |at: usize, width: usize| {
+            let bytes = &bytes[place + 1 + at..place + 1 + at + width];
+            bytes
+                .iter()
+                .rev()
+                .fold(0, |sum, &byte| sum * 256 + usize::from(byte))
+        };
+        let mut reply = Reply {
+            used: 1 + width,
+            ..Reply::default()
+        };
+        match bytes[place] {
+            0x01 => self.open(operand(0, 2), operand(2, 1), operand(3, 4))?,
+            0x02 => self.step(operand(0, 2), operand(2, 2), operand(4, 2))?,
+            0x03 => {
+                refuse(4, !(1..=self.n).contains(&operand(0, 2)))?;
+                refuse(5, self.activation.contains(&operand(0, 2)))?;
+                self.activation.push(operand(0, 2));
+            }
+            0x04 => {
+                refuse(4, !(1..=self.n).contains(&operand(0, 2)))?;
+                refuse(5, self.execution.contains(&operand(0, 2)))?;
+                self.execution.push(operand(0, 2));
+            }
+            0x05 => {
+                reply.peak = self.begin()?;
+                self.book_ahead();
+                reply.starts = self.start();
+            }
+            _ => {
+                let j = operand(0, 2);
+                refuse(4, !(1..=self.n).contains(&j))?;
+                refuse(6, self.state[j] != State::Running)?;
+                self.state[j] = State::Ended;
+                reply.offers = self.share_out(j);
+                self.book_ahead();
+                reply.starts = self.start();
+                if self.parent[j] == 0 {
+                    self.phase = Phase::Over;
+                }
+            }
+        }
+        Ok(reply)
+    }
+
+    fn in_turn(&self, byte: u8) -> bool {
+        let (activation, execution) = (self.activation.len(), self.execution.len());
+        match byte {
+            0x01 => self.phase != Phase::Running,
+            0x02 => self.phase == Phase::Steps,
+            0x03 => self.phase == Phase::Orders && activation < self.n,
+            0x04 => self.phase == Phase::Orders && execution < self.n,
+            0x05 => self.phase == Phase::Orders && activation == self.n && execution == self.n,
+            _ => self.phase == Phase::Running,
+        }
+    }
+
+    fn open(&mut self, n: usize, p: usize, m: usize) -> Result<(), u8> {
+        refuse(4, !(1..=1024).contains(&n) || !(1..=64).contains(&p))?;
+        *self = Naive {
+            phase: Phase::Steps,
+            n,
+            p,
+            m,
+            parent: vec![0],
+            work: vec![0],
+            out: vec![0],
+            ..Naive::new()
+        };
+        Ok(())
+    }
+
+    fn step(&mut self, parent: usize, work: usize, out: usize) -> Result<(), u8> {
+        refuse(4, parent > self.n)?;
+        self.parent.push(parent);
+        self.work.push(work);
+        self.out.push(out);
+        if self.parent.len() == self.n + 1 {
+            self.phase = Phase::Orders;
+        }
+        Ok(())
+    }
+
+    fn begin(&mut self) -> Result<usize, u8> {
+        let roots = self.steps().filter(|&i| self.parent[i] == 0).count();
+        refuse(7, roots != 1)?;
+        let place = |i: usize| self.activation.iter().position(|&entry| entry == i);
+        let stands_well = |i: usize| self.parent[i] == 0 || place(i) < place(self.parent[i]);
+        refuse(8, !self.steps().all(stands_well))?;
+        let peak = self.peak();
+        refuse(9, peak > self.m)?;
+        self.phase = Phase::Running;
+        self.state = vec![State::Waiting; self.n + 1];
+        self.booked = vec![0; self.n + 1];
+        Ok(peak)
+    }
+
+    fn steps(&self) -> std::ops::RangeInclusive<usize> {
+        1..=self.n
+    }
+
+    fn children(&self, i: usize) -> impl Iterator<Item = usize> + '_ {
+        self.steps().filter(move |&child| self.parent[child] == i)
+    }
+
+    fn need(&self, i: usize) -> usize {
+        let outs: usize = self.children(i).map(|child| self.out[child]).sum();
+        outs + self.work[i] + self.out[i]
+    }
+
+    fn peak(&self) -> usize {
+        let while_running = |k: usize| {
+            let i = self.activation[k];
+            let ended = &self.activation[..k];
+            let run_or_running = &self.activation[..=k];
+            let outs: usize = ended
+                .iter()
+                .filter(|&&j| !run_or_running.contains(&self.parent[j]))
+                .map(|&j| self.out[j])
+                .sum();
+            self.need(i) + outs
+        };
+        (0..self.n).map(while_running).max().unwrap()
+    }
+
+    /// The subtree figure: the booked trays of a step and of all below it.
+    fn subtree_figure(&self, i: usize) -> usize {
+        let below: usize = self
+            .children(i)
+            .map(|child| self.subtree_figure(child))
+            .sum();
+        self.booked[i] + below
+    }
+
+    fn sum_of_booked(&self) -> usize {
+        self.booked.iter().sum()
+    }
+
+    fn book_ahead(&mut self) {
+        let is_waiting = |naive: &Naive, i: usize| naive.state[i] == State::Waiting;
+        while let Some(&i) = self.activation.iter().find(|&&i| is_waiting(self, i)) {
+            let of_children: usize = self
+                .children(i)
+                .map(|child| self.subtree_figure(child))
+                .sum();
+            let missing = self.need(i).saturating_sub(self.booked[i] + of_children);
+            if self.sum_of_booked() + missing > self.m {
+                return;
+            }
+            self.booked[i] += missing;
+            self.state[i] = State::Booked;
+        }
+    }
+
+    fn start(&mut self) -> Vec<u16> {
+        let mut starts = vec![];
+        while self.count(State::Running) < self.p {
+            let may_start = |i: usize| {
+                self.state[i] == State::Booked
+                    && self
+                        .children(i)
+                        .all(|child| self.state[child] == State::Ended)
+            };
+            let Some(&i) = self.execution.iter().find(|&&i| may_start(i)) else {
+                break;
+            };
+            self.state[i] = State::Running;
+            starts.push(i as u16);
+        }
+        starts
+    }
+
+    fn share_out(&mut self, j: usize) -> usize {
+        let mut r = self.booked[j];
+        self.booked[j] = 0;
+        if self.parent[j] != 0 {
+            self.booked[self.parent[j]] += self.out[j];
+            r -= self.out[j];
+        }
+        let mut offers = 0;
+        let mut i = self.parent[j];
+        while i != 0 && self.state[i] != State::Waiting && r != 0 {
+            let gift = self.need(i).saturating_sub(self.subtree_figure(i));
+            self.booked[i] += gift;
+            r -= gift;
+            offers += 1;
+            i = self.parent[i];
+        }
+        offers
+    }
+
+    fn count(&self, state: State) -> usize {
+        self.steps().filter(|&i| self.state[i] == state).count()
+    }
+
+    pub fn booked(&self) -> usize {
+        match self.phase {
+            Phase::Running => self.sum_of_booked(),
+            _ => 0,
+        }
+    }
+
+    pub fn booked_by(&self, i: usize) -> usize {
+        match self.phase {
+            Phase::Running if self.steps().contains(&i) => self.booked[i],
+            _ => 0,
+        }
+    }
+
+    pub fn in_use(&self) -> usize {
+        if self.phase != Phase::Running {
+            return 0;
+        }
+        let needs: usize = self
+            .steps()
+            .filter(|&i| self.state[i] == State::Running)
+            .map(|i| self.need(i))
+            .sum();
+        let outs: usize = self
+            .steps()
+            .filter(|&i| self.state[i] == State::Ended && self.parent[i] != 0)
+            .filter(|&i| matches!(self.state[self.parent[i]], State::Waiting | State::Booked))
+            .map(|i| self.out[i])
+            .sum();
+        needs + outs
+    }
+
+    pub fn fullness(&self) -> usize {
+        let b = self.booked();
+        if self.m == 0 {
+            0
+        } else if b >= self.m {
+            1000
+        } else {
+            1000 * b / self.m
+        }
+    }
+
+    pub fn standing(&self) -> [usize; 4] {
+        if self.phase != Phase::Running && self.phase != Phase::Over {
+            return [0; 4];
+        }
+        [State::Waiting, State::Booked, State::Running, State::Ended].map(|state| self.count(state))
+    }
+}
+
+/// Refuses with this number where its ground holds.
+fn refuse(number: u8, ground: bool) -> Result<(), u8> {
+    if ground {
+        Err(number)
+    } else {
+        Ok(())
+    }
+}

@@ -1,0 +1,33 @@
+//! Plan A, as its bytes and lines are printed in the paper.
+
+use crate::menu::{hex, plan_a};
+use peer::printer;
+
+const BYTES: &str = "
+    01 03 00 02 07 00 00 00
+    02 03 00 05 00 01 00
+    02 03 00 05 00 01 00
+    02 00 00 00 00 01 00
+    03 01 00 03 02 00 03 03 00
+    04 01 00 04 02 00 04 03 00
+    05 06 01 00 06 02 00 06 03 00";
+
+const LINES: &str = "\
+begin peak=7 booked=6 used=6 full=857 start 1
+done 1 offers=0 booked=7 used=7 full=1000 start 2
+done 2 offers=1 booked=3 used=3 full=428 start 3
+done 3 offers=0 booked=0 used=0 full=0 start -
+";
+
+#[test]
+fn whole_output() {
+    let mut output = Vec::new();
+    printer::print(&hex(BYTES)[..], &mut output).unwrap();
+    assert_eq!(String::from_utf8(output).unwrap(), LINES);
+}
+
+#[test]
+fn the_menu_is_the_paper_s() {
+    let commands = plan_a().commands().concat();
+    assert_eq!(commands, hex(BYTES)[..commands.len()]);
+}

@@ -1,0 +1,124 @@
+//! Watches a day and checks what must hold after each of its commands.
+
+use peer::{decode, needs, Answer, Command, Phase, Plan, Record};
+
+/// What the accepted commands of a plan say: the plan itself, and of its day
+/// the starts and ends alone.
+#[derive(Default)]
+pub struct Watch {
+    memory_bound: u32,
+    records: Vec<Record>,
+    needs: Vec<u32>,
+    started: Vec<bool>,
+    ended: Vec<bool>,
+    /// Days that came to their end.
+    pub days: usize,
+}
+
+impl Watch {
+    /// Takes note of an accepted command and its starts, then checks the day.
+    pub fn accepted(&mut self, bytes: &[u8], place: usize, answer: &Answer, starts: &[u16]) {
+        let (command, used) = decode(bytes, place).unwrap();
+        assert_eq!(answer.used, used);
+        match command {
+            Command::Plan { memory_bound, .. } => {
+                *self = Watch {
+                    memory_bound,
+                    days: self.days,
+                    ..Watch::default()
+                };
+            }
+            Command::Step(record) => self.records.push(record),
+            Command::Activation(_) | Command::Execution(_) => {}
+            Command::Begin => {
+                self.needs = needs(&self.records)[..self.records.len()].to_vec();
+                self.started = vec![false; self.records.len()];
+                self.ended = vec![false; self.records.len()];
+            }
+            Command::Done(task) => self.end(task),
+        }
+        for &task in starts {
+            self.start(task);
+        }
+    }
+
+    fn start(&mut self, task: u16) {
+        let index = usize::from(task) - 1;
+        assert!(!self.started[index], "{task} starts twice");
+        self.started[index] = true;
+        let mut feeders = self.records.iter().zip(&self.ended);
+        assert!(feeders.all(|(record, &ended)| record.parent != task || ended));
+    }
+
+    fn end(&mut self, task: u16) {
+        let index = usize::from(task) - 1;
+        assert!(self.started[index] && !self.ended[index]);
+        self.ended[index] = true;
+        if self.ended.iter().all(|&ended| ended) {
+            self.days += 1;
+        }
+    }
+
+    /// Checks the day, whether the last command was accepted or refused.
+    pub fn check(&self, plan: &Plan) {
+        let n = self.started.len();
+        if n == 0 {
+            assert_eq!(
+                (plan.booked(), plan.in_use(), plan.standing()),
+                (0, 0, [0; 4])
+            );
+            return;
+        }
+        let reports = self.ended.iter().filter(|&&ended| ended).count();
+        let running = (0..n).filter(|&task| self.is_running(task)).count();
+        assert_eq!(running > 0, reports < n);
+        assert!(running <= Plan::PROCESSORS);
+        if reports == n {
+            assert!(self.started.iter().all(|&started| started));
+            assert_eq!(plan.phase(), Phase::Over);
+        } else {
+            assert_eq!(plan.phase(), Phase::Running);
+        }
+        let [waiting, activated, by_running, finished] =
+            plan.standing().map(|count| count as usize);
+        assert_eq!((by_running, finished), (running, reports));
+        assert_eq!(waiting + activated + by_running + finished, n);
+        self.check_memory(plan);
+    }
+
+    fn check_memory(&self, plan: &Plan) {
+        let n = self.started.len();
+        assert_eq!(plan.in_use(), self.in_use());
+        assert!(plan.in_use() <= plan.booked());
+        assert!(plan.booked() <= self.memory_bound);
+        let numbers = 1..=n as u16;
+        assert_eq!(
+            numbers.map(|task| plan.booked_by(task)).sum::<u32>(),
+            plan.booked()
+        );
+        for task in (0..n).filter(|&task| self.is_running(task)) {
+            assert_eq!(plan.booked_by(task as u16 + 1), self.needs[task]);
+        }
+    }
+
+    fn is_running(&self, task: usize) -> bool {
+        self.started[task] && !self.ended[task]
+    }
+
+    /// The needs of running tasks + the outs of finished ones whose parent
+    /// has not started.
+    fn in_use(&self) -> u32 {
+        let held = |task: usize| {
+            let record = self.records[task];
+            match record.parent {
+                _ if self.is_running(task) => self.needs[task],
+                0 => 0,
+                parent if self.ended[task] && !self.started[usize::from(parent) - 1] => {
+                    record.out.into()
+                }
+                _ => 0,
+            }
+        };
+        (0..self.records.len()).map(held).sum()
+    }
+}
