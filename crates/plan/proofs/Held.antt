@@ -11,8 +11,8 @@ use Rattle.rules.specs.Lists.{mem}
 use Rattle.rules.specs.Standing.{waiting, activated, running, finished}
 use Rattle.rules.specs.Booking.{chain, figure}
 use Rattle.rules.proofs.Tests.{decide, clash, fails, same-or-not, or-cases, or-none}
-use Rattle.rules.proofs.Sums.{sum-cong, only-and, only-cong, only-add, only-true, only-false, only-zero}
-use Rattle.rules.proofs.Children.{children, children-cong, children-add, children-change, children-zero, figure-children}
+use Rattle.rules.proofs.Sums.{sum-cong, only-le, only-and, only-cong, only-add, only-true, only-false, only-zero}
+use Rattle.rules.proofs.Children.{children, children-le, children-cong, children-add, children-change, children-zero, figure-children}
 use Rattle.rules.proofs.Tree.{Tree, up, up-self, up-step, up-rank, up-nobody, parent-task, not-above-itself, figure-change}
 use Rattle.rules.proofs.Shape.{Shape, Moved}
 use Rattle.plan.specs.Kept.{held, heldWith}
@@ -281,3 +281,14 @@ module _ (n : ℕ) (par rank : ℕ → ℕ) (tree : Tree n par rank) where
       let none = only-false (up n par c i) r off in
       omega arith)))
       ∙ sym (held-is n par st b i)
+
+  -- no more than the subtree figure
+  pub held-le-figure : (st b : ℕ → ℕ) (i : ℕ) → Task n i → held n par st b i ≤ figure n par b i
+  held-le-figure st b i t =
+      let h = held-is n par st b i in
+      let f = figure-children n par rank tree b i t in
+      let less =
+      children-le n par (λ c. counts st c (figure n par b c)) (λ c. figure n par b c) i
+      (λ c _ _. only-le (not (eqb (st c) waiting)) (figure n par b c))
+      in
+      omega arith

@@ -1,4 +1,5 @@
 -- What the code keeps, and what it means.
 pub mod Kept
+pub mod Ahead
 pub mod Climb
 pub mod Starting

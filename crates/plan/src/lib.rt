@@ -1,4 +1,5 @@
 // The plan of a kitchen's day: commands in, answers out.
+mod ahead;
 mod climb;
 mod numbers;
 pub mod plan;
