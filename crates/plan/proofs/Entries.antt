@@ -3,7 +3,7 @@ use mathlib.Core.Path.{_≡_, refl, sym, ap, _∙_}
 use mathlib.Core.Bool.{Bool, true, false, cond, _&&_}
 use mathlib.Core.Logic.{⊎-elim}
 use mathlib.Core.List.{List}
-use Prim.Native.Nat.{ℕ, _+_, _/_, _≤_, _<_}
+use Prim.Native.Nat.{ℕ, _+_, _-_, _/_, _≤_, _<_}
 use native.Mathlib.Omega.{arith}
 use lib.Dec.{eqb}
 use lib.ListN.{length, set, length-set}
@@ -15,6 +15,8 @@ use Rattle.rules.proofs.Tests.{decide, same-or-not}
 use Rattle.rules.proofs.Sums.{only-true, only-false, only-and, only-zero}
 use Rattle.plan.specs.Kept.{blockSize}
 use Rattle.plan.specs.Ahead.{grown, counting}
+use Rattle.plan.specs.Finish.{fewer, Quiet}
+use Rattle.plan.proofs.Front.{quiet-set}
 
 -- an entry with more in it
 pub set-more :
@@ -76,3 +78,47 @@ counting-length l unfed place = by-test (eqb unfed 0)
         (b : Bool) → length (cond b (set l (place / blockSize) (at l (place / blockSize) + 1)) l) ≡ length l
     by-test true = length-set l (place / blockSize) (at l (place / blockSize) + 1)
     by-test false = refl
+
+-- one child fewer
+pub fewer-at :
+    (l : List ℕ) (q i : ℕ)
+    → q < length l
+    → 1 ≤ i
+    → (q ≡ i → 1 ≤ at l i)
+    → at (fewer l q) i + only (eqb q i) 1 ≡ at l i
+fewer-at l q i h low some =
+    ⊎-elim
+    (λ z.
+    ap (λ (b : Bool). at (cond b l (set l q (at l q - 1))) i + only (eqb q i) 1) (eq-eqb q 0 z)
+    ∙ (let none = only-false (eqb q i) 1 (ne-eqb q i (λ e. omega arith)) in omega arith))
+    (λ d.
+    ap (λ (b : Bool). at (cond b l (set l q (at l q - 1))) i + only (eqb q i) 1) (ne-eqb q 0 d)
+    ∙ ⊎-elim
+    (λ e.
+    let one = only-true (eqb q i) 1 (eq-eqb q i e) in
+    let s : at (set l q (at l q - 1)) i ≡ at l q - 1 =
+    ap (at (set l q (at l q - 1))) (sym e) ∙ getD-set-same l q (at l q - 1) 0 h
+    in
+    let f : at l q ≡ at l i = ap (at l) e in
+    let m = some e in
+    omega arith)
+    (λ v.
+    let none = only-false (eqb q i) 1 (ne-eqb q i v) in
+    let s = getD-set-other l q i (at l q - 1) 0 (λ e. v (sym e)) in
+    omega arith)
+    (same-or-not q i))
+    (same-or-not q 0)
+
+pub fewer-length : (l : List ℕ) (q : ℕ) → length (fewer l q) ≡ length l
+fewer-length l q = by-test (eqb q 0)
+  where
+    by-test : (b : Bool) → length (cond b l (set l q (at l q - 1))) ≡ length l
+    by-test true = refl
+    by-test false = length-set l q (at l q - 1)
+
+pub grown-quiet : (n : ℕ) (l : List ℕ) (q v : ℕ) → q ≤ n → Quiet n l → Quiet n (grown l q v)
+grown-quiet n l q v h quiet = by-test (eqb q 0)
+  where
+    by-test : (b : Bool) → Quiet n (cond b l (set l q (at l q + v)))
+    by-test true = quiet
+    by-test false = quiet-set n l q (at l q + v) h quiet

@@ -6,3 +6,4 @@ pub mod Blocks
 pub mod Ready
 pub mod Way
 pub mod Turning
+pub mod Ending

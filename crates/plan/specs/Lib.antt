@@ -2,4 +2,5 @@
 pub mod Kept
 pub mod Ahead
 pub mod Climb
+pub mod Finish
 pub mod Starting
