@@ -31,12 +31,12 @@ pub(crate) fn count_ready(blocks: &mut [u16; Plan::BLOCKS], unfed: u16, place: u
 }
 
 // "it gets them and becomes booked": one task and what it misses.
-fn book(
+fn book<'a>(
     task: usize,
     missing: u32,
-    parents: &[u16; Plan::PLACES],
-    places: &[u16; Plan::PLACES],
-    unfed: &[u16; Plan::PLACES],
+    parents: &'a [u16; Plan::PLACES],
+    places: &'a [u16; Plan::PLACES],
+    unfed: &'a [u16; Plan::PLACES],
     booked: &mut [u32; Plan::PLACES],
     figures: &mut [u32; Plan::PLACES],
     standings: &mut [u8; Plan::PLACES],
@@ -55,14 +55,14 @@ fn book(
 
 // "Look at the first waiting step in the activation order. .. If B + missing is at most M, it gets
 // them and becomes booked, and the next is looked at. Otherwise booking ahead stops."
-pub(crate) fn book_ahead(
+pub(crate) fn book_ahead<'a>(
     n: usize,
     bound: u32,
-    parents: &[u16; Plan::PLACES],
-    needs: &[u32; Plan::PLACES],
-    activation: &[u16; Plan::MAX_TASKS],
-    places: &[u16; Plan::PLACES],
-    unfed: &[u16; Plan::PLACES],
+    parents: &'a [u16; Plan::PLACES],
+    needs: &'a [u32; Plan::PLACES],
+    activation: &'a [u16; Plan::MAX_TASKS],
+    places: &'a [u16; Plan::PLACES],
+    unfed: &'a [u16; Plan::PLACES],
     booked: &mut [u32; Plan::PLACES],
     figures: &mut [u32; Plan::PLACES],
     standings: &mut [u8; Plan::PLACES],

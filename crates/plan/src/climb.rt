@@ -22,11 +22,11 @@ pub(crate) fn lack(need: u32, figure: u32) -> u32
 // "Then climb from parent to parent, from j's parent on, ending at the first of: past the root, a
 // step that is waiting, R is 0." n is the number of tasks, `below` is j and `rest` is R. The figures
 // still have R in them, and lose it where the climb passes or stops at a waiting task.
-pub(crate) fn climb(
+pub(crate) fn climb<'a>(
     n: usize,
-    parents: &[u16; Plan::PLACES],
-    needs: &[u32; Plan::PLACES],
-    standings: &[u8; Plan::PLACES],
+    parents: &'a [u16; Plan::PLACES],
+    needs: &'a [u32; Plan::PLACES],
+    standings: &'a [u8; Plan::PLACES],
     booked: &mut [u32; Plan::PLACES],
     figures: &mut [u32; Plan::PLACES],
     below: usize,

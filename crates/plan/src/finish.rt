@@ -22,10 +22,10 @@ fn kept_by(parent: usize, out: u32) -> u32
 }
 
 // The parent waits for one child fewer, and is ready where it waits for none and is booked.
-fn feed(
+fn feed<'a>(
     parent: usize,
-    standings: &[u8; Plan::PLACES],
-    places: &[u16; Plan::PLACES],
+    standings: &'a [u8; Plan::PLACES],
+    places: &'a [u16; Plan::PLACES],
     unfed: &mut [u16; Plan::PLACES],
     blocks: &mut [u16; Plan::BLOCKS],
 )
@@ -44,13 +44,13 @@ fn feed(
 
 // "When step j ends, its booked trays, call them R, are taken from it. If it has a parent, the
 // parent is given j's out, and R falls by it. Then climb .. What is left of R is free."
-pub(crate) fn finish(
+pub(crate) fn finish<'a>(
     n: usize,
     task: usize,
-    parents: &[u16; Plan::PLACES],
-    outs: &[u32; Plan::PLACES],
-    needs: &[u32; Plan::PLACES],
-    places: &[u16; Plan::PLACES],
+    parents: &'a [u16; Plan::PLACES],
+    outs: &'a [u32; Plan::PLACES],
+    needs: &'a [u32; Plan::PLACES],
+    places: &'a [u16; Plan::PLACES],
     booked: &mut [u32; Plan::PLACES],
     figures: &mut [u32; Plan::PLACES],
     standings: &mut [u8; Plan::PLACES],
