@@ -42,3 +42,4 @@ pub mod Reporting
 pub mod Holds
 pub mod Steps
 pub mod Theorem
+pub mod Reaching

@@ -20,4 +20,5 @@ pub mod Desk
 pub mod Text
 pub mod Day
 pub mod Theorem
+pub mod Reachable
 pub mod Marked
