@@ -1,2 +1,5 @@
 -- Laws of what the code keeps.
 pub mod Held
+-- starting
+pub mod First
+pub mod Blocks

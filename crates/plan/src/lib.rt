@@ -1,3 +1,5 @@
 // The plan of a kitchen's day: commands in, answers out.
 mod numbers;
 pub mod plan;
+mod ready;
+mod start;
