@@ -3,3 +3,5 @@ pub mod Held
 -- starting
 pub mod First
 pub mod Blocks
+pub mod Picks
+pub mod Begun

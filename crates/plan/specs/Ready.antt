@@ -20,9 +20,9 @@ pub record FirstAt (test : ℕ → Bool) (n : ℕ) (l : List ℕ) (r : ℕ) : Ty
   pub found : first test (take n l) ≡ only (ltb r n) (at l r)
 
 -- each block's entry is the count of the ready tasks whose place is in the block
-abbrev pub Agrees : (n : ℕ) (place : ℕ → ℕ) (standings unfed blocks : List ℕ) → Type 0
-Agrees n place standings unfed blocks =
-    (q : ℕ) → at blocks q ≡ countTo (λ i. eqb (place i / blockSize) q && isReady standings unfed i) n
+pub record Agrees (n : ℕ) (place : ℕ → ℕ) (standings unfed blocks : List ℕ) : Type 0 where
+  pub counts :
+      (q : ℕ) → at blocks q ≡ countTo (λ i. eqb (place i / blockSize) q && isReady standings unfed i) n
 
 -- the same for the places in an execution order, wherever they are kept
 pub record Blocked (n : ℕ) (execution standings unfed blocks : List ℕ) : Type 0 where

@@ -1,4 +1,4 @@
--- What starting asks and leaves.
+-- Starting: what it asks and what it leaves.
 use mathlib.Core.Path.{_≡_}
 use mathlib.Core.List.{List}
 use Prim.Native.Nat.{ℕ, _+_, _-_, _^_, _≤_, _<_}
@@ -13,21 +13,37 @@ use Rattle.plan.specs.Kept.{Placed}
 use Rattle.plan.specs.Starting.{picks}
 use Rattle.plan.specs.Ready.{Agrees}
 
--- what the tasks of a list hold of the store beyond the outs of their children
+-- what the tasks of a list bring into use: their works and outs
 abbrev pub trays : (works outs l : List ℕ) → ℕ
 trays works outs l = sumOver (λ i. at works i + at outs i) l
 
--- the tasks that start
-abbrev pub started : (n processors : ℕ) (execution unfed standings : List ℕ) → Numbers → List ℕ
-started n processors execution unfed standings h = picks (take n execution) unfed (processors - h .running) standings
+-- so many tasks more run, with so many trays
+abbrev pub more : Numbers → (tasks trays : ℕ) → Numbers
+more h tasks trays =
+    record {
+      next = h .next;
+      running = h .running + tasks;
+      finished = h .finished;
+      booked = h .booked;
+      used = h .used + trays;
+    }
 
--- the limits, the places of the tasks and the blocks, and that the trays in use will fit 32 bits
-pub record Startable (n processors : ℕ) (works outs execution places unfed standings blocks : List ℕ) (h : Numbers)
-    (list : List ℕ) : Type 0 where
+-- the limits, the places of the tasks and the blocks, and that the trays in use fit 32 bits with those of the tasks l
+pub record Startable (l : List ℕ) (n processors : ℕ) (works outs execution places unfed standings blocks : List ℕ)
+    (h : Numbers) (list : List ℕ) : Type 0 where
   pub small : n ≤ maxTasks
   pub busy : h .running ≤ processors
   pub few : processors ≤ maxProcessors
   pub room : leastStarts ≤ length list
   pub placed : Placed n (take n execution) (at places)
   pub agrees : Agrees n (at places) standings unfed blocks
-  pub fits : h .used + trays works outs (started n processors execution unfed standings h) < 2 ^ 32
+  pub fits : h .used + trays works outs l < 2 ^ 32
+
+-- the tasks l run, and are written to the front of the start list
+pub record Begun (l : List ℕ) (n : ℕ) (works outs places unfed standings list : List ℕ) (h : Numbers)
+    (standings′ blocks′ list′ : List ℕ) (h′ : Numbers) (count : ℕ) : Type 0 where
+  pub counted : count ≡ length l
+  pub listed : list′ ≡ front l list
+  pub run : standings′ ≡ start l standings
+  pub agrees : Agrees n (at places) standings′ unfed blocks′
+  pub numbers : h′ ≡ more h (length l) (trays works outs l)
