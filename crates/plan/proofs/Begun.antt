@@ -2,26 +2,24 @@
 use mathlib.Core.Path.{_≡_, refl, sym, ap, _∙_}
 use mathlib.Core.Bool.{true}
 use mathlib.Core.List.{List, [], _∷_, _++_, append-nil}
-use Prim.Native.Nat.{ℕ, zero, suc, _+_, _-_, _^_, _≤_, _<_}
+use Prim.Native.Nat.{ℕ, suc, _+_, _-_, _^_, _≤_, _<_}
 use native.Mathlib.Nat.{add-zero, add-assoc}
 use native.Mathlib.Omega.{arith}
 use lib.Dec.{ltb}
-use lib.ListN.{length, take, drop, set, length-append, length-drop}
+use lib.ListN.{length, take, set, length-append, length-drop}
 use lib.Seq.{append-snoc}
 use borrow.Author.Tests.{lt-ltb, le-ltb}
-use Rattle.rules.specs.Sums.{only}
 use Rattle.rules.specs.Lists.{at, first}
-use Rattle.rules.specs.Limits.{maxProcessors}
+use Rattle.rules.specs.Limits.{maxTasks, maxProcessors}
 use Rattle.rules.specs.Standing.{running}
 use Rattle.rules.specs.Booking.{start}
 use Rattle.rules.specs.Answer.{front}
 use Rattle.rules.proofs.Sums.{Task, only-true, only-false}
 use Rattle.rules.proofs.Orders.{sumOver}
-use Rattle.plan.specs.declared.numbers.Numbers.{Numbers}
-use Rattle.plan.specs.Kept.{blockSize, Placed}
+use Rattle.plan.specs.Kept.{Numbers}
 use Rattle.plan.specs.Starting.{isReady, picks}
-use Rattle.plan.specs.Ready.{FirstAt, Agrees, Blocked}
-use Rattle.plan.specs.Start.{trays, more, Startable, Begun}
+use Rattle.plan.specs.Ready.{FirstAt, Blocked}
+use Rattle.plan.specs.Start.{trays, more, chosen, CanStart, Begun}
 use Rattle.plan.proofs.Blocks.{entry-task, entry-place, block, counted, agrees-run}
 use Rattle.plan.proofs.Picks.{found-passes, picks-full, picks-none, picks-one, start-more, sum-append, sum-one, front-more}
 
@@ -32,23 +30,29 @@ more-none h = simp add-zero
 more-more : (h : Numbers) (a b c d : ℕ) → more (more h a b) c d ≡ more h (a + c) (b + d)
 more-more h a b c d = simp add-assoc
 
--- the tasks that start where so many processors and such standings are given
-abbrev pub choice : (n processors : ℕ) (execution unfed : List ℕ) → Numbers → List ℕ → List ℕ
-choice n processors execution unfed h standings = picks (take n execution) unfed (processors - h .running) standings
-
 -- some tasks are started, and those that start from here on are the rest
-pub record Going (n processors : ℕ) (works outs execution places unfed standings₀ list₀ : List ℕ) (h₀ : Numbers)
-    (standings blocks list : List ℕ) (h : Numbers) (count : ℕ) : Type 0 where
+pub record Going (n processors : ℕ) (works outs execution places unfed standings₀ : List ℕ) (h₀ : Numbers) (list₀ : List ℕ)
+    (standings blocks : List ℕ) (h : Numbers) (list : List ℕ) (count : ℕ) : Type 0 where
   pub done : List ℕ
-  pub begun : Begun done n works outs places unfed standings₀ list₀ h₀ standings blocks list h count
+  pub begun : Begun done n works outs places unfed standings₀ h₀ list₀ standings blocks h list count
   pub whole :
-      choice n processors execution unfed h₀ standings₀ ≡ done ++ choice n processors execution unfed h standings
+      chosen n processors execution unfed standings₀ h₀ ≡ done ++ chosen n processors execution unfed standings h
   pub busy : h .running ≤ processors
 
+-- what a turn knows of task i: its place, its block and its trays, and that there is room for it
+pub record Turn (works outs places blocks : List ℕ) (h : Numbers) (list : List ℕ) (count i : ℕ) : Type 0 where
+  pub small : i ≤ maxTasks
+  pub placed : at places i < maxTasks
+  pub counted : 1 ≤ at blocks (block (at places) i)
+  pub free : h .running < maxProcessors
+  pub fits : h .used + (at works i + at outs i) < 2 ^ 32
+  pub few : count < maxProcessors
+  pub room : count < length list
+
 module _ {n processors : ℕ} {works outs execution places unfed standings₀ blocks₀ : List ℕ} {h₀ : Numbers} {list₀ : List ℕ}
-    (s : Startable (choice n processors execution unfed h₀ standings₀) n processors works outs execution places unfed standings₀ blocks₀ h₀ list₀) where
+    (s : CanStart n processors works outs execution places unfed standings₀ blocks₀ h₀ list₀) where
   -- nothing is started at first
-  pub none-yet : Going n processors works outs execution places unfed standings₀ list₀ h₀ standings₀ blocks₀ list₀ h₀ 0
+  pub none-yet : Going n processors works outs execution places unfed standings₀ h₀ list₀ standings₀ blocks₀ h₀ list₀ 0
   unfolding front start sumOver
   none-yet =
       record {
@@ -59,76 +63,79 @@ module _ {n processors : ℕ} {works outs execution places unfed standings₀ bl
       }
 
   module _ {standings blocks list : List ℕ} {h : Numbers} {count : ℕ}
-      (g : Going n processors works outs execution places unfed standings₀ list₀ h₀ standings blocks list h count) where
+      (g : Going n processors works outs execution places unfed standings₀ h₀ list₀ standings blocks h list count) where
     -- what the search for the first ready task asks
     pub blocked : Blocked n (take n execution) standings unfed blocks
     blocked = record { place = at places; placed = s .placed; agrees = g .begun .agrees }
 
-    -- so many more run, and the start list is as long as it was
-    pub so-many : h .running ≡ h₀ .running + count
+    so-many : h .running ≡ h₀ .running + count
     so-many = rw (g .begun .counted) (ap (λ (k : Numbers). k .running) (g .begun .numbers))
 
+    -- the start list is as long as it was
     pub as-long : length list ≡ length list₀
     unfolding front
-    as-long =
-        rw (g .begun .listed) (simp (length-append, length-drop) (omega (arith, so-many)))
+    as-long = rw (g .begun .listed) (simp (length-append, length-drop) (omega (arith, so-many)))
 
-    -- nobody starts any more: no processor is free
+    -- where nobody starts any more, all are started
+    ended :
+        chosen n processors execution unfed standings h ≡ []
+        → Begun (chosen n processors execution unfed standings₀ h₀) n works outs places unfed standings₀ h₀ list₀
+        standings blocks h list count
+    ended rest = rw (g .whole, rest, append-nil) (g .begun)
+
+    -- no processor is free
     pub no-processor :
         processors ≤ h .running
-        → Begun (choice n processors execution unfed h₀ standings₀) n works outs places unfed standings₀ list₀ h₀ standings blocks list h count
-    no-processor full =
-        let rest = picks-full (take n execution) unfed (processors - h .running) standings (omega arith) in
-        rw (g .whole, rest, append-nil) (g .begun)
+        → Begun (chosen n processors execution unfed standings₀ h₀) n works outs places unfed standings₀ h₀ list₀
+        standings blocks h list count
+    no-processor full = ended (picks-full (take n execution) unfed (processors - h .running) standings (omega arith))
 
-    module _ (e : ℕ) (found : FirstAt (isReady standings unfed) n execution e) where
-      -- or nobody is ready
+    module _ {e : ℕ} (found : FirstAt (isReady standings unfed) n execution e) where
+      -- nobody is ready
       pub nobody-ready :
           e ≡ n
-          → Begun (choice n processors execution unfed h₀ standings₀) n works outs places unfed standings₀ list₀ h₀ standings blocks list h count
+          → Begun (chosen n processors execution unfed standings₀ h₀) n works outs places unfed standings₀ h₀ list₀
+          standings blocks h list count
       nobody-ready q =
-          let none = found .found ∙ only-false (ltb e n) (at execution e) (le-ltb e n (omega arith)) in
-          let rest = picks-none (take n execution) unfed (processors - h .running) standings none in
-          rw (g .whole, rest, append-nil) (g .begun)
+          ended
+          (picks-none (take n execution) unfed (processors - h .running) standings
+          (found .found ∙ only-false (ltb e n) (at execution e) (le-ltb e n (omega arith))))
 
       module _ (free : h .running < processors) (some : e ≡ n → ⊥) where
-        -- else the one at the place found starts. It is a task of the plan, and ready
-        pub place : e < n
-        place = let w = found .within in omega (arith, some)
+        inside : e < n
+        inside = let w = found .within in omega (arith, some)
 
-        pub task : Task n (at execution e)
-        task = entry-task n execution (at places) (s .placed) e place
+        task : Task n (at execution e)
+        task = entry-task n execution (at places) (s .placed) e inside
 
         is-first : first (isReady standings unfed) (take n execution) ≡ at execution e
-        is-first = found .found ∙ only-true (ltb e n) (at execution e) (lt-ltb e n place)
+        is-first = found .found ∙ only-true (ltb e n) (at execution e) (lt-ltb e n inside)
 
         ready : isReady standings unfed (at execution e) ≡ true
         ready = found-passes (isReady standings unfed) (take n execution) (at execution e) is-first (task .low)
 
-        pub in-place : at places (at execution e) ≡ e
-        in-place = entry-place n execution (at places) (s .placed) e place
-
-        -- its block counts it
-        pub in-block : 1 ≤ at blocks (block (at places) (at execution e))
-        in-block = counted n (at places) standings unfed blocks (g .begun .agrees) (at execution e) task ready
-
+        -- one task more is started, and the rest start after it
         rest :
             (h′ : Numbers)
             → h′ .running ≡ h .running + 1
-            → choice n processors execution unfed h₀ standings₀
-            ≡ (g .done ++ (at execution e ∷ [])) ++ choice n processors execution unfed h′ (set standings (at execution e) running)
+            → chosen n processors execution unfed standings₀ h₀
+            ≡ (g .done ++ (at execution e ∷ []))
+            ++ chosen n processors execution unfed (set standings (at execution e) running) h′
         rest h′ q =
+            let one-fewer : processors - h .running ≡ suc (processors - h′ .running) = omega arith in
             g .whole
-            ∙ ap (λ (k : ℕ). g .done ++ picks (take n execution) unfed k standings) (let z : processors - h .running ≡ suc (processors - h′ .running) = omega arith in z)
-            ∙ ap (λ (l : List ℕ). g .done ++ l) (picks-one (take n execution) unfed (processors - h′ .running) standings (at execution e) is-first (task .low))
-            ∙ sym (append-snoc (g .done) (at execution e) (choice n processors execution unfed h′ (set standings (at execution e) running)))
+            ∙ ap (λ (k : ℕ). g .done ++ picks (take n execution) unfed k standings) one-fewer
+            ∙ ap (λ (l : List ℕ). g .done ++ l)
+            (picks-one (take n execution) unfed (processors - h′ .running) standings (at execution e) is-first (task .low))
+            ∙ sym
+            (append-snoc (g .done) (at execution e)
+            (chosen n processors execution unfed (set standings (at execution e) running) h′))
 
-        -- the trays in use fit with its own
-        pub fits : h .used + (at works (at execution e) + at outs (at execution e)) < 2 ^ 32
-        fits =
+        enough : h .used + (at works (at execution e) + at outs (at execution e)) < 2 ^ 32
+        enough =
             let x = at execution e in
             let f : ℕ → ℕ = λ i. at works i + at outs i in
-            let later = choice n processors execution unfed (more h 1 0) (set standings x running) in
+            let later = chosen n processors execution unfed (set standings x running) (more h 1 0) in
             omega (
               arith,
               s .fits,
@@ -139,15 +146,29 @@ module _ {n processors : ℕ} {works outs execution places unfed standings₀ bl
               sum-one f x,
             )
 
-        -- a turn
+        -- else the task that was found starts
+        pub turn : Turn works outs places blocks h list count (at execution e)
+        turn =
+            let here = entry-place n execution (at places) (s .placed) e inside in
+            record {
+              small = omega (arith, task);
+              placed = omega (arith, inside);
+              counted = counted n (at places) standings unfed blocks (g .begun .agrees) (at execution e) task ready;
+              free = omega arith;
+              fits = enough;
+              few = omega (arith, so-many);
+              room = omega (arith, so-many, as-long);
+            }
+
         pub next :
-            (standings′ blocks′ : List ℕ) (h′ : Numbers)
+            {standings′ blocks′ : List ℕ} {h′ : Numbers}
             → standings′ ≡ set standings (at execution e) running
             → blocks′
             ≡ set blocks (block (at places) (at execution e)) (at blocks (block (at places) (at execution e)) - 1)
             → h′ ≡ more h 1 (at works (at execution e) + at outs (at execution e))
-            → Going n processors works outs execution places unfed standings₀ list₀ h₀ standings′ blocks′ (set list count (at execution e)) h′ (count + 1)
-        next standings′ blocks′ h′ ran fewer one =
+            → Going n processors works outs execution places unfed standings₀ h₀ list₀ standings′ blocks′ h′
+            (set list count (at execution e)) (count + 1)
+        next {standings′} {blocks′} {h′} ran fewer one =
             let x = at execution e in
             let f : ℕ → ℕ = λ i. at works i + at outs i in
             let runs : h′ .running ≡ h .running + 1 = ap (λ (k : Numbers). k .running) one in

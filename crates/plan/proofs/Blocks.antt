@@ -3,34 +3,34 @@ use mathlib.Core.Path.{_≡_, refl, sym, ap, _∙_}
 use mathlib.Core.Bool.{Bool, true, false, _&&_}
 use mathlib.Core.List.{List}
 use mathlib.Core.Logic.{⊎-elim}
-use Prim.Native.Nat.{ℕ, zero, suc, _+_, _-_, _*_, _/_, _≤_, _<_}
+use Prim.Native.Nat.{ℕ, _-_, _*_, _/_, _≤_, _<_}
 use native.Mathlib.Omega.{arith}
 use lib.Dec.{eqb}
 use lib.ListN.{length, take, set, List·getD-eq-default}
 use lib.Seq.{getD-take, getD-set-same, getD-set-other}
 use borrow.Author.Tests.{eqb-true, eq-eqb, ne-eqb}
 use Rattle.rules.specs.Sums.{only, sumTo, countTo}
-use Rattle.rules.specs.Lists.{at, every}
+use Rattle.rules.specs.Lists.{at}
 use Rattle.rules.specs.Grounds.{within}
 use Rattle.rules.specs.Standing.{activated, running}
-use Rattle.rules.proofs.Tests.{clash, same-or-not, le-or-lt, and-true, and-both, and-false}
-use Rattle.rules.proofs.Sums.{Task, none-counted, sum-cong, sum-change, term-le, only-true, only-false}
+use Rattle.rules.proofs.Tests.{clash, same-or-not, le-or-lt, and-true, and-false}
+use Rattle.rules.proofs.Sums.{Task, none-counted, sum-cong, sum-change, term-le}
 use Rattle.rules.proofs.Orders.{within-task}
 use Rattle.plan.specs.Kept.{blockSize, Placed}
 use Rattle.plan.specs.Starting.{isReady}
 use Rattle.plan.specs.Ready.{NoneBefore, Agrees, Blocked}
 use Rattle.plan.proofs.First.{every-at}
 
--- an entry of an execution order is a task, and its place is there
-pub entry-task : (n : ℕ) (execution : List ℕ) (place : ℕ → ℕ) → Placed n (take n execution) place
-    → (e : ℕ) → e < n → Task n (at execution e)
-entry-task n execution place p e h =
-    rw (getD-take n execution e 0 h) at
-    (within-task n (at (take n execution) e) (every-at (λ i. within i n) (take n execution) e (p .inside) (omega (arith, p .whole))))
+-- an entry of an execution order is a task, whose place is there
+module _ (n : ℕ) (execution : List ℕ) (place : ℕ → ℕ) (p : Placed n (take n execution) place) (e : ℕ) (h : e < n) where
+  pub entry-task : Task n (at execution e)
+  entry-task =
+      rw (getD-take n execution e 0 h) at
+      (within-task n (at (take n execution) e)
+      (every-at (λ i. within i n) (take n execution) e (p .inside) (omega (arith, p .whole))))
 
-pub entry-place : (n : ℕ) (execution : List ℕ) (place : ℕ → ℕ) → Placed n (take n execution) place
-    → (e : ℕ) → e < n → place (at execution e) ≡ e
-entry-place n execution place p e h = rw (getD-take n execution e 0 h) at (p .placed e h)
+  pub entry-place : place (at execution e) ≡ e
+  entry-place = rw (getD-take n execution e 0 h) at (p .placed e h)
 
 -- nobody is ready in blocks that count none
 pub unready :

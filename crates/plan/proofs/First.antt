@@ -8,7 +8,6 @@ use native.Mathlib.Omega.{arith}
 use lib.Dec.{ltb}
 use lib.ListN.{length, take}
 use borrow.Author.Tests.{lt-ltb, le-ltb}
-use Rattle.rules.specs.Sums.{only}
 use Rattle.rules.specs.Lists.{at, every, first}
 use Rattle.rules.specs.Grounds.{within}
 use Rattle.rules.proofs.Tests.{same-or-not, and-true}

@@ -1,12 +1,11 @@
 -- The tasks that start, one equation a branch, and what one task more changes.
-use mathlib.Core.Path.{_≡_, refl, sym, ap, _∙_}
+use mathlib.Core.Path.{_≡_, refl, ap}
 use mathlib.Core.Bool.{Bool, true}
-use mathlib.Core.List.{List, [], _∷_, _++_, append-assoc}
-use Prim.Native.Nat.{ℕ, zero, suc, _+_, _-_, _≤_, _<_}
+use mathlib.Core.List.{List, [], _∷_, _++_}
+use Prim.Native.Nat.{ℕ, zero, suc, _+_, _≤_, _<_}
 use native.Mathlib.Omega.{arith}
-use lib.ListN.{length, drop, set, length-append}
-use lib.Seq.{drop-cons, append-snoc, set-append-seam}
-use Rattle.rules.specs.Lists.{at, first}
+use lib.ListN.{length, set}
+use Rattle.rules.specs.Lists.{first}
 use Rattle.rules.specs.Standing.{running}
 use Rattle.rules.specs.Booking.{start}
 use Rattle.rules.specs.Answer.{front}

@@ -15,6 +15,7 @@ use Rattle.rules.specs.Booking.{Books, chain, figure, total, ready}
 use Rattle.rules.proofs.Turns.{Valid}
 use Rattle.rules.proofs.Ranks.{rankIn}
 use Rattle.rules.proofs.Good.{Good}
+pub use Rattle.plan.specs.declared.numbers.Numbers.{Numbers}
 
 -- the entries of the tasks of a plan of n, with the one of nobody, at the front of an array
 abbrev pub front : ℕ → List ℕ → List ℕ
@@ -44,17 +45,6 @@ blockSize = 32
 -- the ready tasks whose place is in a block
 unfoldable pub readyIn : (n : ℕ) (par : ℕ → ℕ) (st : List ℕ) (place : ℕ → ℕ) → ℕ → ℕ
 readyIn n par st place k = countTo (λ i. eqb (place i / blockSize) k && ready n par st i) n
-
--- the numbers of a day
-pub record Numbers : Type 0 where
-  -- how far booking ahead has come in the activation order
-  pub next : ℕ
-  -- how many tasks run, and how many have ended
-  pub running : ℕ
-  pub finished : ℕ
-  -- B, and the trays in use
-  pub booked : ℕ
-  pub used : ℕ
 
 -- the lists of a day: figures, unended children, and ready tasks by block
 pub record Kept (n : ℕ) (par work out : ℕ → ℕ) (order : List ℕ) (place : ℕ → ℕ) (k : Books)

@@ -4,13 +4,12 @@ use crate::plan::Plan;
 use crate::ready::first_ready;
 ghost use mathlib.Core.Path.{_≡_};
 ghost use Prim.Native.Nat.{_+_, _-_, _/_, _^_, _≤_, _<_};
-ghost use lib.ListN.{set, take};
+ghost use lib.ListN.{set};
 ghost use Rattle.rules.specs.Lists.{at};
 ghost use Rattle.rules.specs.Limits.{maxTasks, maxProcessors};
 ghost use Rattle.rules.specs.Standing.{running};
 ghost use Rattle.plan.specs.Kept.{blockSize};
-ghost use Rattle.plan.specs.Starting.{picks};
-ghost use Rattle.plan.specs.Start.{more, Startable, Begun};
+ghost use Rattle.plan.specs.Start.{more, chosen, CanStart, Begun};
 
 // How many tasks were started, and the numbers after that.
 pub(crate) struct Started {
@@ -28,7 +27,7 @@ fn run(
     requires { ⌜ (i ≤ maxTasks) × (at (now places) i < maxTasks) × (1 ≤ at (now blocks) (at (now places) i / blockSize)) ⌝ }
     ensures { λ _. ⌜ (now (standings .exit) ≡ set (now (standings .entry)) i running)
         × (now (blocks .exit) ≡ set (now (blocks .entry)) (at (now (places .entry)) i / blockSize)
-            (at (now (blocks .entry)) (at (now (places .entry)) i / blockSize) - 1)) ⌝ }
+        (at (now (blocks .entry)) (at (now (places .entry)) i / blockSize) - 1)) ⌝ }
 {
     standings[i] = 2;
     let block = places[i] as usize / Plan::BLOCK;
@@ -50,6 +49,7 @@ fn one_more(numbers: Numbers, work: u32, out: u32) -> Numbers
     }
 }
 
+// Starts ready tasks, and writes them to the front of the start list.
 pub(crate) fn start_ready(
     n: usize,
     processors: usize,
@@ -60,17 +60,17 @@ pub(crate) fn start_ready(
     unfed: &[u16; Plan::PLACES],
     standings: &mut [u8; Plan::PLACES],
     blocks: &mut [u8; Plan::BLOCKS],
-    numbers: Numbers,
+    mut numbers: Numbers,
     starts: &mut [u16],
 ) -> Started
-    requires { ⌜ Startable (picks (take n (now execution)) (now unfed) (processors - numbers .running) (now standings))
-        n processors (now works) (now outs) (now execution) (now places) (now unfed) (now standings) (now blocks) numbers (now starts) ⌝ }
+    requires { ⌜ CanStart n processors (now works) (now outs) (now execution) (now places) (now unfed)
+        (now standings) (now blocks) numbers (now starts) ⌝ }
     ensures { λ r. ⌜ Begun
-        (picks (take n (now (execution .entry))) (now (unfed .entry)) (processors - numbers .running) (now (standings .entry)))
-        n (now (works .entry)) (now (outs .entry)) (now (places .entry)) (now (unfed .entry)) (now (standings .entry)) (now (starts .entry)) numbers
-        (now (standings .exit)) (now (blocks .exit)) (now (starts .exit)) (r .numbers) (r .count) ⌝ }
+        (chosen n processors (now (execution .entry)) (now (unfed .entry)) (now (standings .entry)) numbers)
+        n (now (works .entry)) (now (outs .entry)) (now (places .entry)) (now (unfed .entry))
+        (now (standings .entry)) numbers (now (starts .entry))
+        (now (standings .exit)) (now (blocks .exit)) (r .numbers) (now (starts .exit)) (r .count) ⌝ }
 {
-    let mut numbers = numbers;
     let mut count = 0;
     while numbers.running < processors {
         let e = first_ready(n, execution, standings, unfed, blocks);

@@ -2,8 +2,7 @@
 use mathlib.Core.Path.{_≡_}
 use Prim.Native.Nat.{ℕ, _≤_, _<_, _-_}
 use native.Mathlib.Omega.{arith}
-use borrow.Author.Needs.{needs}
-use borrow.Author.Count.{below-none, below-more}
+use borrow.Author.Count.{below-more}
 use Rattle.rules.specs.Lists.{at}
 use Rattle.plan.proofs.ready.first_block.Statement.{statement}
 use Rattle.plan.proofs.ready.first_block.Tie as tie
