@@ -73,11 +73,6 @@ pub(crate) fn first_ready(
     requires { ⌜ Blocked n (take n (now execution)) (now standings) (now unfed) (now blocks) ⌝ }
     ensures { λ r. ⌜ FirstAt (isReady (now (standings .entry)) (now (unfed .entry))) n (now (execution .entry)) r ⌝ }
 {
-    scan(
-        n,
-        execution,
-        standings,
-        unfed,
-        first_block(blocks) * Plan::BLOCK,
-    )
+    let from = first_block(blocks) * Plan::BLOCK;
+    scan(n, execution, standings, unfed, from)
 }

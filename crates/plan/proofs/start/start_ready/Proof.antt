@@ -76,9 +76,7 @@ run-requires c κs =
     (k .small, k .placed, k .counted)
 
 one-more-requires : tie.Need-one-more-requires Inv-loop μ-loop
-one-more-requires c κs =
-    let k = known (c .before .before .before .before .before .before) in
-    (k .free, k .fits)
+one-more-requires c κs = omega (arith, known (c .before .before .before .before .before .before))
 
 mul-starts : tie.Need-mul-starts Inv-loop μ-loop
 mul-starts c = omega (arith, known (c .before .before .before .before .before .before .before))
