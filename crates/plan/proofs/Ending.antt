@@ -29,8 +29,8 @@ use Rattle.plan.specs.Finish.{kept, fewer, fedBlocks, RoomToFeed, Quiet,
 use Rattle.plan.proofs.Front.{at-front, front-set, front-length, front-is, quiet-set}
 use Rattle.plan.proofs.Entries.{grown-at, grown-length, counting-at, counting-length, fewer-at, fewer-length, grown-quiet}
 use Rattle.plan.proofs.Held.{held-taken, held-taken-there}
-use Rattle.plan.proofs.Blocks.{block-more, ready-in-same, ready-front}
-use Rattle.plan.proofs.Ready.{fed-is, unended-one}
+use Rattle.plan.proofs.ReadyIn.{block-more, ready-in-same, ready-front}
+use Rattle.plan.proofs.Unended.{fed-is, unended-one}
 
 -- the booked trays once those of j are taken and its parent keeps its out, and what goes up then
 abbrev pub sharedWith : List ℕ → ℕ → ℕ → ℕ → List ℕ

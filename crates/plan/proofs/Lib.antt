@@ -1,9 +1,17 @@
 -- Laws of what the code keeps.
+-- the arrays
 pub mod Front
 pub mod Entries
+-- what a task holds, and who is ready
 pub mod Held
-pub mod Blocks
-pub mod Ready
+pub mod Unended
+pub mod ReadyIn
+-- sharing out, booking ahead and ending, one turn after the other
 pub mod Way
 pub mod Turning
 pub mod Ending
+-- starting
+pub mod First
+pub mod Blocks
+pub mod Picks
+pub mod Begun

@@ -30,8 +30,8 @@ use Rattle.plan.specs.Ahead.{Sizes, grown, counting, figuresWith, RoomTo
 use Rattle.plan.proofs.Front.{at-front, front-set, front-length}
 use Rattle.plan.proofs.Held.{held-figure, held-le-figure, held-booked}
 use Rattle.plan.proofs.Entries.{set-more, grown-at, grown-length, counting-at, counting-length}
-use Rattle.plan.proofs.Blocks.{block-more}
-use Rattle.plan.proofs.Ready.{unended-same, fed-is, ready-same}
+use Rattle.plan.proofs.ReadyIn.{block-more}
+use Rattle.plan.proofs.Unended.{unended-same, fed-is, ready-same}
 use Rattle.plan.proofs.Way.{figure-le-total}
 
 -- between two turns: what is still to come is booking ahead along the rest of the order

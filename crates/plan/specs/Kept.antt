@@ -16,6 +16,7 @@ use Rattle.rules.proofs.Turns.{Valid}
 use Rattle.rules.proofs.Ranks.{rankIn}
 use Rattle.rules.proofs.Balance.{Roomy}
 use Rattle.rules.proofs.Good.{Good}
+pub use Rattle.plan.specs.declared.numbers.Numbers.{Numbers}
 
 -- the entries of the tasks of a plan of n, with the one of nobody, at the front of an array
 abbrev pub front : ℕ → List ℕ → List ℕ
@@ -45,17 +46,6 @@ blockSize = 32
 -- the ready tasks whose place is in a block
 unfoldable pub readyIn : (n : ℕ) (par : ℕ → ℕ) (st : List ℕ) (place : ℕ → ℕ) → ℕ → ℕ
 readyIn n par st place k = countTo (λ i. eqb (place i / blockSize) k && ready n par st i) n
-
--- the numbers of a day
-pub record Numbers : Type 0 where
-  -- how far booking ahead has come in the activation order
-  pub next : ℕ
-  -- how many tasks run, and how many have ended
-  pub running : ℕ
-  pub finished : ℕ
-  -- B, and the trays in use
-  pub booked : ℕ
-  pub used : ℕ
 
 -- the figures of the tasks, the children that they still wait for, and the ready tasks by block
 abbrev pub Figured : (n : ℕ) (par : ℕ → ℕ) (k : Books) (figures : List ℕ) → Type 0

@@ -4,3 +4,5 @@ pub mod Ahead
 pub mod Climb
 pub mod Finish
 pub mod Starting
+pub mod Ready
+pub mod Start

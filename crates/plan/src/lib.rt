@@ -4,3 +4,5 @@ mod climb;
 mod finish;
 mod numbers;
 pub mod plan;
+mod ready;
+mod start;

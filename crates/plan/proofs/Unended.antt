@@ -1,4 +1,4 @@
--- Laws of ready tasks where standings change and nobody ends.
+-- Laws of children that have not ended, and of who is ready by them.
 use mathlib.Core.Path.{_≡_, sym, ap, ap₂, _∙_}
 use mathlib.Core.Bool.{Bool, true, false, not, _&&_}
 use mathlib.Core.List.{List}
