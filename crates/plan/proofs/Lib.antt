@@ -1,2 +1,4 @@
 -- Laws of what the code keeps.
 pub mod Held
+pub mod Placing
+pub mod Weighing

@@ -1,0 +1,232 @@
+-- Laws of BEGIN's figures: needs and children, summed up task by task.
+use mathlib.Core.Path.{_≡_, refl, sym, ap, _∙_}
+use mathlib.Core.Bool.{Bool, true, false, not, _&&_}
+use mathlib.Core.List.{List}
+use mathlib.Core.Logic.{⊎-elim}
+use Prim.Native.Nat.{ℕ, zero, suc, _+_, _*_, _^_, _≤_, _<_}
+use native.Mathlib.Nat.{mul-suc}
+use native.Mathlib.Numerals.{add-one}
+use native.Mathlib.Omega.{arith}
+use lib.Dec.{eqb}
+use lib.ListN.{length, set, replicate, length-set, length-replicate, getD-replicate}
+use lib.Seq.{getD-set-same, getD-set-other}
+use borrow.Author.Tests.{eq-eqb, ne-eqb}
+use Rattle.rules.specs.Limits.{maxTasks}
+use Rattle.rules.specs.Sums.{Task, only, sumTo, countTo}
+use Rattle.rules.specs.Lists.{at}
+use Rattle.rules.specs.Need.{childrenOut, need}
+use Rattle.rules.specs.Standing.{finished}
+use Rattle.rules.proofs.Tests.{same-or-not}
+use Rattle.rules.proofs.Sums.{sum-cong, sum-add, sum-single, count-le, only-true, only-false, only-le}
+use Rattle.plan.specs.Kept.{unended}
+use Rattle.plan.specs.Weigh.{maxUnits, Sized, Weighed}
+
+-- a sum of k terms, none above b
+pub sum-most : (f : ℕ → ℕ) (k b : ℕ) → ((c : ℕ) → Task k c → f c ≤ b) → sumTo f k ≤ b * k
+unfolding sumTo
+sum-most f zero b most = omega arith
+sum-most f (suc k) b most =
+    let before : sumTo f k ≤ b * k = sum-most f k b (λ c t. most c (omega arith)) in
+    let here : f (suc k) ≤ b = most (suc k) (omega arith) in
+    omega (arith, mul-suc b k)
+
+-- where no task is finished, the children that have not ended are all children
+pub all-unended :
+    (n : ℕ) (par st : ℕ → ℕ) (i : ℕ)
+    → ((c : ℕ) → Task n c → st c ≡ finished → ⊥)
+    → countTo (λ c. eqb (par c) i) n ≡ unended n par st i
+unfolding countTo unended
+all-unended n par st i none =
+    sum-cong (λ c. only (eqb (par c) i) 1) (λ c. only (eqb (par c) i && not (eqb (st c) finished)) 1) n
+    (λ c t. rw (ne-eqb (st c) finished (none c t)) (ap (λ (b : Bool). only b 1) (sym (and-true-right (eqb (par c) i)))))
+  where
+    and-true-right : (b : Bool) → (b && true) ≡ b
+    and-true-right true = refl
+    and-true-right false = refl
+
+-- the need of a task fits 32 bits
+pub need-most :
+    (n : ℕ) (parents works outs : List ℕ)
+    → Sized n parents works outs
+    → (i : ℕ)
+    → Task n i
+    → need n (at parents) (at works) (at outs) i ≤ maxTasks * maxUnits + 2 * maxUnits
+unfolding need childrenOut
+need-most n parents works outs sized i t =
+    let children =
+    sum-most (λ c. only (eqb (at parents c) i) (at outs c)) n maxUnits
+    (λ c u. let below = only-le (eqb (at parents c) i) (at outs c) in let light = sized .light c u in omega arith)
+    in
+    let own = sized .light i t in
+    let small = sized .small in
+    omega arith
+
+pub need-fits :
+    (n : ℕ) (parents works outs : List ℕ)
+    → Sized n parents works outs
+    → (i : ℕ)
+    → Task n i
+    → need n (at parents) (at works) (at outs) i < 2 ^ 32
+need-fits n parents works outs sized i t = omega (arith, need-most n parents works outs sized i t)
+
+-- what task c adds to the need of i: its out where it is a child, its work and its out where it is i
+abbrev pub adds : (par work out : ℕ → ℕ) → ℕ → ℕ → ℕ
+adds par work out i c = only (eqb c i) (work c + out c) + only (eqb (par c) i) (out c)
+
+-- the two columns once the first k tasks are weighed
+pub record Partly (n : ℕ) (parents works outs : List ℕ) (k : ℕ) (needs unfed : List ℕ) : Type 0 where
+  pub long : (length needs ≡ suc maxTasks) × (length unfed ≡ suc maxTasks)
+  pub within : k ≤ n
+  pub needed : (i : ℕ) → i ≤ n → at needs i ≡ sumTo (adds (at parents) (at works) (at outs) i) k
+  pub counted : (i : ℕ) → i ≤ n → at unfed i ≡ countTo (λ c. eqb (at parents c) i) k
+
+-- what weighing task i stores: its own need, its parent's, and its parent's count of children
+abbrev pub own : (works outs needs : List ℕ) → ℕ → List ℕ
+own works outs needs i = set needs i (at needs i + at works i + at outs i)
+
+abbrev pub parents-need : (parents outs needs : List ℕ) → ℕ → List ℕ
+parents-need parents outs needs i = set needs (at parents i) (at needs (at parents i) + at outs i)
+
+abbrev pub one-child : (parents unfed : List ℕ) → ℕ → List ℕ
+one-child parents unfed i = set unfed (at parents i) (at unfed (at parents i) + 1)
+
+-- every index and every sum of that is in bounds
+pub record Bounded (parents works outs needs unfed : List ℕ) (i : ℕ) : Type 0 where
+  pub here : i ≤ maxTasks
+  pub parent : at parents i ≤ maxTasks
+  pub own-need : at needs i + at works i + at outs i < 2 ^ 32
+  pub parent-need : at (own works outs needs i) (at parents i) + at outs i < 2 ^ 32
+  pub children : at unfed (at parents i) + 1 < 2 ^ 16
+
+-- an entry that grows by d
+grown :
+    (l : List ℕ) (j d v i : ℕ)
+    → j < length l
+    → v ≡ at l j + d
+    → at (set l j v) i ≡ at l i + only (eqb j i) d
+grown l j d v i inside more =
+    ⊎-elim
+    (λ e.
+    let same = getD-set-same l j v 0 inside in
+    let one = only-true (eqb j i) d (eq-eqb j i e) in
+    let here : at (set l j v) i ≡ at (set l j v) j = ap (at (set l j v)) (sym e) in
+    let there : at l i ≡ at l j = ap (at l) (sym e) in
+    omega arith)
+    (λ other.
+    let kept = getD-set-other l j i v 0 (λ e. other (sym e)) in
+    let none = only-false (eqb j i) d (ne-eqb j i other) in
+    omega arith)
+    (same-or-not j i)
+
+-- the sum with its last term apart
+last : (f : ℕ → ℕ) (k : ℕ) → sumTo f (k + 1) ≡ sumTo f k + f (k + 1)
+unfolding sumTo
+last f k = rw (add-one k)
+
+module _ (n : ℕ) (parents works outs : List ℕ) (sized : Sized n parents works outs) where
+  -- nothing is weighed
+  pub nothing : Partly n parents works outs 0 (replicate (suc maxTasks) 0) (replicate (suc maxTasks) 0)
+  unfolding sumTo countTo
+  nothing =
+      let small = sized .small in
+      record {
+        long = (length-replicate {A = ℕ} (suc maxTasks) 0, length-replicate {A = ℕ} (suc maxTasks) 0);
+        within = omega arith;
+        needed = λ i h. getD-replicate (suc maxTasks) i 0 0 (omega arith);
+        counted = λ i h. getD-replicate (suc maxTasks) i 0 0 (omega arith);
+      }
+
+  module _ (k : ℕ) (needs unfed : List ℕ) (partly : Partly n parents works outs k needs unfed) where
+    needs-most : (i : ℕ) → i ≤ n → at needs i ≤ 3 * maxUnits * k
+    needs-most i h =
+        let within = partly .within in
+        let here = partly .needed i h in
+        let most =
+        sum-most (adds (at parents) (at works) (at outs) i) k (3 * maxUnits)
+        (λ c t.
+        let light = sized .light c (omega arith) in
+        let own = only-le (eqb c i) (at works c + at outs c) in
+        let up = only-le (eqb (at parents c) i) (at outs c) in
+        omega arith)
+        in
+        omega arith
+
+    module _ (rest : k < n) where
+      -- the need of i after its own part
+      after-own :
+          (i : ℕ)
+          → at (own works outs needs (k + 1)) i
+          ≡ at needs i + only (eqb (k + 1) i) (at works (k + 1) + at outs (k + 1))
+      after-own i =
+          let small = sized .small in
+          let long = partly .long in
+          grown needs (k + 1) (at works (k + 1) + at outs (k + 1))
+          (at needs (k + 1) + at works (k + 1) + at outs (k + 1)) i (omega arith) (omega arith)
+
+      -- the stores of task k + 1 are in bounds, and leave it weighed
+      pub bounded : Bounded parents works outs needs unfed (k + 1)
+      bounded =
+          let small = sized .small in
+          let parent = sized .parent (k + 1) (omega arith) in
+          let light = sized .light (k + 1) (omega arith) in
+          let mine = needs-most (k + 1) (omega arith) in
+          let its = needs-most (at parents (k + 1)) parent in
+          let after = after-own (at parents (k + 1)) in
+          let most = only-le (eqb (k + 1) (at parents (k + 1))) (at works (k + 1) + at outs (k + 1)) in
+          let counted = partly .counted (at parents (k + 1)) parent in
+          let few = count-le (λ c. eqb (at parents c) (at parents (k + 1))) k in
+          record {
+            here = omega arith;
+            parent = omega arith;
+            own-need = omega arith;
+            parent-need = omega arith;
+            children = omega arith;
+          }
+
+      pub one-more :
+          Partly n parents works outs (k + 1) (parents-need parents outs (own works outs needs (k + 1)) (k + 1))
+          (one-child parents unfed (k + 1))
+      unfolding countTo
+      one-more =
+          let small = sized .small in
+          let parent = sized .parent (k + 1) (omega arith) in
+          let long = partly .long in
+          record {
+            long = (simp length-set (long .0), simp length-set (long .1));
+            within = omega arith;
+            needed = λ i h.
+                (let before = partly .needed i h in
+                let mine = after-own i in
+                let wide = length-set needs (k + 1) (at needs (k + 1) + at works (k + 1) + at outs (k + 1)) in
+                let its =
+                grown (own works outs needs (k + 1)) (at parents (k + 1)) (at outs (k + 1))
+                (at (own works outs needs (k + 1)) (at parents (k + 1)) + at outs (k + 1)) i (omega arith) refl
+                in
+                let sum = last (adds (at parents) (at works) (at outs) i) k in
+                omega arith);
+            counted = λ i h.
+                (let before = partly .counted i h in
+                let its = grown unfed (at parents (k + 1)) 1 (at unfed (at parents (k + 1)) + 1) i (omega arith) refl in
+                let sum = last (λ c. only (eqb (at parents c) i) 1) k in
+                omega arith);
+          }
+
+  -- all are weighed
+  pub whole : (k : ℕ) (needs unfed : List ℕ)
+      → Partly n parents works outs k needs unfed
+      → n ≤ k
+      → Weighed n parents works outs needs unfed
+  unfolding need childrenOut
+  whole k needs unfed partly end =
+      let last : k ≡ n = omega (arith, partly .within) in
+      record {
+        needed = λ i t.
+            (let here = rw last at (partly .needed i (t .high)) in
+            let apart =
+            sum-add (λ c. only (eqb c i) (at works c + at outs c)) (λ c. only (eqb (at parents c) i) (at outs c)) n
+            in
+            let own = sum-single (λ c. at works c + at outs c) n i t in
+            omega arith);
+        counted = λ i t. rw last at (partly .counted i (t .high));
+        long = partly .long;
+      }
