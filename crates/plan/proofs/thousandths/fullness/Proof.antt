@@ -1,5 +1,4 @@
--- `plan::fullness` meets its contract. A quotient of less than the bound's thousandfold is below a thousand.
-use mathlib.Core.Path.{_≡_}
+-- `plan::fullness` meets its contract: each way out knows what the tests said.
 use Prim.Native.Nat.{ℕ, _*_, _/_, _<_}
 use native.Mathlib.Nat.{div-lt-iff-lt-mul}
 use native.Mathlib.Omega.{arith}
@@ -9,6 +8,7 @@ use Rattle.rules.specs.Question.{fullnessOf}
 use Rattle.plan.proofs.thousandths.fullness.Statement.{statement}
 use Rattle.plan.proofs.thousandths.fullness.Tie as tie
 
+-- what is rounded down is less than the whole
 small : (booked bound : ℕ) → booked < bound → 1000 * booked / bound < 1000
 small booked bound h = div-lt-iff-lt-mul {k = bound} {x = 1000 * booked} {y = 1000} (omega arith) .1 (omega arith)
 

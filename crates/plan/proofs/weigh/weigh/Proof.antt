@@ -33,6 +33,7 @@ loop-again c =
 returns : tie.Need-returns Inv-loop μ-loop
 returns c = whole _ _ _ _ (c .before .before .before .before .pre) _ _ _ (c .before .loop .inv) (c .loop-test .left)
 
+-- a line for each index, cast and sum of a turn, in the order of the code
 pub weigh-spec : {M : Type 1} → statement M
 weigh-spec =
     tie.close
