@@ -8,12 +8,13 @@ use lib.Dec.{eqb, leb}
 use lib.ListN.{length, take}
 use Rattle.rules.specs.Sums.{Task, only, sumTo, countTo}
 use Rattle.rules.specs.Lists.{at, mem, every, distinct}
-use Rattle.rules.specs.Need.{need, inUse}
+use Rattle.rules.specs.Need.{inUse}
 use Rattle.rules.specs.Grounds.{within}
 use Rattle.rules.specs.Standing.{waiting, running, finished, count}
 use Rattle.rules.specs.Booking.{Books, chain, figure, total, ready}
 use Rattle.rules.proofs.Turns.{Valid}
 use Rattle.rules.proofs.Ranks.{rankIn}
+use Rattle.rules.proofs.Balance.{Roomy}
 use Rattle.rules.proofs.Good.{Good}
 
 -- the entries of the tasks of a plan of n, with the one of nobody, at the front of an array
@@ -56,16 +57,30 @@ pub record Numbers : Type 0 where
   pub booked : ℕ
   pub used : ℕ
 
--- the lists of a day: figures, unended children, and ready tasks by block
+-- the figures of the tasks, the children that they still wait for, and the ready tasks by block
+abbrev pub Figured : (n : ℕ) (par : ℕ → ℕ) (k : Books) (figures : List ℕ) → Type 0
+Figured n par k figures =
+    (i : ℕ) → Task n i → at figures i ≡ held n par (at (k .standings)) (at (k .booked)) i
+
+abbrev pub Counted : (n : ℕ) (par : ℕ → ℕ) (k : Books) (unfed : List ℕ) → Type 0
+Counted n par k unfed = (i : ℕ) → Task n i → at unfed i ≡ unended n par (at (k .standings)) i
+
+abbrev pub Blocked : (n : ℕ) (par : ℕ → ℕ) (k : Books) (place : ℕ → ℕ) (blocks : List ℕ) → Type 0
+Blocked n par k place blocks = (q : ℕ) → at blocks q ≡ readyIn n par (k .standings) place q
+
+-- those before `next` in the activation order do not wait, and the others do
+pub record Reached (n : ℕ) (order : List ℕ) (k : Books) (next : ℕ) : Type 0 where
+  pub within : next ≤ n
+  pub before-next : (e : ℕ) → e < next → at (k .standings) (at order e) ≡ waiting → ⊥
+  pub from-next : (e : ℕ) → next ≤ e → e < n → at (k .standings) (at order e) ≡ waiting
+
+-- all that is kept of a day
 pub record Kept (n : ℕ) (par work out : ℕ → ℕ) (order : List ℕ) (place : ℕ → ℕ) (k : Books)
     (figures unfed blocks : List ℕ) (h : Numbers) : Type 0 where
-  pub figured : (i : ℕ) → Task n i → at figures i ≡ held n par (at (k .standings)) (at (k .booked)) i
-  pub counted : (i : ℕ) → Task n i → at unfed i ≡ unended n par (at (k .standings)) i
-  pub blocked : (q : ℕ) → at blocks q ≡ readyIn n par (k .standings) place q
-  -- those before `next` in the activation order do not wait, and the others do
-  pub next-within : h .next ≤ n
-  pub before-next : (e : ℕ) → e < h .next → at (k .standings) (at order e) ≡ waiting → ⊥
-  pub from-next : (e : ℕ) → h .next ≤ e → e < n → at (k .standings) (at order e) ≡ waiting
+  pub figured : Figured n par k figures
+  pub counted : Counted n par k unfed
+  pub blocked : Blocked n par k place blocks
+  pub reached : Reached n order k (h .next)
   pub runs : h .running ≡ count n (at (k .standings)) running
   pub ended : h .finished ≡ count n (at (k .standings)) finished
   pub totals : h .booked ≡ total n (at (k .booked))
@@ -73,13 +88,14 @@ pub record Kept (n : ℕ) (par work out : ℕ → ℕ) (order : List ℕ) (place
       h .used
       ≡ inUse n par work out (λ i. eqb (at (k .standings) i) finished) (λ i. leb running (at (k .standings) i))
 
--- a plan whose activation order is valid and whose books keep what holds of a day; all its numbers fit 32 bits
-pub record Going (n : ℕ) (par work out : ℕ → ℕ) (order : List ℕ) (bound : ℕ) (k : Books) : Type 0 where
+-- a plan whose activation order is valid and whose books keep what holds of a day
+pub record Going (n : ℕ) (par need out : ℕ → ℕ) (order : List ℕ) (bound : ℕ) (k : Books) : Type 0 where
   pub small : n ≤ 1024
+  pub bounded : bound < 2 ^ 32
   pub valid : Valid n par order
   pub parents : (i : ℕ) → par i ≤ n
-  pub good : Good n par (rankIn order) (need n par work out) out bound k
-  pub bounded : bound < 2 ^ 32
+  pub roomy : Roomy n par need out
+  pub good : Good n par (rankIn order) need out bound k
 
 -- an execution order and the places of the tasks in it
 pub record Placed (n : ℕ) (execution : List ℕ) (place : ℕ → ℕ) : Type 0 where
@@ -87,3 +103,7 @@ pub record Placed (n : ℕ) (execution : List ℕ) (place : ℕ → ℕ) : Type 
   pub once : distinct execution ≡ true
   pub whole : length execution ≡ n
   pub placed : (e : ℕ) → e < n → place (at execution e) ≡ e
+
+-- the books in the arrays of a plan of n
+abbrev pub booksIn : ℕ → List ℕ → List ℕ → Books
+booksIn n standings booked = record { standings = front n standings; booked = front n booked }

@@ -73,19 +73,19 @@ module _ (n : ℕ) (par rank : ℕ → ℕ) (tree : Tree n par rank) (st st′ :
       (root : par j ≡ 0 → kept ≡ 0) (child : (par j ≡ 0 → ⊥) → kept ≡ out j)
       (gave : (i : ℕ) → Task n i → b′ i ≡ b₁ i + only (eqb (par j) i) kept) (rest : r ≡ b j - kept) where
     -- j holds its need, and so its out
-    kept-within : kept ≤ b j
+    pub kept-within : kept ≤ b j
     kept-within =
         let exact = running-holds-need n par rank tree need out st b shape books j task runs in
         let room = roomy j task in
         ⊎-elim (λ z. let k = root z in omega arith) (λ d. let k = child d in omega arith) (same-or-not (par j) 0)
 
     -- the figures before: j's trays count for those at or above it
-    figure-taken : (a : ℕ) → figure n par b a ≡ figure n par b₁ a + only (up n par a j) (b j)
+    pub figure-taken : (a : ℕ) → figure n par b a ≡ figure n par b₁ a + only (up n par a j) (b j)
     figure-taken a =
         figure-change n par b₁ b j (b j) a task (omega arith) (λ i t d. sym (others i t d))
 
     -- and after: what the parent keeps counts for those at or above the parent
-    figure-kept : (a : ℕ) → figure n par b′ a ≡ figure n par b₁ a + only (up n par a (par j)) kept
+    pub figure-kept : (a : ℕ) → figure n par b′ a ≡ figure n par b₁ a + only (up n par a (par j)) kept
     figure-kept a =
         ⊎-elim
         (λ z.

@@ -22,7 +22,8 @@ use Rattle.rules.specs.Day.{Event, starts, ends}
 use Rattle.rules.specs.Theorem.{runs, usedBy, DayHolds}
 use Rattle.rules.proofs.Tests.{decide, clash, same-or-not, and-true, and-both, or-right}
 use Rattle.rules.proofs.Sums.{Task, sum-cong, sum-le, sum-zero, counted, none-counted, count-le, count-all, only-le, only-mono, only-true, only-false}
-use Rattle.rules.proofs.Orders.{mem-here, mem-append, sum-members, sum-length, count-full, within-task, every-mem}
+use Rattle.rules.proofs.Counts.{count-full}
+use Rattle.rules.proofs.Orders.{mem-here, mem-append, sum-members, sum-length, within-task, every-mem}
 use Rattle.rules.proofs.Peaks.{resident-cong}
 use Rattle.rules.proofs.Ranks.{rankIn, stands}
 use Rattle.rules.proofs.Tree.{Tree, parent-task}
