@@ -1,9 +1,9 @@
 -- Laws of noted places: a task stands in an order just where its noted place says so, and one entry more keeps this.
-use mathlib.Core.Path.{_≡_, refl, sym, ap, _∙_}
+use mathlib.Core.Path.{_≡_, sym, ap, _∙_}
 use mathlib.Core.Bool.{true, false}
 use mathlib.Core.Logic.{⊎-elim}
 use mathlib.Core.List.{List, [], _∷_, _++_}
-use Prim.Native.Nat.{ℕ, zero, suc, _+_, _≤_, _<_}
+use Prim.Native.Nat.{ℕ, suc, _+_, _≤_, _<_}
 use native.Mathlib.Numerals.{add-one}
 use native.Mathlib.Omega.{arith}
 use lib.Dec.{eqb}
@@ -14,20 +14,14 @@ use Rattle.rules.specs.Limits.{maxTasks}
 use Rattle.rules.specs.Sums.{Task}
 use Rattle.rules.specs.Lists.{at, mem}
 use Rattle.rules.proofs.Tests.{clash, fails, same-or-not, le-or-lt}
-use Rattle.rules.proofs.Orders.{mem-here, mem-more, place, place-lt, place-at}
+use Rattle.rules.proofs.Orders.{mem-at, place, place-lt, place-at}
 use Rattle.plan.specs.Place.{Sought}
 
--- an entry stands in its list
-pub entry-stands : (l : List ℕ) (e : ℕ) → e < length l → mem (at l e) l ≡ true
-entry-stands [] e h = absurd (omega arith)
-entry-stands (x ∷ l) zero h = mem-here x x l refl
-entry-stands (x ∷ l) (suc e) h = mem-more (at l e) x l (entry-stands l e (omega arith))
-
--- and in the front of it, if it is one of the first
+-- each of the first entries stands in the front of its list
 front-stands : (l : List ℕ) (k e : ℕ) → e < k → e < length l → mem (at l e) (take k l) ≡ true
 front-stands l k e first inside =
     let long = length-take k l in
-    rw (getD-take k l e 0 first) at (entry-stands (take k l) e (omega arith))
+    rw (getD-take k l e 0 first) at (mem-at (take k l) e (omega arith))
 
 module _ (order places : List ℕ) (count task : ℕ) (sought : Sought order places count task) where
   -- who stands in the order stands at its noted place

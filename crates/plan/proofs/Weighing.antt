@@ -2,24 +2,23 @@
 use mathlib.Core.Path.{_≡_, refl, sym, ap, _∙_}
 use mathlib.Core.Bool.{Bool, true, false, not, _&&_}
 use mathlib.Core.List.{List}
-use mathlib.Core.Logic.{⊎-elim}
 use Prim.Native.Nat.{ℕ, zero, suc, _+_, _*_, _^_, _≤_, _<_}
 use native.Mathlib.Nat.{mul-suc}
 use native.Mathlib.Numerals.{add-one}
 use native.Mathlib.Omega.{arith}
 use lib.Dec.{eqb}
 use lib.ListN.{length, set, replicate, length-set, length-replicate, getD-replicate}
-use lib.Seq.{getD-set-same, getD-set-other}
-use borrow.Author.Tests.{eq-eqb, ne-eqb}
+use borrow.Author.Tests.{ne-eqb}
 use Rattle.rules.specs.Limits.{maxTasks}
 use Rattle.rules.specs.Sums.{Task, only, sumTo, countTo}
 use Rattle.rules.specs.Lists.{at}
 use Rattle.rules.specs.Need.{childrenOut, need}
 use Rattle.rules.specs.Standing.{finished}
-use Rattle.rules.proofs.Tests.{same-or-not}
-use Rattle.rules.proofs.Sums.{sum-cong, sum-add, sum-single, count-le, only-true, only-false, only-le}
-use Rattle.plan.specs.Kept.{unended}
+use Rattle.rules.specs.Booking.{Books}
+use Rattle.rules.proofs.Sums.{sum-cong, sum-add, sum-single, count-le, only-le}
+use Rattle.plan.specs.Kept.{unended, Counted}
 use Rattle.plan.specs.Weigh.{maxUnits, Sized, Weighed}
+use Rattle.plan.proofs.Entries.{set-more}
 
 -- a sum of k terms, none above b
 pub sum-most : (f : ℕ → ℕ) (k b : ℕ) → ((c : ℕ) → Task k c → f c ≤ b) → sumTo f k ≤ b * k
@@ -43,6 +42,15 @@ all-unended n par st i none =
     and-true-right : (b : Bool) → (b && true) ≡ b
     and-true-right true = refl
     and-true-right false = refl
+
+-- so the column of a plan that is weighed counts them
+pub unfed-counts :
+    (n : ℕ) (parents works outs needs unfed : List ℕ) (k : Books)
+    → Weighed n parents works outs needs unfed
+    → ((c : ℕ) → Task n c → at (k .standings) c ≡ finished → ⊥)
+    → Counted n (at parents) k unfed
+unfed-counts n parents works outs needs unfed k weighed none i t =
+    weighed .counted i t ∙ all-unended n (at parents) (at (k .standings)) i none
 
 -- the need of a task fits 32 bits
 pub need-most :
@@ -82,7 +90,7 @@ pub record Partly (n : ℕ) (parents works outs : List ℕ) (k : ℕ) (needs unf
 
 -- what weighing task i stores: its own need, its parent's, and its parent's count of children
 abbrev pub own : (works outs needs : List ℕ) → ℕ → List ℕ
-own works outs needs i = set needs i (at needs i + at works i + at outs i)
+own works outs needs i = set needs i (at needs i + (at works i + at outs i))
 
 abbrev pub parents-need : (parents outs needs : List ℕ) → ℕ → List ℕ
 parents-need parents outs needs i = set needs (at parents i) (at needs (at parents i) + at outs i)
@@ -94,29 +102,9 @@ one-child parents unfed i = set unfed (at parents i) (at unfed (at parents i) + 
 pub record Bounded (parents works outs needs unfed : List ℕ) (i : ℕ) : Type 0 where
   pub here : i ≤ maxTasks
   pub parent : at parents i ≤ maxTasks
-  pub own-need : at needs i + at works i + at outs i < 2 ^ 32
+  pub own-need : at needs i + (at works i + at outs i) < 2 ^ 32
   pub parent-need : at (own works outs needs i) (at parents i) + at outs i < 2 ^ 32
   pub children : at unfed (at parents i) + 1 < 2 ^ 16
-
--- an entry that grows by d
-grown :
-    (l : List ℕ) (j d v i : ℕ)
-    → j < length l
-    → v ≡ at l j + d
-    → at (set l j v) i ≡ at l i + only (eqb j i) d
-grown l j d v i inside more =
-    ⊎-elim
-    (λ e.
-    let same = getD-set-same l j v 0 inside in
-    let one = only-true (eqb j i) d (eq-eqb j i e) in
-    let here : at (set l j v) i ≡ at (set l j v) j = ap (at (set l j v)) (sym e) in
-    let there : at l i ≡ at l j = ap (at l) (sym e) in
-    omega arith)
-    (λ other.
-    let kept = getD-set-other l j i v 0 (λ e. other (sym e)) in
-    let none = only-false (eqb j i) d (ne-eqb j i other) in
-    omega arith)
-    (same-or-not j i)
 
 -- the sum with its last term apart
 last : (f : ℕ → ℕ) (k : ℕ) → sumTo f (k + 1) ≡ sumTo f k + f (k + 1)
@@ -160,8 +148,7 @@ module _ (n : ℕ) (parents works outs : List ℕ) (sized : Sized n parents work
       after-own i =
           let small = sized .small in
           let long = partly .long in
-          grown needs (k + 1) (at works (k + 1) + at outs (k + 1))
-          (at needs (k + 1) + at works (k + 1) + at outs (k + 1)) i (omega arith) (omega arith)
+          set-more needs (k + 1) (at works (k + 1) + at outs (k + 1)) i (omega arith)
 
       -- the stores of task k + 1 are in bounds, and leave it weighed
       pub bounded : Bounded parents works outs needs unfed (k + 1)
@@ -197,16 +184,13 @@ module _ (n : ℕ) (parents works outs : List ℕ) (sized : Sized n parents work
             needed = λ i h.
                 (let before = partly .needed i h in
                 let mine = after-own i in
-                let wide = length-set needs (k + 1) (at needs (k + 1) + at works (k + 1) + at outs (k + 1)) in
-                let its =
-                grown (own works outs needs (k + 1)) (at parents (k + 1)) (at outs (k + 1))
-                (at (own works outs needs (k + 1)) (at parents (k + 1)) + at outs (k + 1)) i (omega arith) refl
-                in
+                let wide = length-set needs (k + 1) (at needs (k + 1) + (at works (k + 1) + at outs (k + 1))) in
+                let its = set-more (own works outs needs (k + 1)) (at parents (k + 1)) (at outs (k + 1)) i (omega arith) in
                 let sum = last (adds (at parents) (at works) (at outs) i) k in
                 omega arith);
             counted = λ i h.
                 (let before = partly .counted i h in
-                let its = grown unfed (at parents (k + 1)) 1 (at unfed (at parents (k + 1)) + 1) i (omega arith) refl in
+                let its = set-more unfed (at parents (k + 1)) 1 i (omega arith) in
                 let sum = last (λ c. only (eqb (at parents c) i) 1) k in
                 omega arith);
           }

@@ -4,11 +4,11 @@ ghost use Rattle.plan.specs.Weigh.{Sized, Weighed};
 
 // One pass over the tasks: each adds its work and its out to its own need, and its out and itself
 // to the need and the children of its parent. The root's parent is entry 0, nobody's.
-pub(crate) fn weigh<'a>(
+pub(crate) fn weigh(
     n: usize,
-    parents: &'a [u16; Plan::PLACES],
-    works: &'a [u32; Plan::PLACES],
-    outs: &'a [u32; Plan::PLACES],
+    parents: &[u16; Plan::PLACES],
+    works: &[u32; Plan::PLACES],
+    outs: &[u32; Plan::PLACES],
     needs: &mut [u32; Plan::PLACES],
     unfed: &mut [u16; Plan::PLACES],
 )
@@ -21,8 +21,8 @@ pub(crate) fn weigh<'a>(
         let i = done + 1;
         let parent = parents[i] as usize;
         let out = outs[i];
-        needs[i] = needs[i] + works[i] + out;
-        needs[parent] = needs[parent] + out;
-        unfed[parent] = unfed[parent] + 1;
+        needs[i] += works[i] + out;
+        needs[parent] += out;
+        unfed[parent] += 1;
     }
 }
