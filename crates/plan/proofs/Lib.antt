@@ -2,7 +2,9 @@
 -- the arrays
 pub mod Front
 pub mod Entries
--- what a task holds, and who is ready
+pub mod Placing
+-- what a task needs and holds, and who is ready
+pub mod Weighing
 pub mod Held
 pub mod Unended
 pub mod ReadyIn

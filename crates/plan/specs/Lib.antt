@@ -1,5 +1,8 @@
 -- What the code keeps, and what it means.
 pub mod Kept
+-- what each part asks and promises
+pub mod Place
+pub mod Weigh
 pub mod Ahead
 pub mod Climb
 pub mod Finish

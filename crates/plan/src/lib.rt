@@ -3,6 +3,11 @@ mod ahead;
 mod climb;
 mod finish;
 mod numbers;
+mod place;
 pub mod plan;
 mod ready;
 mod start;
+mod thousandths;
+mod weigh;
+
+pub use thousandths::fullness;

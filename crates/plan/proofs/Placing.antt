@@ -1,0 +1,99 @@
+-- Laws of noted places: a task stands in an order just where its noted place says so, and one entry more keeps this.
+use mathlib.Core.Path.{_≡_, sym, ap, _∙_}
+use mathlib.Core.Bool.{true, false}
+use mathlib.Core.Logic.{⊎-elim}
+use mathlib.Core.List.{List, [], _∷_, _++_}
+use Prim.Native.Nat.{ℕ, suc, _+_, _≤_, _<_}
+use native.Mathlib.Numerals.{add-one}
+use native.Mathlib.Omega.{arith}
+use lib.Dec.{eqb}
+use lib.ListN.{length, take, set, length-take, List·getD-eq-default}
+use lib.Seq.{getD-take, getD-set-same, getD-set-other, take-suc-set}
+use borrow.Author.Tests.{eq-eqb, ne-eqb}
+use Rattle.rules.specs.Limits.{maxTasks}
+use Rattle.rules.specs.Sums.{Task}
+use Rattle.rules.specs.Lists.{at, mem}
+use Rattle.rules.proofs.Tests.{clash, fails, same-or-not, le-or-lt}
+use Rattle.rules.proofs.Orders.{mem-at, place, place-lt, place-at}
+use Rattle.plan.specs.Place.{Sought}
+
+-- each of the first entries stands in the front of its list
+front-stands : (l : List ℕ) (k e : ℕ) → e < k → e < length l → mem (at l e) (take k l) ≡ true
+front-stands l k e first inside =
+    let long = length-take k l in
+    rw (getD-take k l e 0 first) at (mem-at (take k l) e (omega arith))
+
+module _ (order places : List ℕ) (count task : ℕ) (sought : Sought order places count task) where
+  -- who stands in the order stands at its noted place
+  stands-there :
+      mem task (take count order) ≡ true → (at places task < count) × (at order (at places task) ≡ task)
+  stands-there stands =
+      let e = place task (take count order) in
+      let long = length-take count order in
+      let first : e < count = omega (arith, place-lt task (take count order) stands) in
+      let there : at order e ≡ task = sym (getD-take count order e 0 first) ∙ place-at task (take count order) stands in
+      let noted : at places task ≡ e = rw there at (sought .noted e first) in
+      (omega arith, ap (at order) noted ∙ there)
+
+  -- the test, where the noted place is one of the first, and where it is not
+  pub seen : at places task < count → eqb (at order (at places task)) task ≡ mem task (take count order)
+  seen first =
+      ⊎-elim
+      (λ (e : at order (at places task) ≡ task).
+      let inside : at places task < length order =
+      ⊎-elim
+      (λ (past : length order ≤ at places task).
+      absurd (let none = List·getD-eq-default order 0 past in let some = sought .within .low in omega arith))
+      (λ h. h) (le-or-lt (length order) (at places task))
+      in
+      eq-eqb (at order (at places task)) task e
+      ∙ sym (rw e at (front-stands order count (at places task) first inside)))
+      (λ d.
+      ne-eqb (at order (at places task)) task d
+      ∙ sym (fails (mem task (take count order)) (λ stands. d (stands-there stands .1))))
+      (same-or-not (at order (at places task)) task)
+
+  pub unseen : count ≤ at places task → mem task (take count order) ≡ false
+  unseen past = fails (mem task (take count order)) (λ stands. omega (arith, stands-there stands .0))
+
+-- a task that is appended is the last of the order, and its place is noted with the others
+module _ (order places : List ℕ) (count i : ℕ) (more : count < length order) where
+  pub appended : take (count + 1) (set order count i) ≡ take count order ++ (i ∷ [])
+  appended = rw add-one (take-suc-set order count i more)
+
+  pub append-noted :
+      i < length places
+      → mem i (take count order) ≡ false
+      → ((e : ℕ) → e < count → at places (at order e) ≡ e)
+      → (e : ℕ)
+      → e < count + 1
+      → at (set places i count) (at (set order count i) e) ≡ e
+  append-noted inside new noted e h =
+      ⊎-elim
+      (λ (last : e ≡ count).
+      let entry : at (set order count i) e ≡ i = ap (at (set order count i)) last ∙ getD-set-same order count i 0 more in
+      ap (at (set places i count)) entry ∙ getD-set-same places i count 0 inside ∙ sym last)
+      (λ earlier.
+      let entry : at (set order count i) e ≡ at order e = getD-set-other order count e i 0 earlier in
+      let stands = front-stands order count e (omega arith) (omega arith) in
+      let other : at order e ≡ i → ⊥ = λ same. clash (rw same at stands) new in
+      ap (at (set places i count)) entry ∙ getD-set-other places i (at order e) count 0 other ∙ noted e (omega arith))
+      (same-or-not e count)
+
+-- so any task can be looked for in the longer order
+pub append-sought :
+    (order places : List ℕ) (count i task : ℕ)
+    → Sought order places count i
+    → count < maxTasks
+    → length order ≡ maxTasks
+    → length places ≡ suc maxTasks
+    → mem i (take count order) ≡ false
+    → Task maxTasks task
+    → Sought (set order count i) (set places i count) (count + 1) task
+append-sought order places count i task sought room long wide new t =
+    let within = sought .within in
+    record {
+      few = omega arith;
+      within = t;
+      noted = append-noted order places count i (omega arith) (omega arith) new (sought .noted);
+    }
