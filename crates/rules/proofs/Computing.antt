@@ -45,7 +45,9 @@ use Rattle.rules.specs.Obey.{
 }
 use Rattle.rules.specs.Answer.{refuse, front, accept, judge, respond, command}
 use Rattle.rules.specs.Question.{isRunning, booked, inUse, fullnessOf, fullness}
-use Rattle.rules.specs.Day.{after}
+use Rattle.rules.specs.Day.{after, answers, accepted, isPlan, isBegin, reported, events, log, opensDay, opensPlan, nextPlan}
+use Rattle.rules.specs.Day
+use Rattle.rules.specs.Theorem.{runs, usedBy}
 use Rattle.rules.specs.Text.{
   ascii,
   digits,
@@ -129,6 +131,20 @@ unfolding
     booked
     inUse
     after
+    answers
+    accepted
+    isPlan
+    isBegin
+    reported
+    events
+    log
+    Day.starts
+    Day.ends
+    opensDay
+    opensPlan
+    nextPlan
+    runs
+    usedBy
     fullnessOf
     fullness
     ascii

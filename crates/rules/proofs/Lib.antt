@@ -41,3 +41,5 @@ pub mod Reporting
 pub mod Holds
 pub mod Steps
 pub mod Theorem
+-- a worked day
+pub mod Worked
