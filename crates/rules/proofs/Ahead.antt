@@ -72,7 +72,7 @@ module _ (n : ℕ) (par : ℕ → ℕ) (order : List ℕ) (valid : Valid n par o
             sum-change (at (k .booked)) (at (book n par need k x .booked)) n x (lacks n par need k x) t granted
             (λ i _ d. at-other (k .booked) x (at (k .booked) x + lacks n par need k x) i d)
             in
-            let fits = leb-true (total n (at (k .booked)) + lacks n par need k x) bound a in
+            let fits = leb-true _ bound a in
             omega arith;
       }
 
