@@ -1,34 +1,20 @@
 -- Booking one task ahead keeps what holds of the day.
-use mathlib.Core.Path.{_≡_, refl, sym, ap, _∙_}
-use mathlib.Core.Bool.{Bool, true, false}
+use mathlib.Core.Path.{_≡_, sym, ap, _∙_}
 use mathlib.Core.Logic.{⊎-elim}
-use mathlib.Core.List.{List, []}
-use Prim.Native.Nat.{ℕ, zero, suc, _+_, _-_, _≤_, _<_}
+use Prim.Native.Nat.{ℕ, _+_, _-_, _≤_, _<_}
 use native.Mathlib.Omega.{arith}
 use lib.Dec.{eqb}
-use borrow.Author.Tests.{eq-eqb, ne-eqb}
-use Rattle.rules.specs.Sums.{only, sumTo}
+use borrow.Author.Tests.{ne-eqb}
+use Rattle.rules.specs.Sums.{only}
 use Rattle.rules.specs.Lists.{mem}
 use Rattle.rules.specs.Booking.{figure}
-use Rattle.rules.specs.Standing.{waiting, activated, running, finished}
+use Rattle.rules.specs.Standing.{waiting, activated, finished}
 use Rattle.rules.proofs.Tests.{same-or-not, le-or-lt}
 use Rattle.rules.proofs.Sums.{Task, only-true}
-use Rattle.rules.proofs.Tree.{Tree, up, up-self, figure-splits, figure-change}
+use Rattle.rules.proofs.Tree.{Tree, up, up-self, figure-change}
 use Rattle.rules.proofs.Children.{children, figure-children}
 use Rattle.rules.proofs.Shape.{Shape, Moved, child-before}
-use Rattle.rules.proofs.Balance.{
-  Active,
-  Balance,
-  Balanced,
-  Roomy,
-  settled,
-  arrived,
-  pending,
-  arrived-pending,
-  arrived-same,
-  pending-same,
-  pending-covered,
-}
+use Rattle.rules.proofs.Balance.{Active, Balanced, Roomy, settled, arrived, pending, arrived-pending, arrived-same, pending-same, pending-covered}
 
 -- x is the first waiting task in rank, and becomes booked
 module _ (n : ℕ) (par rank : ℕ → ℕ) (tree : Tree n par rank) (st st′ : ℕ → ℕ) (shape : Shape n par rank st) (x : ℕ)

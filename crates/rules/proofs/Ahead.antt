@@ -1,13 +1,13 @@
 -- Booking ahead keeps what holds of the day, and stops where the first waiting task does not fit.
 use mathlib.Core.Path.{_≡_, refl, sym, ap, _∙_}
-use mathlib.Core.Bool.{Bool, true, false}
+use mathlib.Core.Bool.{true, false}
 use mathlib.Core.Logic.{⊎-elim}
 use mathlib.Core.List.{List, [], _∷_, _++_, append-nil, append-assoc}
-use Prim.Native.Nat.{ℕ, zero, suc, _+_, _-_, _≤_, _<_}
+use Prim.Native.Nat.{ℕ, _+_, _-_, _≤_, _<_}
 use native.Mathlib.Omega.{arith}
 use lib.Dec.{eqb}
-use lib.ListN.{length, set, length-set}
-use borrow.Author.Tests.{eqb-true, eqb-false, eq-eqb, leb-true}
+use lib.ListN.{set, length-set}
+use borrow.Author.Tests.{eqb-true, eqb-false, leb-true}
 use Rattle.rules.specs.Lists.{at, mem}
 use Rattle.rules.specs.Standing.{waiting, activated}
 use Rattle.rules.specs.Grounds.{within}
@@ -18,11 +18,10 @@ use Rattle.rules.proofs.Orders.{mem-append, mem-here, mem-rest, nobody,
 use Rattle.rules.proofs.Turns.{Valid}
 use Rattle.rules.proofs.Ranks.{rankIn, stands, same-rank, in-front}
 use Rattle.rules.proofs.Tree.{Tree}
-use Rattle.rules.proofs.Shape.{Shape, Moved}
-use Rattle.rules.proofs.Balance.{Balanced, Roomy, missing-is}
+use Rattle.rules.proofs.Balance.{Roomy, missing-is}
 use Rattle.rules.proofs.Activating.{activating-shape, activating-balanced}
 use Rattle.rules.proofs.Branches.{activate-pass, activate-book, activate-stop}
-use Rattle.rules.proofs.Good.{Good, Sized, at-set, at-other, moved-by-set}
+use Rattle.rules.proofs.Good.{Good, at-set, at-other, moved-by-set}
 
 -- x waits, and nobody of lower rank does
 pub record FirstWaiting (n : ℕ) (rank st : ℕ → ℕ) (x : ℕ) : Type 0 where

@@ -1,21 +1,21 @@
 -- What holds of the books of a day in one store that is left open, over functions, and what follows from it.
-use mathlib.Core.Path.{_≡_, refl, sym, ap, _∙_}
+use mathlib.Core.Path.{_≡_, sym, ap, _∙_}
 use mathlib.Core.Bool.{Bool, true, false, not, _&&_}
 use mathlib.Core.Logic.{⊎-elim}
 use mathlib.Core.List.{List, []}
-use Prim.Native.Nat.{ℕ, zero, suc, _+_, _-_, _≤_, _<_}
+use Prim.Native.Nat.{ℕ, _+_, _-_, _≤_}
 use native.Mathlib.Omega.{arith}
-use lib.Dec.{eqb, leb}
-use borrow.Author.Tests.{eqb-true, eqb-false, eq-eqb, ne-eqb}
+use lib.Dec.{eqb}
+use borrow.Author.Tests.{eqb-true, eqb-false, eq-eqb}
 use Rattle.rules.specs.Sums.{only, sumTo}
 use Rattle.rules.specs.Lists.{mem}
-use Rattle.rules.specs.Booking.{chain, figure, childrenFigure, missing}
+use Rattle.rules.specs.Booking.{figure, childrenFigure, missing}
 use Rattle.rules.specs.Standing.{waiting, activated, running, finished}
-use Rattle.rules.proofs.Tests.{decide, fails}
+use Rattle.rules.proofs.Tests.{decide}
 use Rattle.rules.proofs.Sums.{Task, sum-cong, sum-zero, only-and, only-zero, only-false, only-true, only-cong}
 use Rattle.rules.proofs.Tree.{Tree, up, figure-splits}
 use Rattle.rules.proofs.Children.{children, children-cong, children-le, children-zero, children-add}
-use Rattle.rules.proofs.Shape.{Shape, finished-below, child-not-waiting}
+use Rattle.rules.proofs.Shape.{Shape, finished-below}
 
 -- the outs of the ended children of a task, and those of its other children
 unfoldable pub arrived : (n : ℕ) (par out st : ℕ → ℕ) → ℕ → ℕ

@@ -2,15 +2,15 @@
 use mathlib.Core.Path.{_≡_, refl, sym, ap, _∙_}
 use mathlib.Core.Bool.{Bool, true, false, _||_}
 use mathlib.Core.Logic.{⊎-elim}
-use mathlib.Core.List.{List, [], _∷_}
-use Prim.Native.Nat.{ℕ, zero, suc, _+_, _-_, _≤_, _<_}
+use mathlib.Core.List.{List}
+use Prim.Native.Nat.{ℕ, _+_, _-_, _≤_, _<_}
 use native.Mathlib.Omega.{arith}
 use lib.Dec.{eqb}
 use borrow.Author.Tests.{eqb-true, ne-eqb}
 use Rattle.rules.specs.Sums.{only, sumTo}
 use Rattle.rules.specs.Lists.{mem}
 use Rattle.rules.specs.Booking.{chain, figure}
-use Rattle.rules.specs.Standing.{waiting, activated, running, finished}
+use Rattle.rules.specs.Standing.{waiting, finished}
 use Rattle.rules.proofs.Tests.{decide, fails, clash, same-or-not, le-or-lt, or-cases}
 use Rattle.rules.proofs.Sums.{Task, sum-change, only-true, only-false, only-zero}
 use Rattle.rules.proofs.Tree.{Tree, up, up-nobody, up-self, up-step, up-rank, parent-task, figure-change}

@@ -1,5 +1,4 @@
 -- Opens the rules for computing: whoever unfolds `computing` may evaluate a command, a day or the printer.
-use Prim.Native.Nat.{ℕ}
 use Rattle.rules.specs.Sums.{sumTo, countTo}
 use Rattle.rules.specs.Lists.{mem, first, largest}
 use Rattle.rules.specs.Need.{childrenOut, need, resident}

@@ -2,14 +2,14 @@
 use mathlib.Core.Path.{_≡_, refl, sym, ap, _∙_}
 use mathlib.Core.Bool.{Bool, true, false, not, _&&_}
 use mathlib.Core.Logic.{_⊎_, inl, inr, ⊎-elim}
-use mathlib.Core.List.{List, [], _∷_, _++_, map}
-use Prim.Native.Nat.{ℕ, zero, suc, _+_, _-_, _≤_, _<_}
+use mathlib.Core.List.{List, [], _++_, map}
+use Prim.Native.Nat.{ℕ, suc, _+_, _-_, _≤_, _<_}
 use native.Mathlib.Omega.{arith}
 use lib.Dec.{eqb, leb}
 use lib.ListN.{length}
 use borrow.Author.Tests.{ne-eqb}
-use Rattle.rules.specs.Sums.{only, sumTo, countTo}
-use Rattle.rules.specs.Lists.{at, mem, every, distinct}
+use Rattle.rules.specs.Sums.{only, countTo}
+use Rattle.rules.specs.Lists.{at, every, distinct}
 use Rattle.rules.specs.Grounds.{within}
 use Rattle.rules.specs.Standing.{waiting, activated, running, finished, count}
 use Rattle.rules.specs.Booking.{
@@ -34,18 +34,9 @@ use Rattle.rules.proofs.Turns.{Valid}
 use Rattle.rules.proofs.Ranks.{rankIn}
 use Rattle.rules.proofs.Tree.{Tree}
 use Rattle.rules.proofs.Balance.{Roomy}
-use Rattle.rules.proofs.Good.{Good, Sized}
+use Rattle.rules.proofs.Good.{Good}
 use Rattle.rules.proofs.Ahead.{FirstWaiting, Activated, activates}
-use Rattle.rules.proofs.Starts.{
-  Startable,
-  starts-startable,
-  starts-length,
-  starts-halt,
-  start-length,
-  start-count,
-  start-good,
-  start-kind,
-}
+use Rattle.rules.proofs.Starts.{Startable, starts-startable, starts-length, starts-halt, start-count, start-good, start-kind}
 use Rattle.rules.proofs.Log.{Logged, InOrder, logged-same, starts-logged}
 
 -- what a task lacks goes by who has ended

@@ -2,19 +2,17 @@
 use mathlib.Core.Path.{_≡_, refl, sym, ap, _∙_}
 use mathlib.Core.Bool.{Bool, true, false, not, _||_}
 use mathlib.Core.Logic.{⊎-elim}
-use mathlib.Core.List.{List, []}
-use Prim.Native.Nat.{ℕ, zero, suc, _+_, _-_, _≤_, _<_}
+use Prim.Native.Nat.{ℕ, _+_, _-_, _≤_}
 use native.Mathlib.Omega.{arith}
 use lib.Dec.{eqb}
 use borrow.Author.Tests.{eqb-true, eq-eqb, ne-eqb}
 use Rattle.rules.specs.Sums.{only, sumTo}
-use Rattle.rules.specs.Lists.{mem}
 use Rattle.rules.specs.Booking.{chain, figure}
-use Rattle.rules.specs.Standing.{waiting, activated, running, finished}
-use Rattle.rules.proofs.Tests.{decide, clash, same-or-not, eqb-sym}
+use Rattle.rules.specs.Standing.{activated, running, finished}
+use Rattle.rules.proofs.Tests.{decide, same-or-not}
 use Rattle.rules.proofs.Sums.{Task, sum-change, sum-cong, only-true, only-false, only-cong}
 use Rattle.rules.proofs.Tree.{Tree, up, up-nobody, up-self, up-step, parent-task, figure-change, figure-cong}
-use Rattle.rules.proofs.Children.{children, children-change}
+use Rattle.rules.proofs.Children.{children-change}
 use Rattle.rules.proofs.Shape.{Shape, Moved, not-begun-above}
 use Rattle.rules.proofs.Balance.{
   Active,

@@ -1,38 +1,36 @@
 -- What is promised of a day follows from what is kept of it.
-use mathlib.Core.Path.{_≡_, refl, sym, ap, ap₂, subst, _∙_}
-use mathlib.Core.Bool.{Bool, true, false, not, _&&_}
-use mathlib.Core.Logic.{_↔_, _⊎_, inl, inr, ⊎-elim}
-use mathlib.Core.List.{List, [], _∷_, _++_}
-use Prim.Native.Nat.{ℕ, zero, suc, _+_, _≤_, _<_}
+use mathlib.Core.Path.{_≡_, refl, sym, ap, ap₂, _∙_}
+use mathlib.Core.Bool.{Bool, true, not, _&&_}
+use mathlib.Core.Logic.{_↔_, ⊎-elim}
+use mathlib.Core.List.{List, _∷_}
+use Prim.Native.Nat.{ℕ, _+_, _≤_, _<_}
 use native.Mathlib.Omega.{arith}
 use lib.Dec.{eqb, leb}
 use lib.ListN.{length}
-use borrow.Author.Tests.{eqb-true, eqb-false, eq-eqb, ne-eqb, leb-true, le-leb, lt-leb, not-true}
-use Rattle.rules.specs.Sums.{only, sumTo, countTo}
+use borrow.Author.Tests.{eqb-true, eq-eqb, ne-eqb, le-leb, lt-leb}
+use Rattle.rules.specs.Sums.{only, countTo}
 use Rattle.rules.specs.Lists.{at, mem}
-use Rattle.rules.specs.Need.{need, resident}
 use Rattle.rules.specs.Need
 use Rattle.rules.specs.Phase
-use Rattle.rules.specs.Standing.{waiting, activated, running, finished, count}
+use Rattle.rules.specs.Standing.{activated, running, finished, count}
 use Rattle.rules.specs.State.{State, needs}
 use Rattle.rules.specs.Grounds.{within, peakOf}
 use Rattle.rules.specs.Booking.{total, lacks, allows, ready, fed}
 use Rattle.rules.specs.Question
 use Rattle.rules.specs.Day.{Event, starts, ends}
 use Rattle.rules.specs.Theorem.{runs, usedBy, DayHolds}
-use Rattle.rules.proofs.Tests.{decide, clash, same-or-not, and-true, and-both, or-right}
-use Rattle.rules.proofs.Sums.{Task, sum-cong, sum-le, sum-zero, counted, none-counted, count-le, count-all, only-le, only-mono, only-true, only-false}
+use Rattle.rules.proofs.Tests.{clash, same-or-not, and-both, or-right}
+use Rattle.rules.proofs.Sums.{Task, sum-cong, sum-zero, counted, none-counted, count-le, count-all, only-le, only-mono, only-true, only-false}
 use Rattle.rules.proofs.Orders.{mem-here, mem-append, sum-members, sum-length, count-full, within-task, every-mem}
 use Rattle.rules.proofs.Peaks.{resident-cong}
 use Rattle.rules.proofs.Ranks.{rankIn, stands}
-use Rattle.rules.proofs.Tree.{Tree, parent-task}
+use Rattle.rules.proofs.Tree.{parent-task}
 use Rattle.rules.proofs.Roots.{some-root}
 use Rattle.rules.proofs.Balance.{running-holds-need}
 use Rattle.rules.proofs.Usage.{hasEnded, hasBegun, in-use-within}
 use Rattle.rules.proofs.Progress.{Stuck, waits-or-ended}
 use Rattle.rules.proofs.Waiting.{Found, first-waiting, found-first, found-fits}
 use Rattle.rules.proofs.Starts.{children-fed}
-use Rattle.rules.proofs.Log.{Logged}
 use Rattle.rules.proofs.InDay.{Closing, open-day, closed, InDay, needs-roomy, tree}
 
 -- begun and not ended is running

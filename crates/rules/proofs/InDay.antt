@@ -1,50 +1,34 @@
 -- A plan in its day: what holds after an accepted BEGIN and after each accepted DONE.
-use mathlib.Core.Path.{_≡_, refl, sym, ap, subst, _∙_}
-use mathlib.Core.Bool.{Bool, true, false, not, cond, _&&_}
-use mathlib.Core.Logic.{_⊎_, inl, inr, ⊎-elim}
-use mathlib.Core.List.{List, [], _∷_, _++_, map, append-assoc}
-use Prim.Native.Nat.{ℕ, zero, suc, _+_, _-_, _≤_, _<_}
+use mathlib.Core.Path.{_≡_, refl, sym, _∙_}
+use mathlib.Core.Bool.{_&&_}
+use mathlib.Core.List.{List, _++_, map}
+use Prim.Native.Nat.{ℕ, suc, _≤_}
 use native.Mathlib.Omega.{arith}
 use lib.Dec.{eqb, leb}
-use lib.ListN.{length, set, length-set, replicate, length-replicate, getD-replicate}
-use borrow.Author.Tests.{eqb-true, eqb-false, eq-eqb, ne-eqb, leb-true}
+use lib.ListN.{length, replicate, length-replicate, getD-replicate}
+use borrow.Author.Tests.{eqb-true, ne-eqb, leb-true}
 use Rattle.rules.specs.Sums.{only, sumTo, countTo}
-use Rattle.rules.specs.Lists.{at, mem, every, distinct}
-use Rattle.rules.specs.Need.{childrenOut, need}
+use Rattle.rules.specs.Lists.{at}
+use Rattle.rules.specs.Need.{need}
 use Rattle.rules.specs.Peak.{roots, ordered}
 use Rattle.rules.specs.Phase
-use Rattle.rules.specs.Standing.{waiting, activated, running, finished, count}
+use Rattle.rules.specs.Standing.{waiting, running, finished, count}
 use Rattle.rules.specs.State.{State, needs}
-use Rattle.rules.specs.Command.{Command, begin, done}
-use Rattle.rules.specs.Grounds.{inTurn, inLimits, within, demand, peakOf, ownGround}
-use Rattle.rules.specs.Booking.{Books, total, activate, starts, start, free, dispatch}
-use Rattle.rules.specs.Obey.{
-  withBooks,
-  ahead,
-  begun,
-  proceed,
-  fresh,
-  endedStandings,
-  shared,
-  ended,
-  phaseAfter,
-  obey,
-}
+use Rattle.rules.specs.Command.{begin}
+use Rattle.rules.specs.Grounds.{inTurn, within, demand, peakOf, ownGround}
+use Rattle.rules.specs.Booking.{Books, total}
+use Rattle.rules.specs.Obey.{withBooks, ahead, begun, proceed, fresh}
 use Rattle.rules.specs.Day.{Event, started}
-use Rattle.rules.specs.Day
-use Rattle.rules.proofs.Tests.{decide, clash, same-or-not, and-true}
-use Rattle.rules.proofs.Sums.{Task, sum-change, sum-zero, only-true, only-false}
-use Rattle.rules.proofs.Orders.{within-task}
+use Rattle.rules.proofs.Tests.{and-true}
+use Rattle.rules.proofs.Sums.{Task, sum-zero, only-false}
 use Rattle.rules.proofs.Turns.{Valid}
 use Rattle.rules.proofs.Ranks.{rankIn, tree-of}
 use Rattle.rules.proofs.Tree.{Tree}
-use Rattle.rules.proofs.Children.{children, children-out, children-zero}
-use Rattle.rules.proofs.Shape.{Shape}
-use Rattle.rules.proofs.Balance.{Balanced, Roomy, arrived}
-use Rattle.rules.proofs.Good.{Good, Sized, at-set, at-other}
-use Rattle.rules.proofs.Sharing.{sharing-good}
+use Rattle.rules.proofs.Children.{children-out, children-zero}
+use Rattle.rules.proofs.Balance.{Roomy, arrived}
+use Rattle.rules.proofs.Good.{Good}
 use Rattle.rules.proofs.Course.{Settled, settles, course-logged, course-ends}
-use Rattle.rules.proofs.Log.{Logged, InOrder, nothing-logged, nothing-in-order, ended-logged, ended-in-order}
+use Rattle.rules.proofs.Log.{Logged, InOrder}
 use Rattle.rules.proofs.Formed.{Formed, Accepted, demand-none, with-books-formed}
 
 -- the plan as BEGIN found it in order, and the bound in force above its peak

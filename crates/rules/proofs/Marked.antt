@@ -1,9 +1,8 @@
 -- The † table holds, and plan A prints its four lines: both by computation.
 use mathlib.Core.Path.{_≡_, refl}
 use mathlib.Core.Bool.{true}
-use mathlib.Core.List.{List, [], _∷_, _++_}
-use Prim.Native.Nat.{ℕ}
-use Rattle.rules.specs.Command.{Command, begin, done, bytes}
+use mathlib.Core.List.{_++_}
+use Rattle.rules.specs.Command.{begin, done}
 use Rattle.rules.specs.Text.{ascii, print}
 use Rattle.rules.specs.Marked.{
   ask,

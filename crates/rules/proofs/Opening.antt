@@ -1,21 +1,18 @@
 -- An accepted BEGIN opens a day.
-use mathlib.Core.Path.{_≡_, refl, sym, ap, _∙_}
-use mathlib.Core.Bool.{true, false}
-use mathlib.Core.List.{List, [], map}
-use Prim.Native.Nat.{ℕ, _≤_}
+use mathlib.Core.Path.{refl, sym, _∙_}
+use mathlib.Core.List.{[], map}
+use Prim.Native.Nat.{_≤_}
 use native.Mathlib.Omega.{arith}
-use lib.Dec.{eqb}
 use borrow.Author.Tests.{eq-eqb, ne-eqb}
 use Rattle.rules.specs.Lists.{at}
 use Rattle.rules.specs.Phase
-use Rattle.rules.specs.Standing.{waiting, activated, running, finished, count}
+use Rattle.rules.specs.Standing.{running, finished, count}
 use Rattle.rules.specs.State.{State, needs}
 use Rattle.rules.specs.Command.{begin}
 use Rattle.rules.specs.Grounds.{peakOf}
 use Rattle.rules.specs.Obey.{fresh, withBooks, proceed, obey}
 use Rattle.rules.specs.Day.{started}
 use Rattle.rules.proofs.Tests.{clash}
-use Rattle.rules.proofs.Sums.{Task}
 use Rattle.rules.proofs.Ranks.{rankIn}
 use Rattle.rules.proofs.Good.{Good}
 use Rattle.rules.proofs.Log.{nothing-logged, nothing-in-order}

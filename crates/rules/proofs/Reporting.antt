@@ -1,14 +1,14 @@
 -- An accepted DONE keeps the day.
 use mathlib.Core.Path.{_≡_, refl, sym, ap, subst, _∙_}
-use mathlib.Core.Bool.{Bool, true, false, cond}
+use mathlib.Core.Bool.{true, false}
 use mathlib.Core.Logic.{⊎-elim}
 use mathlib.Core.List.{List, [], _∷_, _++_, map, append-assoc}
 use Prim.Native.Nat.{ℕ, suc, _+_, _≤_}
 use native.Mathlib.Omega.{arith}
 use lib.Dec.{eqb}
-use lib.ListN.{length, set, length-set}
+use lib.ListN.{length, set}
 use borrow.Author.Tests.{eqb-true, eqb-false, eq-eqb, ne-eqb}
-use Rattle.rules.specs.Sums.{only, sumTo, countTo}
+use Rattle.rules.specs.Sums.{only, countTo}
 use Rattle.rules.specs.Lists.{at}
 use Rattle.rules.specs.Phase
 use Rattle.rules.specs.Standing.{running, finished, count}
@@ -18,7 +18,7 @@ use Rattle.rules.specs.Grounds.{inTurn, inLimits, ownGround}
 use Rattle.rules.specs.Obey.{withBooks, proceed, endedStandings, shared, phaseAfter, obey}
 use Rattle.rules.specs.Obey
 use Rattle.rules.specs.Day.{Event, started, ended}
-use Rattle.rules.proofs.Tests.{decide, clash}
+use Rattle.rules.proofs.Tests.{decide}
 use Rattle.rules.proofs.Sums.{Task, sum-change, only-true, only-false}
 use Rattle.rules.proofs.Orders.{within-task}
 use Rattle.rules.proofs.Ranks.{rankIn}
@@ -27,19 +27,7 @@ use Rattle.rules.proofs.Good.{Good, at-set, at-other}
 use Rattle.rules.proofs.Sharing.{sharing-good}
 use Rattle.rules.proofs.Log.{Logged, ended-logged, ended-in-order}
 use Rattle.rules.proofs.Formed.{Accepted, demand-none}
-use Rattle.rules.proofs.InDay.{
-  Planned,
-  InDay,
-  Closing,
-  open-day,
-  closed,
-  booksOf,
-  tree,
-  needs-roomy,
-  proceed-ends,
-  proceed-settled,
-  proceed-in-day,
-}
+use Rattle.rules.proofs.InDay.{InDay, Closing, open-day, closed, booksOf, tree, needs-roomy, proceed-ends, proceed-settled, proceed-in-day}
 
 -- one fewer runs
 one-fewer :

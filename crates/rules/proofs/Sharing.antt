@@ -1,17 +1,17 @@
 -- Sharing out what an ended task held keeps what holds of the day.
 use mathlib.Core.Path.{_≡_, refl, sym, ap, subst, _∙_}
-use mathlib.Core.Bool.{Bool, true, false, _||_}
+use mathlib.Core.Bool.{true, false, _||_}
 use mathlib.Core.Logic.{⊎-elim}
 use mathlib.Core.List.{List, [], _∷_}
-use Prim.Native.Nat.{ℕ, zero, suc, _+_, _-_, _≤_, _<_}
+use Prim.Native.Nat.{ℕ, suc, _+_, _-_, _≤_}
 use native.Mathlib.Omega.{arith}
 use lib.Dec.{eqb}
 use lib.ListN.{length, set, length-set}
 use borrow.Author.Tests.{eqb-true, eqb-false, eq-eqb, ne-eqb}
-use Rattle.rules.specs.Sums.{only, sumTo}
+use Rattle.rules.specs.Sums.{only}
 use Rattle.rules.specs.Lists.{at, mem}
 use Rattle.rules.specs.Standing.{waiting, activated, running, finished}
-use Rattle.rules.specs.Booking.{Books, Climbed, total, chain, figure, offer, gift, climb, dispatch}
+use Rattle.rules.specs.Booking.{Books, Climbed, total, chain, offer, gift, climb, dispatch}
 use Rattle.rules.proofs.Tests.{decide, clash, same-or-not, or-cases, or-right, or-false}
 use Rattle.rules.proofs.Sums.{Task, only-true, only-false, only-zero}
 use Rattle.rules.proofs.Tree.{Tree, up, up-nobody, up-self, up-step, chain-none, chain-step, parent-task, not-above-itself}
@@ -20,7 +20,7 @@ use Rattle.rules.proofs.Balance.{Active, Balance, Balanced, Roomy, clea
 use Rattle.rules.proofs.Climbing.{nothing-left, at-waiting, offer-balance, offer-total}
 use Rattle.rules.proofs.Finishing.{finishing-shape, finishing-balance, finishing-total}
 use Rattle.rules.proofs.Branches.{climb-stop, climb-offer, dispatch-root, dispatch-child}
-use Rattle.rules.proofs.Good.{Good, Sized, at-set, at-other, moved-by-set}
+use Rattle.rules.proofs.Good.{Good, at-set, at-other, moved-by-set}
 
 -- what a climb with r trays leaves of the booked trays b
 pub record Climbs (n : ℕ) (par need out st : ℕ → ℕ) (b : List ℕ) (r : ℕ) (c : Climbed) : Type 0 where

@@ -8,19 +8,17 @@ use native.Mathlib.Omega.{arith}
 use lib.Dec.{eqb}
 use lib.ListN.{length, set, length-set}
 use borrow.Author.Tests.{eqb-true, eq-eqb, ne-eqb, not-false}
-use Rattle.rules.specs.Sums.{only, sumTo, countTo}
+use Rattle.rules.specs.Sums.{only, countTo}
 use Rattle.rules.specs.Lists.{at, mem, every, first}
 use Rattle.rules.specs.Grounds.{within}
 use Rattle.rules.specs.Standing.{activated, running, finished, count}
-use Rattle.rules.specs.Booking.{Books, fed, ready, starts, start}
-use Rattle.rules.proofs.Tests.{decide, clash, same-or-not, and-true, and-false, or-cases}
+use Rattle.rules.specs.Booking.{fed, ready, starts, start}
+use Rattle.rules.proofs.Tests.{decide, clash, same-or-not, and-true, and-false}
 use Rattle.rules.proofs.Sums.{Task, sum-change, none-counted, count-none, only-true, only-false}
 use Rattle.rules.proofs.Orders.{mem-here, mem-more, mem-rest, mem-out, nobody, within-task, every-mem}
-use Rattle.rules.proofs.Shape.{Shape, Moved}
-use Rattle.rules.proofs.Balance.{Balanced}
 use Rattle.rules.proofs.Starting.{starting-shape, starting-balanced}
 use Rattle.rules.proofs.Branches.{starts-none, starts-one, first-here, first-later}
-use Rattle.rules.proofs.Good.{Good, Sized, at-set, at-other, moved-by-set}
+use Rattle.rules.proofs.Good.{Good, at-set, at-other, moved-by-set}
 
 -- who is found first passes the test, and stands in the list
 pub first-passes : (test : ℕ → Bool) (l : List ℕ) (i : ℕ) → first test l ≡ suc i → (mem (suc i) l ≡ true) × (test (suc i) ≡ true)

@@ -3,19 +3,19 @@ use mathlib.Core.Path.{_≡_, refl, sym, ap, subst, _∙_}
 use mathlib.Core.Bool.{Bool, true, false, _||_}
 use mathlib.Core.Logic.{_⊎_, inl, inr, ⊎-elim}
 use mathlib.Core.List.{List, [], _∷_, _++_}
-use Prim.Native.Nat.{ℕ, zero, suc, _+_, _≤_, _<_}
+use Prim.Native.Nat.{ℕ, _+_, _≤_, _<_}
 use native.Mathlib.Omega.{arith}
-use lib.Dec.{eqb, leb}
+use lib.Dec.{eqb}
 use lib.ListN.{length}
-use borrow.Author.Tests.{eq-eqb, ne-eqb, le-leb}
+use borrow.Author.Tests.{eq-eqb, ne-eqb}
 use Rattle.rules.specs.Lists.{mem, distinct}
-use Rattle.rules.specs.Need.{need, resident}
+use Rattle.rules.specs.Need.{need}
 use Rattle.rules.specs.Peak.{peak}
 use Rattle.rules.specs.Standing.{waiting, finished}
-use Rattle.rules.specs.Booking.{Books, total, missing, lacks, allows}
-use Rattle.rules.proofs.Tests.{decide, clash, same-or-not, le-or-lt}
+use Rattle.rules.specs.Booking.{total, missing}
+use Rattle.rules.proofs.Tests.{decide, same-or-not, le-or-lt}
 use Rattle.rules.proofs.Sums.{Task}
-use Rattle.rules.proofs.Orders.{mem-here, mem-later, mem-rest, nobody, place, place-second, place-split, distinct-split}
+use Rattle.rules.proofs.Orders.{mem-rest, nobody, place, place-second, place-split, distinct-split}
 use Rattle.rules.proofs.Turns.{Valid}
 use Rattle.rules.proofs.Peaks.{resident-cong, sum-le-peak}
 use Rattle.rules.proofs.Ranks.{rankIn, in-front, same-rank}

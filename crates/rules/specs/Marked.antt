@@ -5,10 +5,9 @@ use Prim.Native.Nat.{ℕ}
 use lib.Dec.{eqb}
 use lib.ListN.{take, replicate}
 use Rattle.rules.specs.Lists.{at}
-use Rattle.rules.specs.State.{State, none, needs}
-use Rattle.rules.specs.Grounds.{peakOf}
+use Rattle.rules.specs.State.{none, needs}
 use Rattle.rules.specs.Command.{Command, plan, task, activation, execution, begin, done, bytes}
-use Rattle.rules.specs.Answer.{Asking, Answer, Answered, command}
+use Rattle.rules.specs.Answer.{Asking, Answered, command}
 use Rattle.rules.specs.Question.{booked, inUse}
 use Rattle.rules.specs.Day.{after}
 
