@@ -19,9 +19,10 @@ use Rattle.rules.proofs.Turns.{Valid}
 use Rattle.rules.proofs.Ranks.{rankIn, stands, same-rank, in-front}
 use Rattle.rules.proofs.Tree.{Tree}
 use Rattle.rules.proofs.Balance.{Roomy, missing-is}
+use Rattle.rules.proofs.Giving.{Given, gains}
 use Rattle.rules.proofs.Activating.{activating-shape, activating-balanced}
 use Rattle.rules.proofs.Branches.{activate-pass, activate-book, activate-stop}
-use Rattle.rules.proofs.Good.{Good, at-set, at-other, moved-by-set}
+use Rattle.rules.proofs.Good.{Good, at-set, at-other, moved-by-set, given-by-set}
 
 -- x waits, and nobody of lower rank does
 pub record FirstWaiting (n : ℕ) (rank st : ℕ → ℕ) (x : ℕ) : Type 0 where
@@ -51,10 +52,12 @@ module _ (n : ℕ) (par : ℕ → ℕ) (order : List ℕ) (valid : Valid n par o
   book-good k x good w a =
       let t = w .task in
       let moved = moved-by-set n (k .standings) x activated (good .sized .standings) t in
-      let is : missing n par need (at (k .standings)) (at (k .booked)) x ≡ need x - figure n par (at (k .booked)) x =
+      let is =
       missing-is n par (rankIn order) tree need out (at (k .standings)) (at (k .booked)) (good .shape) [] 0 (good .books) x t
       in
-      let granted = at-set n (k .booked) x (at (k .booked) x + lacks n par need k x) (good .sized .booked) t in
+      let given : Given n par need (at (k .booked)) (at (book n par need k x .booked)) x =
+      rw is (given-by-set n par need (k .booked) x (good .sized .booked) t)
+      in
       record {
         sized =
             record {
@@ -64,15 +67,8 @@ module _ (n : ℕ) (par : ℕ → ℕ) (order : List ℕ) (valid : Valid n par o
         shape = activating-shape n par (rankIn order) tree (at (k .standings)) _ (good .shape) x t (w .waits) (w .first) moved;
         books =
             activating-balanced n par (rankIn order) tree (at (k .standings)) _ (good .shape) x t (w .waits) (w .first) moved need out
-            (at (k .booked)) _ roomy (good .books) (granted ∙ ap (λ (m : ℕ). at (k .booked) x + m) is)
-            (λ i _ d. at-other (k .booked) x (at (k .booked) x + lacks n par need k x) i d);
-        within =
-            let sum =
-            sum-change (at (k .booked)) (at (book n par need k x .booked)) n x (lacks n par need k x) t granted
-            (λ i _ d. at-other (k .booked) x (at (k .booked) x + lacks n par need k x) i d)
-            in
-            let fits = leb-true _ bound a in
-            omega arith;
+            (at (k .booked)) _ roomy (good .books) given;
+        within = (let sum = gains tree t given in let fits = leb-true _ bound a in omega arith);
       }
 
   -- who stands in front of the rest of the order, with one more

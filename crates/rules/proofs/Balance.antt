@@ -157,28 +157,17 @@ module _ (n : ℕ) (par rank : ℕ → ℕ) (tree : Tree n par rank)
       in
       omega arith
 
-  -- what is still to come to a task is below its children's figures, where each of those that have not ended has its out covered
-  pub pending-covered :
-      (i : ℕ)
-      → ((c : ℕ) → Task n c → par c ≡ i → (st c ≡ finished → ⊥) → out c ≤ figure n par b c)
-      → pending n par out st i ≤ children n par (λ c. figure n par b c) i
-  unfolding pending
-  pending-covered i h =
-      children-le n par (λ c. only (not (eqb (st c) finished)) (out c)) (λ c. figure n par b c) i
-      (λ c u e.
-      ⊎-elim
-      (λ (q : eqb (st c) finished ≡ true).
-      let none : only (not (eqb (st c) finished)) (out c) ≡ 0 =
-      only-false (not (eqb (st c) finished)) (out c) (ap (λ (t : Bool). not t) q)
-      in
-      omega arith)
-      (λ (q : eqb (st c) finished ≡ false).
-      let one : only (not (eqb (st c) finished)) (out c) ≡ out c =
-      only-true (not (eqb (st c) finished)) (out c) (ap (λ (t : Bool). not t) q)
-      in
-      let k = h c u e (eqb-false (st c) finished q) in
-      omega arith)
-      (decide (eqb (st c) finished)))
+-- what is still to come to a task is below its children's figures, where each of those that have not ended has its out covered
+pub pending-covered :
+    (n : ℕ) (par out st b : ℕ → ℕ) (i : ℕ)
+    → ((c : ℕ) → Task n c → par c ≡ i → (st c ≡ finished → ⊥) → out c ≤ figure n par b c)
+    → pending n par out st i ≤ children n par (λ c. figure n par b c) i
+unfolding pending
+pending-covered n par out st b i h =
+    children-le n par (λ c. only (not (eqb (st c) finished)) (out c)) (λ c. figure n par b c) i
+    (λ c u e.
+    ⊎-elim (λ (q : eqb (st c) finished ≡ true). rw q (omega arith))
+    (λ (q : eqb (st c) finished ≡ false). rw q (h c u e (eqb-false (st c) finished q))) (decide (eqb (st c) finished)))
 
 -- where the same tasks have ended, the same has arrived and the same is to come
 module _ (n : ℕ) (par out st st′ : ℕ → ℕ)

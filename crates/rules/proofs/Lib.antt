@@ -18,6 +18,7 @@ pub mod Tree
 pub mod Children
 pub mod Shape
 pub mod Balance
+pub mod Giving
 pub mod Activating
 pub mod Starting
 pub mod Climbing

@@ -18,9 +18,9 @@ use Rattle.rules.proofs.Tree.{Tree, up, up-nobody, up-self, up-step, ch
 use Rattle.rules.proofs.Shape.{Shape, Moved, not-begun-above}
 use Rattle.rules.proofs.Balance.{Active, Balance, Balanced, Roomy, cleared}
 use Rattle.rules.proofs.Climbing.{nothing-left, at-waiting, offer-balance, offer-total}
-use Rattle.rules.proofs.Finishing.{finishing-shape, finishing-balance, finishing-total}
+use Rattle.rules.proofs.Finishing.{Taken, finishing-shape, finishing}
 use Rattle.rules.proofs.Branches.{climb-stop, climb-offer, dispatch-root, dispatch-child}
-use Rattle.rules.proofs.Good.{Good, at-set, at-other, moved-by-set}
+use Rattle.rules.proofs.Good.{Good, at-set, at-other, moved-by-set, given-by-set}
 
 -- what a climb with r trays leaves of the booked trays b
 pub record Climbs (n : ℕ) (par need out st : ℕ → ℕ) (b : List ℕ) (r : ℕ) (c : Climbed) : Type 0 where
@@ -38,7 +38,7 @@ module _ (n : ℕ) (par rank : ℕ → ℕ) (tree : Tree n par rank) (need out :
       → Climbs n par need out st b r (record { offered = []; left = r; booked = b })
   stopped b r sized books = record { books = books; all = refl; sized = sized }
 
-  -- one offer, and what the climb from the parent on leaves
+  -- one offer: what the climb from the parent on leaves, and that the rest is owed to those above
   offered :
       (x r : ℕ) (b : List ℕ)
       → Task n x
@@ -50,10 +50,8 @@ module _ (n : ℕ) (par rank : ℕ → ℕ) (tree : Tree n par rank) (need out :
       → Climbs n par need out st b r (offer x c)
   unfolding offer gift total
   offered x r b t a sized books c later =
-      let given = at-set n b x (at b x + gift n par need b x) sized t in
       let kept =
-      offer-total n par rank tree st shape need out roomy x t a r (at b) (at (set b x (at b x + gift n par need b x))) books given
-      (λ i _ d. at-other b x (at b x + gift n par need b x) i d)
+      offer-total n par rank tree st shape need out roomy x t a r (at b) _ books (given-by-set n par need b x sized t)
       in
       record {
         books = later .books;
@@ -61,7 +59,6 @@ module _ (n : ℕ) (par rank : ℕ → ℕ) (tree : Tree n par rank) (need out :
         sized = later .sized;
       }
 
-  -- after it the rest is owed to those above
   next :
       (x r : ℕ) (b : List ℕ)
       → Task n x
@@ -72,9 +69,7 @@ module _ (n : ℕ) (par rank : ℕ → ℕ) (tree : Tree n par rank) (need out :
       (r - gift n par need b x)
   unfolding gift
   next x r b t a sized books =
-      offer-balance n par rank tree st shape need out roomy x t a r (at b) (at (set b x (at b x + gift n par need b x))) books
-      (at-set n b x (at b x + gift n par need b x) sized t)
-      (λ i _ d. at-other b x (at b x + gift n par need b x) i d)
+      offer-balance n par rank tree st shape need out roomy x t a r (at b) _ books (given-by-set n par need b x sized t)
 
   -- the tasks above a task that has not ended, after one step
   idle-above :
@@ -121,9 +116,9 @@ module _ (n : ℕ) (par rank : ℕ → ℕ) (tree : Tree n par rank) (need out :
       (stopped b r sized
       (⊎-elim
       (λ (w : eqb (st x) waiting ≡ true).
-      at-waiting n par rank tree st shape need out roomy (at b) x r t (eqb-true (st x) waiting w) books-x)
+      at-waiting n par rank tree st shape need out (at b) x r t (eqb-true (st x) waiting w) books-x)
       (λ (z : eqb r 0 ≡ true).
-      nothing-left n par rank tree st shape need out roomy (at b) (chain n par x) r (eqb-true r 0 z) books-x)
+      nothing-left n par need out st (at b) (chain n par x) r (eqb-true r 0 z) books-x)
       (or-cases (eqb (st x) waiting) (eqb r 0) s))))
       (λ (s : (eqb (st x) waiting || eqb r 0) ≡ false).
       let busy = eqb-false (st x) waiting (or-false (eqb (st x) waiting) (eqb r 0) s .0) in
@@ -158,11 +153,11 @@ module _ (n : ℕ) (par rank : ℕ → ℕ) (tree : Tree n par rank) (need out :
       let same = at-other (k .standings) j finished a a-not in
       omega arith
 
-  taken : at (set (k .booked) j 0) j ≡ 0
-  taken = at-set n (k .booked) j 0 (good .sized .booked) task
+  taken : Moved n (at (k .booked)) (at (set (k .booked) j 0)) j 0
+  taken = moved-by-set n (k .booked) j 0 (good .sized .booked) task
 
-  taken-others : (i : ℕ) → Task n i → (i ≡ j → ⊥) → at (set (k .booked) j 0) i ≡ at (k .booked) i
-  taken-others i _ d = at-other (k .booked) j 0 i d
+  sized-taken : length (set (k .booked) j 0) ≡ suc n
+  sized-taken = length-set (k .booked) j 0 ∙ good .sized .booked
 
   -- the root's trays are free
   shared-root :
@@ -171,24 +166,26 @@ module _ (n : ℕ) (par rank : ℕ → ℕ) (tree : Tree n par rank) (need out :
       (dispatch n par need (at (set (k .standings) j finished)) out (k .booked) j)
   unfolding total
   shared-root z =
-      let gave : (i : ℕ) → Task n i → at (set (k .booked) j 0) i ≡ at (set (k .booked) j 0) i + only (eqb (par j) i) 0 =
-      λ i _. let n = only-zero (eqb (par j) i) in omega arith
+      let ends : Taken n par out (at (k .booked)) (at (set (k .booked) j 0)) (at (set (k .booked) j 0)) j (at (k .booked) j) =
+      record {
+        taken = taken;
+        gave = λ d. absurd (d z);
+        others = λ i _ _. refl;
+        root = λ _. refl;
+        child = λ d. absurd (d z);
+      }
       in
-      let whole =
-      finishing-total n par rank tree (at (k .standings)) _ (good .shape) j task runs moved need out (at (k .booked))
-      (at (set (k .booked) j 0)) (at (set (k .booked) j 0)) (at (k .booked) j) 0 roomy (good .books) taken taken-others (λ _. refl)
-      (λ d. absurd (d z)) gave (omega arith)
+      let owed =
+      finishing n par rank tree (at (k .standings)) _ (good .shape) j task runs moved need out (at (k .booked)) _ _ _ roomy
+      (good .books) ends
       in
       rw (dispatch-root n par need (at (set (k .standings) j finished)) out (k .booked) j (eq-eqb (par j) 0 z))
       (record {
         books =
-            cleared n par need out _ (at (set (k .booked) j 0)) (chain n par (par j)) (at (k .booked) j)
-            (finishing-balance n par rank tree (at (k .standings)) _ (good .shape) j task runs moved need out (at (k .booked))
-            (at (set (k .booked) j 0)) (at (set (k .booked) j 0)) (at (k .booked) j) 0 roomy (good .books) taken taken-others (λ _. refl)
-            (λ d. absurd (d z)) gave (omega arith))
+            cleared n par need out _ (at (set (k .booked) j 0)) (chain n par (par j)) (at (k .booked) j) (owed .0)
             (λ i _ _. only-false (up n par i (par j)) (at (k .booked) j) (up-nobody n par i (par j) z));
-        all = omega arith;
-        sized = length-set (k .booked) j 0 ∙ good .sized .booked;
+        all = omega (arith, owed .1);
+        sized = sized-taken;
       })
 
   -- a parent keeps the out, and the rest climbs
@@ -198,42 +195,28 @@ module _ (n : ℕ) (par rank : ℕ → ℕ) (tree : Tree n par rank) (need out :
       (dispatch n par need (at (set (k .standings) j finished)) out (k .booked) j)
   unfolding total
   shared-child d =
-      let q : ℕ = par j in
-      let u : Task n q = parent-task n par rank tree j task d in
+      let u = parent-task n par rank tree j task d in
       let b₁ : List ℕ = set (k .booked) j 0 in
-      let b₂ : List ℕ = set b₁ q (at b₁ q + out j) in
-      let sized₁ : length b₁ ≡ suc n = length-set (k .booked) j 0 ∙ good .sized .booked in
-      let gave : (i : ℕ) → Task n i → at b₂ i ≡ at b₁ i + only (eqb q i) (out j) =
-      λ i t.
-      ⊎-elim
-      (λ e.
-      let one = only-true (eqb q i) (out j) (eq-eqb q i e) in
-      let new : at b₂ i ≡ at b₁ i + out j =
-      subst (λ (v : ℕ). at b₂ v ≡ at b₁ v + out j) e (at-set n b₁ q (at b₁ q + out j) sized₁ u)
-      in
-      omega arith)
-      (λ v.
-      let none = only-false (eqb q i) (out j) (ne-eqb q i v) in
-      let old = at-other b₁ q (at b₁ q + out j) i (λ e. v (sym e)) in
-      omega arith)
-      (same-or-not q i)
+      let b₂ : List ℕ = set b₁ (par j) (at b₁ (par j) + out j) in
+      let ends : Taken n par out (at (k .booked)) (at b₁) (at b₂) j (at (k .booked) j - out j) =
+      record {
+        taken = taken;
+        gave = λ _. at-set n b₁ (par j) (at b₁ (par j) + out j) sized-taken u;
+        others = λ i _ v. at-other b₁ (par j) (at b₁ (par j) + out j) i v;
+        root = λ z. absurd (d z);
+        child = λ _. refl;
+      }
       in
       let owed =
-      finishing-balance n par rank tree (at (k .standings)) (at (set (k .standings) j finished)) (good .shape) j task runs moved
-      need out (at (k .booked)) (at b₁) (at b₂) (at (k .booked) j - out j) (out j) roomy (good .books) taken taken-others
-      (λ z. absurd (d z)) (λ _. refl) gave refl
-      in
-      let whole =
-      finishing-total n par rank tree (at (k .standings)) (at (set (k .standings) j finished)) (good .shape) j task runs moved need
-      out (at (k .booked)) (at b₁) (at b₂) (at (k .booked) j - out j) (out j) roomy (good .books) taken taken-others
-      (λ z. absurd (d z)) (λ _. refl) gave refl
+      finishing n par rank tree (at (k .standings)) _ (good .shape) j task runs moved need out (at (k .booked)) _ _ _ roomy
+      (good .books) ends
       in
       let done =
-      climbs n par rank tree need out roomy (at (set (k .standings) j finished)) shape-after (chain n par q) q
-      (at (k .booked) j - out j) b₂ refl (u .high) (length-set b₁ q (at b₁ q + out j) ∙ sized₁) idle owed
+      climbs n par rank tree need out roomy (at (set (k .standings) j finished)) shape-after (chain n par (par j)) (par j)
+      (at (k .booked) j - out j) b₂ refl (u .high) (length-set b₁ (par j) (at b₁ (par j) + out j) ∙ sized-taken) idle (owed .0)
       in
       rw (dispatch-child n par need (at (set (k .standings) j finished)) out (k .booked) j (ne-eqb (par j) 0 d))
-      (record { books = done .books; all = (let a = done .all in omega arith); sized = done .sized })
+      (record { books = done .books; all = omega (arith, done .all, owed .1); sized = done .sized })
 
   -- the books once j has ended
   pub sharing-good :
