@@ -16,7 +16,7 @@ use Rattle.rules.proofs.Tests.{decide, same-or-not, or-cases, or-right}
 use Rattle.rules.proofs.Sums.{Task, sum-change}
 use Rattle.rules.proofs.Orders.{mem-append, mem-here, mem-rest, nobody, within-task, every-mem}
 use Rattle.rules.proofs.Turns.{Valid}
-use Rattle.rules.proofs.Ranks.{rankIn, stands, same-rank, in-front}
+use Rattle.rules.proofs.Ranks.{rankIn, stands, entry, same-rank, in-front}
 use Rattle.rules.proofs.Tree.{Tree}
 use Rattle.rules.proofs.Balance.{Roomy, missing-is}
 use Rattle.rules.proofs.Giving.{Given, gains}
@@ -138,13 +138,6 @@ module _ (n : ℕ) (par : ℕ → ℕ) (order : List ℕ) (valid : Valid n par o
         halted = done .halted;
       }
 
-  -- an entry of the order is a task
-  entry : (pre : List ℕ) (x : ℕ) (later : List ℕ) → order ≡ pre ++ x ∷ later → Task n x
-  entry pre x later e =
-      within-task n x
-      (every-mem (λ i. within i n) order x (valid .inside)
-      (rw e (mem-append x pre (x ∷ later) ∙ or-right (mem x pre) (mem x (x ∷ later)) (mem-here x x later refl))))
-
   -- two tasks that are first to wait are one
   first-waiting-one :
       (st : ℕ → ℕ) (x y : ℕ) → FirstWaiting n (rankIn order) st x → FirstWaiting n (rankIn order) st y → x ≡ y
@@ -175,7 +168,7 @@ module _ (n : ℕ) (par : ℕ → ℕ) (order : List ℕ) (valid : Valid n par o
       ⊎-elim
       (λ (w : eqb (at (k .standings) x) waiting ≡ true).
       let waits = eqb-true (at (k .standings) x) waiting w in
-      let t = entry pre x later e in
+      let t = entry n par order valid pre x later e in
       let first : FirstWaiting n (rankIn order) (at (k .standings)) x =
       record {
         task = t;

@@ -20,7 +20,7 @@ use Rattle.rules.specs.Question
 use Rattle.rules.specs.Day.{Event, starts, ends}
 use Rattle.rules.specs.Theorem.{runs, usedBy, DayHolds}
 use Rattle.rules.proofs.Tests.{clash, same-or-not, and-both, or-right}
-use Rattle.rules.proofs.Sums.{Task, sum-cong, sum-zero, counted, none-counted, count-le, count-all, only-le, only-mono, only-true, only-false}
+use Rattle.rules.proofs.Sums.{Task, sum-cong, count-cong, sum-zero, counted, none-counted, count-le, count-all, only-le, only-mono, only-true, only-false}
 use Rattle.rules.proofs.Orders.{mem-here, mem-append, sum-members, sum-length, count-full, within-task, every-mem}
 use Rattle.rules.proofs.Peaks.{resident-cong}
 use Rattle.rules.proofs.Ranks.{rankIn, stands}
@@ -50,8 +50,7 @@ module _ (s : State) (happened : List Event) (day : InDay s happened) where
   reports =
       sym (sum-length (ends happened))
       ∙ sum-members (λ _. 1) (s .size) (ends happened) (day .logged .inside) (day .logged .apart)
-      ∙ sum-cong (λ i. only (mem i (ends happened)) 1) (λ i. only (eqb (at (s .standings) i) finished) 1) (s .size)
-      (λ i t. ap (λ (b : Bool). only b 1) (day .logged .done i t))
+      ∙ count-cong (λ i. mem i (ends happened)) (λ i. eqb (at (s .standings) i) finished) (s .size) (day .logged .done)
 
   -- a task runs by what happened just where its standing says so
   runs-is : (i : ℕ) → Task (s .size) i → runs happened i ≡ eqb (at (s .standings) i) running
@@ -83,21 +82,12 @@ module _ (s : State) (happened : List Event) (day : InDay s happened) where
   stuck-at : count (s .size) (at (s .standings)) running ≡ 0 → Found (at (s .standings)) (s .activation) → ⊥
   unfolding allows lacks peakOf
   stuck-at none found =
-      let n = s .size in
       let valid = day .planned .valid in
       let t = tree s (day .planned) in
       let shape = day .settled .good .shape in
-      let task : Task (s .size) (found .x) =
-      within-task (s .size) (found .x)
-      (every-mem (λ i. within i (s .size)) (s .activation) (found .x) (valid .inside)
-      (ap (mem (found .x)) (found .whole)
-      ∙ mem-append (found .x) (found .pre) (found .x ∷ found .post)
-      ∙ or-right (mem (found .x) (found .pre)) (mem (found .x) (found .x ∷ found .post))
-      (mem-here (found .x) (found .x) (found .post) refl)))
-      in
-      let first = found-first (s .size) (at (s .parents)) (s .activation) valid t (at (s .standings)) shape found task in
+      let first = found-first (s .size) (at (s .parents)) (s .activation) valid t (at (s .standings)) shape found in
       let fits =
-      found-fits (s .size) (at (s .parents)) (s .activation) valid t (at (s .standings)) shape found task (stuck none)
+      found-fits (s .size) (at (s .parents)) (s .activation) valid t (at (s .standings)) shape found (stuck none)
       (at (s .memory .works)) (at (s .memory .outs)) (at (s .memory .booked)) (needs-roomy s) (day .settled .good .books)
       in
       let bound = day .planned .fits in
@@ -206,29 +196,8 @@ module _ (s : State) (happened : List Event) (day : InDay s happened) where
           only-false (eqb (s .phase) Phase.running) _ (ne-eqb (s .phase) Phase.running (λ q. omega arith))
           ∙ (let u = used-is in let w = in-use-booked in let z = nothing-booked h in omega arith)
 
-  -- "trays in use never exceed trays booked, nor booked trays the cold room's places"
-  covered : Question.inUse s ≤ Question.booked s
-  unfolding Question.inUse Question.booked
-  covered = only-mono (Question.isRunning s) _ (total (s .size) (at (s .memory .booked))) (λ _. in-use-booked)
-
-  within-bound : Question.booked s ≤ s .memory .bound
-  unfolding Question.booked
-  within-bound =
-      let o = only-le (Question.isRunning s) (total (s .size) (at (s .memory .booked))) in
-      let w = day .settled .good .within in
-      omega arith
-
-  staffed : countTo (runs happened) (s .size) ≤ s .processors
-  unfolding countTo count
-  staffed =
-      let same =
-      sum-cong (λ i. only (runs happened i) 1) (λ i. only (eqb (at (s .standings) i) running) 1) (s .size)
-      (λ i t. ap (λ (b : Bool). only b 1) (runs-is i t))
-      in
-      let few = day .settled .staffed in
-      omega arith
-
   pub day-holds : DayHolds s happened
+  unfolding Question.inUse Question.booked count
   day-holds =
       record {
         once = day .order .once;
@@ -242,9 +211,15 @@ module _ (s : State) (happened : List Event) (day : InDay s happened) where
             );
         over = over;
         used = used;
-        covered = covered;
-        within = within-bound;
-        staffed = staffed;
+        covered = only-mono (Question.isRunning s) _ (total (s .size) (at (s .memory .booked))) (λ _. in-use-booked);
+        within =
+            (let o = only-le (Question.isRunning s) (total (s .size) (at (s .memory .booked))) in
+            let w = day .settled .good .within in
+            omega arith);
+        staffed =
+            (let same = count-cong (runs happened) (λ i. eqb (at (s .standings) i) running) (s .size) runs-is in
+            let few = day .settled .staffed in
+            omega arith);
         exact =
             λ i t r.
             running-holds-need (s .size) (at (s .parents)) (rankIn (s .activation)) (tree s (day .planned)) (needs s)

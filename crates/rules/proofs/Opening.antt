@@ -26,7 +26,7 @@ use Rattle.rules.proofs.InDay.{
   fresh-good,
   fresh-idle,
   begin-planned,
-  proceed-ends,
+  proceeds,
   proceed-in-day,
 }
 
@@ -40,7 +40,7 @@ unfolding proceed withBooks
 still-open s p good few =
     open-day refl
     (λ r t z e.
-    let same = proceed-ends s p Phase.running (fresh (s .size)) (peakOf s) 0 good few r t in
+    let same = proceeds s p Phase.running (fresh (s .size)) (peakOf s) 0 good few .ends r t in
     let w = fresh-waits (s .size) r t in
     clash (sym same ∙ eq-eqb _ finished e) (ne-eqb (at (fresh (s .size) .standings) r) finished (λ q. omega arith)))
 

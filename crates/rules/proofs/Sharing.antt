@@ -38,38 +38,24 @@ module _ (n : ℕ) (par rank : ℕ → ℕ) (tree : Tree n par rank) (need out :
       → Climbs n par need out st b r (record { offered = []; left = r; booked = b })
   stopped b r sized books = record { books = books; all = refl; sized = sized }
 
-  -- one offer: what the climb from the parent on leaves, and that the rest is owed to those above
+  -- one offer: the rest is owed to those above, and what the climb leaves that goes on with it is left of the whole
   offered :
       (x r : ℕ) (b : List ℕ)
       → Task n x
       → Active st x
       → length b ≡ suc n
       → Balance n par need out st (at b) (chain n par x) r
-      → (c : Climbed)
+      → Balance n par need out st (at (set b x (at b x + gift n par need b x))) (chain n par (par x)) (r - gift n par need b x)
+      × ((c : Climbed)
       → Climbs n par need out st (set b x (at b x + gift n par need b x)) (r - gift n par need b x) c
-      → Climbs n par need out st b r (offer x c)
+      → Climbs n par need out st b r (offer x c))
   unfolding offer gift total
-  offered x r b t a sized books c later =
-      let kept =
-      offer-total n par rank tree st shape need out roomy x t a r (at b) _ books (given-by-set n par need b x sized t)
-      in
-      record {
-        books = later .books;
-        all = (let l = later .all in omega arith);
-        sized = later .sized;
-      }
-
-  next :
-      (x r : ℕ) (b : List ℕ)
-      → Task n x
-      → Active st x
-      → length b ≡ suc n
-      → Balance n par need out st (at b) (chain n par x) r
-      → Balance n par need out st (at (set b x (at b x + gift n par need b x))) (chain n par (par x))
-      (r - gift n par need b x)
-  unfolding gift
-  next x r b t a sized books =
-      offer-balance n par rank tree st shape need out roomy x t a r (at b) _ books (given-by-set n par need b x sized t)
+  offered x r b t a sized books =
+      let given = given-by-set n par need b x sized t in
+      let kept = offer-total n par rank tree st shape need out roomy x t a r (at b) _ books given in (
+        offer-balance n par rank tree st shape need out roomy x t a r (at b) _ books given,
+        (λ c later. record { books = later .books; all = omega (arith, later .all); sized = later .sized }),
+      )
 
   -- the tasks above a task that has not ended, after one step
   idle-above :
@@ -125,11 +111,11 @@ module _ (n : ℕ) (par rank : ℕ → ℕ) (tree : Tree n par rank) (need out :
       let low = idle-x x (up-self n par rank tree x t) in
       let a : Active st x = omega arith in
       let within = tree .within x t in
+      let one = offered x r b t a sized books-x in
       rw (climb-offer n par need st x above r b s)
-      (offered x r b t a sized books-x
-      (climb n par need st above (r - gift n par need b x) (set b x (at b x + gift n par need b x)))
+      (one .1 _
       (climbs above (par x) (r - gift n par need b x) (set b x (at b x + gift n par need b x)) above-is within
-      (length-set b x (at b x + gift n par need b x) ∙ sized) (idle-above x t idle-x) (next x r b t a sized books-x))))
+      (length-set b x (at b x + gift n par need b x) ∙ sized) (idle-above x t idle-x) (one .0))))
       (decide (eqb (st x) waiting || eqb r 0))
 
 module _ (n : ℕ) (par rank : ℕ → ℕ) (tree : Tree n par rank) (need out : ℕ → ℕ) (roomy : Roomy n par need out)
