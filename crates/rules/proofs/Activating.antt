@@ -1,16 +1,14 @@
 -- Booking one task ahead keeps what holds of the day.
 use mathlib.Core.Path.{_≡_, sym, ap, _∙_}
 use mathlib.Core.Logic.{⊎-elim}
-use Prim.Native.Nat.{ℕ, _+_, _-_, _≤_, _<_}
+use Prim.Native.Nat.{ℕ, _+_, _≤_, _<_}
 use native.Mathlib.Omega.{arith}
 use lib.Dec.{eqb}
-use borrow.Author.Tests.{ne-eqb}
-use Rattle.rules.specs.Sums.{only}
 use Rattle.rules.specs.Lists.{mem}
 use Rattle.rules.specs.Booking.{figure}
 use Rattle.rules.specs.Standing.{waiting, activated, finished}
-use Rattle.rules.proofs.Tests.{same-or-not, le-or-lt}
-use Rattle.rules.proofs.Sums.{Task, only-true}
+use Rattle.rules.proofs.Tests.{same-or-not}
+use Rattle.rules.proofs.Sums.{Task}
 use Rattle.rules.proofs.Tree.{Tree}
 use Rattle.rules.proofs.Shape.{Shape, Moved, was, stays, four-still, same-ended, child-before}
 use Rattle.rules.proofs.Balance.{

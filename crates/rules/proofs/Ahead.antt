@@ -3,7 +3,7 @@ use mathlib.Core.Path.{_≡_, refl, sym, ap, _∙_}
 use mathlib.Core.Bool.{true, false}
 use mathlib.Core.Logic.{⊎-elim}
 use mathlib.Core.List.{List, [], _∷_, _++_, append-nil, append-assoc}
-use Prim.Native.Nat.{ℕ, _+_, _-_, _≤_, _<_}
+use Prim.Native.Nat.{ℕ, _+_, _≤_, _<_}
 use native.Mathlib.Omega.{arith}
 use lib.Dec.{eqb}
 use lib.ListN.{set, length-set}
@@ -11,10 +11,10 @@ use borrow.Author.Tests.{eqb-true, eqb-false, leb-true}
 use Rattle.rules.specs.Lists.{at, mem}
 use Rattle.rules.specs.Standing.{waiting, activated}
 use Rattle.rules.specs.Grounds.{within}
-use Rattle.rules.specs.Booking.{Books, total, figure, missing, lacks, allows, book, activate}
-use Rattle.rules.proofs.Tests.{decide, same-or-not, or-cases, or-right}
-use Rattle.rules.proofs.Sums.{Task, sum-change}
-use Rattle.rules.proofs.Orders.{mem-append, mem-here, mem-rest, nobody, within-task, every-mem}
+use Rattle.rules.specs.Booking.{Books, total, lacks, allows, book, activate}
+use Rattle.rules.proofs.Tests.{decide, same-or-not, or-cases}
+use Rattle.rules.proofs.Sums.{Task}
+use Rattle.rules.proofs.Orders.{mem-append, mem-rest, nobody}
 use Rattle.rules.proofs.Turns.{Valid}
 use Rattle.rules.proofs.Ranks.{rankIn, stands, entry, same-rank, in-front}
 use Rattle.rules.proofs.Tree.{Tree}

@@ -12,7 +12,7 @@ use Rattle.rules.specs.Lists.{mem}
 use Rattle.rules.specs.Booking.{figure, childrenFigure, missing}
 use Rattle.rules.specs.Standing.{waiting, activated, running, finished}
 use Rattle.rules.proofs.Tests.{decide}
-use Rattle.rules.proofs.Sums.{Task, sum-cong, sum-zero, only-and, only-zero, only-false, only-true, only-cong}
+use Rattle.rules.proofs.Sums.{Task, sum-cong, sum-zero, only-and, only-zero, only-false, only-cong}
 use Rattle.rules.proofs.Tree.{Tree, up, figure-splits}
 use Rattle.rules.proofs.Children.{children, children-cong, children-le, children-zero, children-add}
 use Rattle.rules.proofs.Shape.{Shape, finished-below}

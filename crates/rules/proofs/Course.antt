@@ -7,8 +7,7 @@ use Prim.Native.Nat.{ℕ, suc, _+_, _-_, _≤_, _<_}
 use native.Mathlib.Omega.{arith}
 use lib.Dec.{eqb, leb}
 use lib.ListN.{length}
-use borrow.Author.Tests.{ne-eqb}
-use Rattle.rules.specs.Sums.{only, countTo}
+use Rattle.rules.specs.Sums.{only}
 use Rattle.rules.specs.Lists.{at, every, distinct}
 use Rattle.rules.specs.Grounds.{within}
 use Rattle.rules.specs.Standing.{waiting, activated, running, finished, count}

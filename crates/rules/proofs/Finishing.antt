@@ -1,16 +1,16 @@
 -- A task ends: its trays are taken, its parent keeps its out, and the rest is owed to those above it.
-use mathlib.Core.Path.{_≡_, refl, sym, ap, _∙_}
-use mathlib.Core.Bool.{Bool, true, false, not, _||_}
+use mathlib.Core.Path.{_≡_, sym, ap, _∙_}
+use mathlib.Core.Bool.{true, false, not}
 use mathlib.Core.Logic.{⊎-elim}
 use Prim.Native.Nat.{ℕ, _+_, _-_, _≤_}
 use native.Mathlib.Omega.{arith}
 use lib.Dec.{eqb}
-use borrow.Author.Tests.{eqb-true, eq-eqb, ne-eqb}
+use borrow.Author.Tests.{eq-eqb, ne-eqb}
 use Rattle.rules.specs.Sums.{only, sumTo}
 use Rattle.rules.specs.Booking.{chain, figure}
 use Rattle.rules.specs.Standing.{activated, running, finished}
 use Rattle.rules.proofs.Tests.{decide, same-or-not}
-use Rattle.rules.proofs.Sums.{Task, sum-change, sum-cong, only-true, only-false, only-cong}
+use Rattle.rules.proofs.Sums.{Task, sum-change, sum-cong, only-true, only-false}
 use Rattle.rules.proofs.Tree.{Tree, up, up-nobody, up-self, up-parent, parent-task, figure-change, figure-cong}
 use Rattle.rules.proofs.Children.{children-change}
 use Rattle.rules.proofs.Shape.{Shape, Moved, was, stays, four-still, not-begun-above}

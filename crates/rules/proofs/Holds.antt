@@ -1,8 +1,8 @@
 -- What is promised of a day follows from what is kept of it.
-use mathlib.Core.Path.{_≡_, refl, sym, ap, ap₂, _∙_}
+use mathlib.Core.Path.{_≡_, sym, ap₂, _∙_}
 use mathlib.Core.Bool.{Bool, true, not, _&&_}
 use mathlib.Core.Logic.{_↔_, ⊎-elim}
-use mathlib.Core.List.{List, _∷_}
+use mathlib.Core.List.{List}
 use Prim.Native.Nat.{ℕ, _+_, _≤_, _<_}
 use native.Mathlib.Omega.{arith}
 use lib.Dec.{eqb, leb}
@@ -19,9 +19,9 @@ use Rattle.rules.specs.Booking.{total, lacks, allows, ready, fed}
 use Rattle.rules.specs.Question
 use Rattle.rules.specs.Day.{Event, starts, ends}
 use Rattle.rules.specs.Theorem.{runs, usedBy, DayHolds}
-use Rattle.rules.proofs.Tests.{clash, same-or-not, and-both, or-right}
+use Rattle.rules.proofs.Tests.{clash, same-or-not, and-both}
 use Rattle.rules.proofs.Sums.{Task, sum-cong, count-cong, sum-zero, counted, none-counted, count-le, count-all, only-le, only-mono, only-true, only-false}
-use Rattle.rules.proofs.Orders.{mem-here, mem-append, sum-members, sum-length, count-full, within-task, every-mem}
+use Rattle.rules.proofs.Orders.{sum-members, sum-length, count-full}
 use Rattle.rules.proofs.Peaks.{resident-cong}
 use Rattle.rules.proofs.Ranks.{rankIn, stands}
 use Rattle.rules.proofs.Tree.{parent-task}

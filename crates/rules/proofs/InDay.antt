@@ -7,7 +7,7 @@ use native.Mathlib.Omega.{arith}
 use lib.Dec.{eqb, leb}
 use lib.ListN.{length, replicate, length-replicate, getD-replicate}
 use borrow.Author.Tests.{eqb-true, ne-eqb, leb-true}
-use Rattle.rules.specs.Sums.{only, sumTo, countTo}
+use Rattle.rules.specs.Sums.{only, sumTo}
 use Rattle.rules.specs.Lists.{at}
 use Rattle.rules.specs.Need.{need}
 use Rattle.rules.specs.Peak.{roots, ordered}

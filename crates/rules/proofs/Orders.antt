@@ -1,6 +1,6 @@
 -- Laws of lists of tasks as orders: who stands in a list and where, and lists that hold every task once.
 use mathlib.Core.Path.{_≡_, refl, sym, ap, _∙_}
-use mathlib.Core.Bool.{Bool, true, false, not, cond, _&&_, _||_, and-eq-true-iff, and-assoc, or-assoc, or-comm, or-true}
+use mathlib.Core.Bool.{Bool, true, false, not, cond, _&&_, _||_, and-assoc, or-assoc, or-comm, or-true}
 use mathlib.Core.List.{List, [], _∷_, _++_}
 use mathlib.Core.Logic.{⊎-elim}
 use Prim.Native.Nat.{ℕ, zero, suc, _+_, _<_}
@@ -12,7 +12,7 @@ use Rattle.rules.specs.Sums.{only, sumTo, countTo}
 use Rattle.rules.specs.Lists.{mem, every, distinct}
 use Rattle.rules.specs.Peak.{ordered}
 use Rattle.rules.specs.Grounds.{within}
-use Rattle.rules.proofs.Tests.{decide, clash, same-or-not, or-false}
+use Rattle.rules.proofs.Tests.{decide, clash, same-or-not, and-true, or-false}
 use Rattle.rules.proofs.Sums.{
   Task,
   sum-cong,
@@ -27,7 +27,7 @@ use Rattle.rules.proofs.Sums.{
 -- a task in the limits, as a test and as a fact
 pub within-task : (n i : ℕ) → within i n ≡ true → Task n i
 within-task n i e =
-    let both = and-eq-true-iff (leb 1 i) (leb i n) .0 e in
+    let both = and-true (leb 1 i) (leb i n) e in
     record { low = leb-true 1 i (both .0); high = leb-true i n (both .1) }
 
 pub task-within : (n i : ℕ) → Task n i → within i n ≡ true
@@ -111,7 +111,7 @@ pub every-mem : (test : ℕ → Bool) (l : List ℕ) (x : ℕ) → every test l 
 unfolding every
 every-mem test [] x h e = absurd (nobody x e)
 every-mem test (y ∷ l) x h e =
-    let both = and-eq-true-iff (test y) (every test l) .0 h in
+    let both = and-true (test y) (every test l) h in
     ⊎-elim (λ q. ap test q ∙ both .0) (λ d. every-mem test l x (both .1) (mem-rest x y l e d)) (same-or-not x y)
 
 pub every-append :
@@ -129,7 +129,7 @@ pub record Fresh (x : ℕ) (l : List ℕ) : Type 0 where
 pub distinct-cons : (x : ℕ) (l : List ℕ) → distinct (x ∷ l) ≡ true → Fresh x l
 unfolding distinct
 distinct-cons x l e =
-    let both = and-eq-true-iff (not (mem x l)) (distinct l) .0 e in
+    let both = and-true (not (mem x l)) (distinct l) e in
     record { new = not-true (mem x l) (both .0); later = both .1 }
 
 -- two lists, one after the other, with no entry twice
@@ -247,7 +247,7 @@ unfolding sumOver every
 sum-members f n [] inside once =
     sym (sum-zero (λ i. only (mem i []) (f i)) n (λ i t. only-false (mem i []) (f i) (mem-none i)))
 sum-members f n (x ∷ l) inside once =
-    let both = and-eq-true-iff (within x n) (every (λ i. within i n) l) .0 inside in
+    let both = and-true (within x n) (every (λ i. within i n) l) inside in
     let fresh = distinct-cons x l once in
     let rest : sumOver f l ≡ sumTo (λ i. only (mem i l) (f i)) n = sum-members f n l (both .1) (fresh .later) in
     let here : only (mem x (x ∷ l)) (f x) ≡ only (mem x l) (f x) + f x
@@ -327,7 +327,7 @@ pub ordered-rises :
 unfolding ordered
 ordered-rises par [] x order once e child = absurd (nobody x e)
 ordered-rises par (y ∷ l) x order once e child =
-    let both = and-eq-true-iff (eqb (par y) 0 || mem (par y) l) (ordered par l) .0 order in
+    let both = and-true (eqb (par y) 0 || mem (par y) l) (ordered par l) order in
     let fresh = distinct-cons y l once in
     ⊎-elim
     (λ q.

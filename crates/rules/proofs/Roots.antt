@@ -6,7 +6,6 @@ use Prim.Native.Nat.{ℕ, zero, suc, _+_, _≤_}
 use native.Mathlib.Omega.{arith}
 use lib.Dec.{eqb}
 use borrow.Author.Tests.{eqb-true, eq-eqb, ne-eqb}
-use Rattle.rules.specs.Sums.{only, sumTo, countTo}
 use Rattle.rules.specs.Peak.{roots}
 use Rattle.rules.specs.Standing.{finished}
 use Rattle.rules.proofs.Tests.{clash, same-or-not}

@@ -8,12 +8,11 @@ use native.Mathlib.Omega.{arith}
 use lib.Dec.{eqb}
 use lib.ListN.{length, set, length-set}
 use borrow.Author.Tests.{eqb-true, eqb-false, eq-eqb, ne-eqb}
-use Rattle.rules.specs.Sums.{only}
 use Rattle.rules.specs.Lists.{at, mem}
 use Rattle.rules.specs.Standing.{waiting, activated, running, finished}
 use Rattle.rules.specs.Booking.{Books, Climbed, total, chain, offer, gift, climb, dispatch}
 use Rattle.rules.proofs.Tests.{decide, clash, same-or-not, or-cases, or-right, or-false}
-use Rattle.rules.proofs.Sums.{Task, only-true, only-false, only-zero}
+use Rattle.rules.proofs.Sums.{Task, only-false}
 use Rattle.rules.proofs.Tree.{Tree, up, up-nobody, up-self, up-step, chain-none, chain-step, parent-task, not-above-itself}
 use Rattle.rules.proofs.Shape.{Shape, Moved, not-begun-above}
 use Rattle.rules.proofs.Balance.{Active, Balance, Balanced, Roomy, cleared}

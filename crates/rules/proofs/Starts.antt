@@ -8,14 +8,14 @@ use native.Mathlib.Omega.{arith}
 use lib.Dec.{eqb}
 use lib.ListN.{length, set, length-set}
 use borrow.Author.Tests.{eqb-true, eq-eqb, ne-eqb, not-false}
-use Rattle.rules.specs.Sums.{only, countTo}
+use Rattle.rules.specs.Sums.{countTo}
 use Rattle.rules.specs.Lists.{at, mem, every, first}
 use Rattle.rules.specs.Grounds.{within}
 use Rattle.rules.specs.Standing.{activated, running, finished, count}
 use Rattle.rules.specs.Booking.{fed, ready, starts, start}
 use Rattle.rules.proofs.Tests.{decide, clash, same-or-not, and-true, and-false}
-use Rattle.rules.proofs.Sums.{Task, count-change, none-counted, count-none, only-true, only-false}
-use Rattle.rules.proofs.Orders.{mem-here, mem-more, mem-rest, mem-out, nobody, within-task, every-mem}
+use Rattle.rules.proofs.Sums.{Task, count-change, none-counted, count-none}
+use Rattle.rules.proofs.Orders.{mem-here, mem-more, mem-rest, nobody, within-task, every-mem}
 use Rattle.rules.proofs.Starting.{starting-shape, starting-balanced}
 use Rattle.rules.proofs.Branches.{starts-none, starts-one, first-here, first-later}
 use Rattle.rules.proofs.Good.{Good, at-set, at-other, moved-by-set}

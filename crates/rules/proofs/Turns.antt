@@ -1,6 +1,6 @@
 -- What holds at each turn where the tasks of an activation order run one at a time.
 use mathlib.Core.Path.{_≡_, refl, sym, _∙_}
-use mathlib.Core.Bool.{true, false, _||_, and-eq-true-iff}
+use mathlib.Core.Bool.{true, false, _||_}
 use mathlib.Core.List.{List, [], _∷_, _++_}
 use mathlib.Core.Logic.{⊎-elim}
 use Prim.Native.Nat.{ℕ}
@@ -10,7 +10,7 @@ use lib.ListN.{length}
 use Rattle.rules.specs.Lists.{mem, every, distinct}
 use Rattle.rules.specs.Peak.{ordered}
 use Rattle.rules.specs.Grounds.{within}
-use Rattle.rules.proofs.Tests.{decide, clash}
+use Rattle.rules.proofs.Tests.{decide, clash, and-true}
 use Rattle.rules.proofs.Sums.{Task}
 use Rattle.rules.proofs.Orders.{
   within-task,
@@ -56,7 +56,7 @@ pub ordered-append : (par : ℕ → ℕ) (l m : List ℕ) → ordered par (l ++ 
 unfolding ordered
 ordered-append par [] m e = e
 ordered-append par (x ∷ l) m e =
-    ordered-append par l m (and-eq-true-iff (eqb (par x) 0 || mem (par x) (l ++ m)) (ordered par (l ++ m)) .0 e .1)
+    ordered-append par l m (and-true (eqb (par x) 0 || mem (par x) (l ++ m)) (ordered par (l ++ m)) e .1)
 
 -- a valid order, taken apart anywhere
 pub left-split : (n : ℕ) (par : ℕ → ℕ) (pre later : List ℕ) → Valid n par (pre ++ later) → Left n par pre later
@@ -64,7 +64,7 @@ left-split n par pre later v =
     let two = distinct-append pre later (v .once) in
     record {
       inside =
-          and-eq-true-iff (every (λ i. within i n) pre) (every (λ i. within i n) later) .0
+          and-true (every (λ i. within i n) pre) (every (λ i. within i n) later)
           (sym (every-append (λ i. within i n) pre later) ∙ v .inside) .1;
       once = two .second;
       upward = ordered-append par pre later (v .upward);
@@ -86,9 +86,9 @@ unfolding every ordered
 left-next n par ended x later r =
     let fresh = distinct-cons x later (r .once) in
     record {
-      inside = and-eq-true-iff (within x n) (every (λ i. within i n) later) .0 (r .inside) .1;
+      inside = and-true (within x n) (every (λ i. within i n) later) (r .inside) .1;
       once = fresh .later;
-      upward = and-eq-true-iff (eqb (par x) 0 || mem (par x) later) (ordered par later) .0 (r .upward) .1;
+      upward = and-true (eqb (par x) 0 || mem (par x) later) (ordered par later) (r .upward) .1;
       apart =
           λ i e.
           mem-later i x ended (mem-other i x later e (fresh .new)) ∙ r .apart i (mem-more i x later e);
@@ -103,7 +103,7 @@ pub left-turn :
 unfolding every
 left-turn n par ended x later r =
     let task : Task n x
-    = within-task n x (and-eq-true-iff (within x n) (every (λ i. within i n) later) .0 (r .inside) .0) in
+    = within-task n x (and-true (within x n) (every (λ i. within i n) later) (r .inside) .0) in
     record {
       task = task;
       new = r .apart x (mem-here x x later refl);
