@@ -28,6 +28,7 @@ use Rattle.rules.proofs.Giving.{Given, more, grows, filled, room}
 module _ (n : ℕ) (par rank : ℕ → ℕ) (tree : Tree n par rank) (st st′ : ℕ → ℕ) (shape : Shape n par rank st) (x : ℕ)
     (task : Task n x) (waits : st x ≡ waiting) (first : (j : ℕ) → Task n j → rank j < rank x → st j ≡ waiting → ⊥)
     (moved : Moved n st st′ x activated) where
+  -- the standings keep their shape
   pub activating-shape : Shape n par rank st′
   activating-shape =
       record {
@@ -47,6 +48,7 @@ module _ (n : ℕ) (par rank : ℕ → ℕ) (tree : Tree n par rank) (st st′ :
   -- it gets what it misses
   module _ (need out b b′ : ℕ → ℕ) (roomy : Roomy n par need out) (books : Balanced n par need out st b)
       (given : Given n par need b b′ x) where
+    -- nobody ends by it
     ended : (c : ℕ) → Task n c → eqb (st′ c) finished ≡ eqb (st c) finished
     ended = same-ended moved (λ q. omega arith) (λ q. omega arith)
 

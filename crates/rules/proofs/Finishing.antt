@@ -13,7 +13,7 @@ use Rattle.rules.proofs.Tests.{decide, same-or-not}
 use Rattle.rules.proofs.Sums.{Task, sum-change, sum-cong, only-true, only-false}
 use Rattle.rules.proofs.Tree.{Tree, up, up-nobody, up-self, up-parent, parent-task, figure-change, figure-cong}
 use Rattle.rules.proofs.Children.{children-change}
-use Rattle.rules.proofs.Shape.{Shape, Moved, was, stays, four-still, not-begun-above}
+use Rattle.rules.proofs.Shape.{Shape, Moved, was, behind-still, four-still, not-begun-above}
 use Rattle.rules.proofs.Balance.{
   Active,
   Balance,
@@ -39,11 +39,7 @@ module _ (n : ℕ) (par rank : ℕ → ℕ) (tree : Tree n par rank) (st st′ :
   pub finishing-shape : Shape n par rank st′
   finishing-shape =
       record {
-        behind =
-            λ i k t u h w.
-            let old = was moved i t (λ q. omega arith) in
-            let later = shape .behind i k t u h (sym (old .1) ∙ w) in
-            stays moved k u (λ q. omega arith) ∙ later;
+        behind = behind-still moved shape (λ q. omega arith) (λ q. omega arith);
         fed =
             λ i c t u e r.
             let begun : running ≤ st i =

@@ -33,6 +33,23 @@ module _ {n : ℕ} {st st′ : ℕ → ℕ} {x new : ℕ} (moved : Moved n st st
   pub stays : (i : ℕ) → Task n i → (st i ≡ st x → ⊥) → st′ i ≡ st i
   stays i t d = moved .elsewhere i t (λ e. d (ap st e))
 
+  -- where x did not wait and does not, whoever ranks behind a waiting task still waits
+  pub behind-still :
+      {par rank : ℕ → ℕ}
+      → Shape n par rank st
+      → (st x ≡ waiting → ⊥)
+      → (new ≡ waiting → ⊥)
+      → (i j : ℕ)
+      → Task n i
+      → Task n j
+      → rank i < rank j
+      → st′ i ≡ waiting
+      → st′ j ≡ waiting
+  behind-still shape old now i j t u h w =
+      let before : st i ≡ waiting = sym (was i t (λ q. now (sym q ∙ w)) .1) ∙ w in
+      let later = shape .behind i j t u h before in
+      stays j u (λ q. old (sym q ∙ later)) ∙ later
+
   -- there are four standings still
   pub four-still : new ≤ finished → ((i : ℕ) → Task n i → st i ≤ finished) → (i : ℕ) → Task n i → st′ i ≤ finished
   four-still h four i t =

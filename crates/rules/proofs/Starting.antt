@@ -7,21 +7,17 @@ use native.Mathlib.Omega.{arith}
 use Rattle.rules.specs.Standing.{activated, running, finished}
 use Rattle.rules.proofs.Tests.{same-or-not}
 use Rattle.rules.proofs.Sums.{Task}
-use Rattle.rules.proofs.Shape.{Shape, Moved, was, stays, four-still, same-ended}
+use Rattle.rules.proofs.Shape.{Shape, Moved, was, stays, behind-still, four-still, same-ended}
 use Rattle.rules.proofs.Balance.{Active, Balance, arrived-same, pending-same}
 
 -- x is booked, its children have ended, and it runs
-module _ (n : ℕ) (par rank st st′ : ℕ → ℕ) (shape : Shape n par rank st) (x : ℕ) (task : Task n x)
+module _ (n : ℕ) (par rank st st′ : ℕ → ℕ) (shape : Shape n par rank st) (x : ℕ)
     (booked : st x ≡ activated) (fed : (c : ℕ) → Task n c → par c ≡ x → st c ≡ finished)
     (moved : Moved n st st′ x running) where
   pub starting-shape : Shape n par rank st′
   starting-shape =
       record {
-        behind =
-            λ i j t u h w.
-            let old = was moved i t (λ q. omega arith) in
-            let later = shape .behind i j t u h (sym (old .1) ∙ w) in
-            stays moved j u (λ q. omega arith) ∙ later;
+        behind = behind-still moved shape (λ q. omega arith) (λ q. omega arith);
         fed =
             λ i c t u e r.
             let ended : st c ≡ finished =

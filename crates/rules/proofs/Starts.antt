@@ -203,9 +203,9 @@ module _ (n : ℕ) (par : ℕ → ℕ) where
       (record {
         sized =
             record { standings = length-set st x running ∙ good .sized .standings; booked = good .sized .booked };
-        shape = starting-shape n par rank (at st) (at (set st x running)) (good .shape) x (s .0) (s .1) (s .2) moved;
+        shape = starting-shape n par rank (at st) (at (set st x running)) (good .shape) x (s .1) (s .2) moved;
         books =
-            starting-balanced n par rank (at st) (at (set st x running)) (good .shape) x (s .0) (s .1) (s .2) moved need out (at b) [] 0
+            starting-balanced n par rank (at st) (at (set st x running)) (good .shape) x (s .1) (s .2) moved need out (at b) [] 0
             (good .books);
         within = good .within;
       })

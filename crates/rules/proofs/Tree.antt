@@ -101,6 +101,7 @@ module _ (n : ℕ) (par rank : ℕ → ℕ) (tree : Tree n par rank) where
   pub up-parent : (i k : ℕ) → Task n k → (i ≡ k → ⊥) → up n par i k ≡ up n par i (par k)
   up-parent i k t d = up-step i k t ∙ ap (λ (s : Bool). s || up n par i (par k)) (ne-eqb i k d)
 
+  -- k itself counts
   pub up-self : (k : ℕ) → Task n k → up n par k k ≡ true
   up-self k t = up-step k k t ∙ or-left (eqb k k) (up n par k (par k)) (eq-eqb k k refl)
 
