@@ -10,7 +10,6 @@ use lib.ListN.{set, length-set}
 use borrow.Author.Tests.{eqb-true, eqb-false, leb-true}
 use Rattle.rules.specs.Lists.{at, mem}
 use Rattle.rules.specs.Standing.{waiting, activated}
-use Rattle.rules.specs.Grounds.{within}
 use Rattle.rules.specs.Booking.{Books, total, lacks, allows, book, activate}
 use Rattle.rules.proofs.Tests.{decide, same-or-not, or-cases}
 use Rattle.rules.proofs.Sums.{Task}

@@ -14,7 +14,7 @@ use Rattle.rules.specs.Need
 use Rattle.rules.specs.Phase
 use Rattle.rules.specs.Standing.{activated, running, finished, count}
 use Rattle.rules.specs.State.{State, needs}
-use Rattle.rules.specs.Grounds.{within, peakOf}
+use Rattle.rules.specs.Grounds.{peakOf}
 use Rattle.rules.specs.Booking.{total, lacks, allows, ready, fed}
 use Rattle.rules.specs.Question
 use Rattle.rules.specs.Day.{Event, starts, ends}

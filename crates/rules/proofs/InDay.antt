@@ -15,7 +15,7 @@ use Rattle.rules.specs.Phase
 use Rattle.rules.specs.Standing.{waiting, running, finished, count}
 use Rattle.rules.specs.State.{State, needs}
 use Rattle.rules.specs.Command.{begin}
-use Rattle.rules.specs.Grounds.{inTurn, within, demand, peakOf, ownGround}
+use Rattle.rules.specs.Grounds.{inTurn, demand, peakOf, ownGround}
 use Rattle.rules.specs.Booking.{Books, total}
 use Rattle.rules.specs.Obey.{withBooks, ahead, begun, proceed, fresh}
 use Rattle.rules.specs.Day.{Event, started}
