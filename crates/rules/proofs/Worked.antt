@@ -4,7 +4,6 @@ use mathlib.Core.Bool.{true, false}
 use mathlib.Core.List.{List, [], _∷_, _++_, map}
 use Prim.Native.Nat.{ℕ, _<_}
 use native.Mathlib.Omega.{arith}
-use lib.ListN.{replicate}
 use Rattle.rules.specs.Sums.{countTo}
 use Rattle.rules.specs.State.{State, none}
 use Rattle.rules.specs.Command.{plan, begin, done, bytes}
@@ -12,25 +11,21 @@ use Rattle.rules.specs.Answer.{Asking}
 use Rattle.rules.specs.Question
 use Rattle.rules.specs.Day.{Event, started, ended, after, answers, log, opensDay, nextPlan}
 use Rattle.rules.specs.Theorem.{runs, DayHolds}
-use Rattle.rules.specs.Marked.{ask, asks, inOrder, planA, planC}
+use Rattle.rules.specs.Marked.{ask, asks, inOrder, tasksA, planA, planC, reading, short}
 use Rattle.rules.proofs.Computing.{computing}
 use Rattle.rules.proofs.Theorem.{every-day-holds}
-
--- bytes from another desk, with a start list of 64 entries
-unfoldable pub raw : List ℕ → Asking
-raw stream = record { stream = stream; place = 0; list = replicate 64 0 }
 
 -- the first hours of a day of plan A: no asking but the last is accepted
 unfoldable pub morning : List Asking
 morning =
     -- a start list of 63 entries
-    record { stream = bytes (done 1); place = 0; list = replicate 63 0 }
+    short (bytes (done 1))
     -- a task that does not run
     ∷ ask (done 3)
     -- a command that is cut short, an unknown byte, and no byte at all
-    ∷ raw (6 ∷ 1 ∷ [])
-    ∷ raw (9 ∷ [])
-    ∷ raw []
+    ∷ reading (6 ∷ 1 ∷ []) 0
+    ∷ reading (9 ∷ []) 0
+    ∷ reading [] 0
     -- a next plan while this one runs
     ∷ ask (plan 3 2 7)
     ∷ ask (done 1)
@@ -42,25 +37,25 @@ whole = morning ++ (ask (done 1) ∷ ask (done 2) ∷ ask (done 3) ∷ ask (done
 
 -- BEGIN opens the day, and no next plan is opened in it
 opens : opensDay (after none (asks (planA 7))) (ask begin) ≡ true
-unfolding computing asks planA inOrder ask
+unfolding computing asks tasksA planA inOrder ask
 opens = refl
 
 no-next : nextPlan (after none (asks (planA 7))) (ask begin ∷ whole) ≡ false
-unfolding computing asks planA inOrder ask raw morning whole
+unfolding computing asks tasksA planA inOrder ask reading short morning whole
 no-next = refl
 
 -- each asking is answered by its number
 pub worked-numbers :
     map (λ a. a .answer .number) (answers (after none (asks (planA 7))) (ask begin ∷ whole))
     ≡ 0 ∷ 10 ∷ 6 ∷ 1 ∷ 2 ∷ 1 ∷ 3 ∷ 0 ∷ 6 ∷ 0 ∷ 0 ∷ 3 ∷ []
-unfolding computing asks planA inOrder ask raw morning whole
+unfolding computing asks tasksA planA inOrder ask reading short morning whole
 worked-numbers = refl
 
 -- what happens in the day, in order
 pub worked-log :
     log (after none (asks (planA 7))) (ask begin ∷ whole)
     ≡ started 1 ∷ ended 1 ∷ started 2 ∷ ended 2 ∷ started 3 ∷ ended 3 ∷ []
-unfolding computing asks planA inOrder ask raw morning whole
+unfolding computing asks tasksA planA inOrder ask reading short morning whole
 worked-log = refl
 
 -- all that is promised of a day holds of it
@@ -71,11 +66,11 @@ worked-holds = rw worked-log at (every-day-holds (asks (planA 7)) (ask begin) wh
 
 -- once it is over a next plan may be opened: it ends the day, and its own BEGIN opens another
 pub worked-next : nextPlan (after none (asks (planA 7))) ((ask begin ∷ whole) ++ asks planC) ≡ true
-unfolding computing asks planA planC inOrder ask raw morning whole
+unfolding computing asks tasksA planA planC inOrder ask reading short morning whole
 worked-next = refl
 
 pub worked-second : opensDay (after none ((asks (planA 7) ++ ask begin ∷ whole) ++ asks planC)) (ask begin) ≡ true
-unfolding computing asks planA planC inOrder ask raw morning whole
+unfolding computing asks tasksA planA planC inOrder ask reading short morning whole
 worked-second = refl
 
 -- a claim about the plan and about what happened, made of every day
@@ -104,14 +99,14 @@ Tight = Always (λ s _. Question.inUse s ≡ Question.booked s)
 
 -- after the morning all seven places are booked
 pub not-below : Below → ⊥
-unfolding computing asks planA inOrder ask raw morning
+unfolding computing asks tasksA planA inOrder ask reading short morning
 not-below h =
     let full : 7 < 7 = h (asks (planA 7)) (ask begin) morning refl refl in
     omega arith
 
 -- in twelve places both processors run a task at once
 pub not-spare : Spare → ⊥
-unfolding computing asks planA inOrder ask
+unfolding computing asks tasksA planA inOrder ask
 not-spare h =
     let both : 2 < 2 = h (asks (planA 12)) (ask begin) [] refl refl in
     omega arith
