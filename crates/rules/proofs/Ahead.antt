@@ -41,7 +41,7 @@ pub record Activated (n : ℕ) (par rank need out : ℕ → ℕ) (bound : ℕ) (
 module _ (n : ℕ) (par : ℕ → ℕ) (order : List ℕ) (valid : Valid n par order) (tree : Tree n par (rankIn order))
     (need out : ℕ → ℕ) (roomy : Roomy n par need out) (bound : ℕ) where
   -- one task booked
-  book-good :
+  pub book-good :
       (k : Books) (x : ℕ)
       → Good n par (rankIn order) need out bound k
       → FirstWaiting n (rankIn order) (at (k .standings)) x

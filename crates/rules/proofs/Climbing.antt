@@ -54,7 +54,7 @@ module _ (n : ℕ) (par rank : ℕ → ℕ) (tree : Tree n par rank) (st : ℕ �
   module _ (roomy : Roomy n par need out) (x : ℕ) (task : Task n x) (active : Active st x) (r : ℕ) (b b′ : ℕ → ℕ)
       (books : Balance n par need out st b (chain n par x) r) (given : Given n par need b b′ x) where
     -- the gift is within what is left
-    gift-within : need x - figure n par b x ≤ r
+    pub gift-within : need x - figure n par b x ≤ r
     gift-within =
         let h = books .covered x task active in
         let z : only (up n par x x) r ≡ r = only-true (up n par x x) r (up-self n par rank tree x task) in

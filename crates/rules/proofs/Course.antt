@@ -27,7 +27,8 @@ use Rattle.rules.specs.Booking.{
 }
 use Rattle.rules.specs.Day.{Event, started}
 use Rattle.rules.proofs.Tests.{same-or-not, eqb-above}
-use Rattle.rules.proofs.Sums.{Task, sum-cong, count-cong}
+use Rattle.rules.proofs.Sums.{Task, sum-cong}
+use Rattle.rules.proofs.Counts.{count-cong}
 use Rattle.rules.proofs.Orders.{all-in, nobody}
 use Rattle.rules.proofs.Turns.{Valid}
 use Rattle.rules.proofs.Ranks.{rankIn}

@@ -9,7 +9,7 @@ use borrow.Author.Tests.{eq-eqb, ne-eqb}
 use Rattle.rules.specs.Sums.{only, sumTo}
 use Rattle.rules.specs.Booking.{chain, figure}
 use Rattle.rules.specs.Standing.{activated, running, finished}
-use Rattle.rules.proofs.Tests.{decide, same-or-not}
+use Rattle.rules.proofs.Tests.{decide, clash, same-or-not}
 use Rattle.rules.proofs.Sums.{Task, sum-change, sum-cong, only-true, only-false}
 use Rattle.rules.proofs.Tree.{Tree, up, up-nobody, up-self, up-parent, parent-task, figure-change, figure-cong}
 use Rattle.rules.proofs.Children.{children-change}
@@ -64,7 +64,7 @@ module _ (n : ℕ) (par rank : ℕ → ℕ) (tree : Tree n par rank) (st st′ :
   module _ (need out b b₁ b′ : ℕ → ℕ) (r : ℕ) (roomy : Roomy n par need out) (books : Balanced n par need out st b)
       (ends : Taken n par out b b₁ b′ j r) where
     -- j holds its need, and so its out
-    out-within : out j ≤ b j
+    pub out-within : out j ≤ b j
     out-within =
         let exact = running-holds-need n par rank tree need out st b shape books j task runs in
         let room = roomy j task in
@@ -90,10 +90,22 @@ module _ (n : ℕ) (par rank : ℕ → ℕ) (tree : Tree n par rank) (st st′ :
         (same-or-not i (par j))
 
     -- the figures before: j's trays count for those at or above it
-    figure-taken : (a : ℕ) → figure n par b a ≡ figure n par b₁ a + only (up n par a j) (b j)
+    pub figure-taken : (a : ℕ) → figure n par b a ≡ figure n par b₁ a + only (up n par a j) (b j)
     figure-taken a =
         let none = ends .taken .there in
         figure-change n par b₁ b j (b j) a task (omega arith) (λ i t d. sym (ends .taken .elsewhere i t d))
+
+    -- and after: what the parent is given counts for those at or above the parent
+    pub figure-kept : (a : ℕ) → figure n par b′ a ≡ figure n par b₁ a + only (up n par a (par j)) (out j)
+    figure-kept a =
+        ⊎-elim
+        (λ z.
+        let same = figure-cong n par b₁ b′ a (nobody-gets z) in
+        let none = only-false (up n par a (par j)) (out j) (up-nobody n par a (par j) z) in
+        omega arith)
+        (λ d.
+        figure-change n par b₁ b′ (par j) (out j) a (parent-task n par rank tree j task d) (ends .gave d) (ends .others))
+        (same-or-not (par j) 0)
 
     -- all trays are still there, booked or left
     finishing-total : sumTo b′ n + r ≡ sumTo b n
@@ -132,27 +144,18 @@ module _ (n : ℕ) (par rank : ℕ → ℕ) (tree : Tree n par rank) (st st′ :
         let old = was-active i t a in
         let held = settled n par need out st b books i t (old .1) in
         let before = figure-taken i in
+        let after = figure-kept i in
         let on = up-parent n par rank tree i j task (old .0) in
         ⊎-elim
-        (λ z.
-        let after = figure-cong n par b₁ b′ i (nobody-gets z) in
-        let had = only-false (up n par i j) (b j) (on ∙ up-nobody n par i (par j) z) in
-        omega arith)
-        (λ d.
-        let after =
-        figure-change n par b₁ b′ (par j) (out j) i (parent-task n par rank tree j task d) (ends .gave d) (ends .others)
-        in
-        let left = ends .child d in
-        let w = out-within in
-        ⊎-elim
         (λ (h : up n par i (par j) ≡ true).
+        let left = ends .child (λ z. clash h (up-nobody n par i (par j) z)) in
         let had = only-true (up n par i j) (b j) (on ∙ h) in
         let has = only-true (up n par i (par j)) (out j) h in
         let owes = only-true (up n par i (par j)) r h in
+        let w = out-within in
         omega arith)
         (λ (h : up n par i (par j) ≡ false). let had = only-false (up n par i j) (b j) (on ∙ h) in omega arith)
-        (decide (up n par i (par j))))
-        (same-or-not (par j) 0)
+        (decide (up n par i (par j)))
 
     -- who has begun is not the parent, which waits for j
     not-given : (i : ℕ) → Task n i → running ≤ st i → b′ i ≡ b₁ i

@@ -20,8 +20,9 @@ use Rattle.rules.specs.Question
 use Rattle.rules.specs.Day.{Event, starts, ends}
 use Rattle.rules.specs.Theorem.{runs, usedBy, DayHolds}
 use Rattle.rules.proofs.Tests.{clash, same-or-not, and-both}
-use Rattle.rules.proofs.Sums.{Task, sum-cong, count-cong, sum-zero, counted, none-counted, count-le, count-all, only-le, only-mono, only-true, only-false}
-use Rattle.rules.proofs.Orders.{sum-members, sum-length, count-full}
+use Rattle.rules.proofs.Sums.{Task, sum-cong, sum-zero, counted, none-counted, count-le, count-all, only-le, only-mono, only-true, only-false}
+use Rattle.rules.proofs.Counts.{count-full, count-cong}
+use Rattle.rules.proofs.Orders.{sum-members, sum-length}
 use Rattle.rules.proofs.Peaks.{resident-cong}
 use Rattle.rules.proofs.Ranks.{rankIn, stands}
 use Rattle.rules.proofs.Tree.{parent-task}

@@ -8,6 +8,7 @@ pub mod Bytes
 -- sums, lists and orders
 pub mod Tests
 pub mod Sums
+pub mod Counts
 pub mod Orders
 pub mod Turns
 pub mod Peaks

@@ -12,17 +12,16 @@ use Rattle.rules.specs.Sums.{only, sumTo, countTo}
 use Rattle.rules.specs.Lists.{mem, every, distinct}
 use Rattle.rules.specs.Peak.{ordered}
 use Rattle.rules.specs.Grounds.{within}
-use Rattle.rules.proofs.Tests.{decide, clash, same-or-not, and-true, or-false}
+use Rattle.rules.proofs.Tests.{clash, fails, same-or-not, or-false, and-true}
 use Rattle.rules.proofs.Sums.{
   Task,
   sum-cong,
-  sum-add,
   sum-zero,
   sum-change,
-  term-le,
   only-true,
   only-false,
 }
+use Rattle.rules.proofs.Counts.{count-full}
 
 -- a task in the limits, as a test and as a fact
 pub within-task : (n i : ℕ) → within i n ≡ true → Task n i
@@ -64,6 +63,12 @@ pub mem-out : (i x : ℕ) (l : List ℕ) → mem i (x ∷ l) ≡ false → (i �
 mem-out i x l e =
     let d : i ≡ x → ⊥ = λ q. clash (mem-here i x l q) e in
     (d, sym (mem-later i x l d) ∙ e)
+
+-- each entry stands in its list
+pub mem-at : (l : List ℕ) (k : ℕ) → k < length l → mem (getD l k 0) l ≡ true
+mem-at [] k h = absurd (omega arith)
+mem-at (x ∷ l) zero h = mem-here x x l refl
+mem-at (x ∷ l) (suc k) h = mem-more (getD l k 0) x l (mem-at l k (omega arith))
 
 -- one list after another
 pub mem-append : (i : ℕ) (l m : List ℕ) → mem i (l ++ m) ≡ (mem i l || mem i m)
@@ -154,6 +159,17 @@ distinct-append (x ∷ l) m e =
           ⊎-elim (λ q. ap (λ t. mem t m) q ∙ h .1) (λ d. a .apart i (mem-rest i x l k d)) (same-or-not i x);
     }
 
+-- one entry more, which is new
+pub distinct-snoc : (l : List ℕ) (x : ℕ) → distinct l ≡ true → mem x l ≡ false → distinct (l ++ x ∷ []) ≡ true
+unfolding distinct mem
+distinct-snoc [] x once new = refl
+distinct-snoc (y ∷ l) x once new =
+    let fresh = distinct-cons y l once in
+    let out = mem-out x y l new in
+    let alone : mem y (l ++ x ∷ []) ≡ false
+    = mem-append y l (x ∷ []) ∙ rw (fresh .new, ne-eqb y x (λ q. out .0 (sym q))) in
+    rw alone (distinct-snoc l x (fresh .later) (out .1))
+
 -- such a list taken apart at x: x stands in neither part, and no entry in both
 pub record Alone (pre : List ℕ) (x : ℕ) (post : List ℕ) : Type 0 where
   pub not-earlier : mem x pre ≡ false
@@ -169,7 +185,7 @@ distinct-split pre x post e =
     let other : (i : ℕ) → mem i pre ≡ true → i ≡ x → ⊥
     = λ i h q. clash (mem-here i x post q) (a .apart i h) in
     record {
-      not-earlier = ⊎-elim (λ h. absurd (other x h refl)) (λ h. h) (decide (mem x pre));
+      not-earlier = fails (mem x pre) (λ h. other x h refl);
       not-later = f .new;
       earlier = a .first;
       later = f .later;
@@ -263,30 +279,6 @@ unfolding sumOver
 sum-length [] = refl
 sum-length (x ∷ l) = omega (arith, sum-length l)
 
-ones : (n : ℕ) → sumTo (λ _. 1) n ≡ n
-unfolding sumTo
-ones zero = refl
-ones (suc n) = omega (arith, ones n)
-
--- a count that comes to n leaves no task out
-pub count-full : (test : ℕ → Bool) (n : ℕ) → countTo test n ≡ n → (i : ℕ) → Task n i → test i ≡ true
-unfolding countTo
-count-full test n full i t =
-    ⊎-elim (λ e. e)
-    (λ e.
-    let left-out : sumTo (λ k. only (test k) 1 + only (not (test k)) 1) n
-    ≡ sumTo (λ k. only (test k) 1) n + sumTo (λ k. only (not (test k)) 1) n
-    = sum-add (λ k. only (test k) 1) (λ k. only (not (test k)) 1) n in
-    let all : sumTo (λ k. only (test k) 1 + only (not (test k)) 1) n ≡ n
-    = sum-cong (λ k. only (test k) 1 + only (not (test k)) 1) (λ _. 1) n (λ k _. one (test k)) ∙ ones n in
-    let here : only (not (test i)) 1 ≡ 1 = only-true (not (test i)) 1 (ap not e) in
-    absurd (omega (arith, term-le (λ k. only (not (test k)) 1) n i t)))
-    (decide (test i))
-  where
-    one : (b : Bool) → only b 1 + only (not b) 1 ≡ 1
-    one true = refl
-    one false = refl
-
 -- the pigeonhole: n entries in the limits with none twice are all the tasks
 pub all-in :
     (n : ℕ) (l : List ℕ)
@@ -349,14 +341,29 @@ ordered-rises par (y ∷ l) x order once e child =
     })
     (same-or-not x y)
 
--- one entry more, which is new
-pub distinct-snoc : (l : List ℕ) (x : ℕ) → distinct l ≡ true → mem x l ≡ false → distinct (l ++ (x ∷ [])) ≡ true
-unfolding distinct
-distinct-snoc [] x e new = rw (mem-none x)
-distinct-snoc (y ∷ l) x e new =
-    let fresh = distinct-cons y l e in
-    let out = mem-out x y l new in
-    let y-not : mem y (l ++ (x ∷ [])) ≡ false
-    = mem-append y l (x ∷ [])
-    ∙ rw (fresh .new) (mem-later y x [] (λ q. out .0 (sym q)) ∙ mem-none y) in
-    rw (y-not, distinct-snoc l x (fresh .later) (out .1))
+-- and an order in which places so rise has each task before its parent
+pub rises-ordered :
+    (par : ℕ → ℕ) (l : List ℕ)
+    → distinct l ≡ true
+    → ((x : ℕ) → mem x l ≡ true → (par x ≡ 0 → ⊥) → Rises par x l)
+    → ordered par l ≡ true
+unfolding ordered
+rises-ordered par [] once up = refl
+rises-ordered par (y ∷ l) once up =
+    let fresh = distinct-cons y l once in
+    let rest : ordered par l ≡ true
+    = rises-ordered par l (fresh .later)
+    (λ x e child.
+    let r = up x (mem-more x y l e) child in
+    let d : x ≡ y → ⊥ = mem-other x y l e (fresh .new) in
+    let other : par x ≡ y → ⊥ = λ q. omega (arith, r .rises, place-here (par x) y l q) in
+    record {
+      member = mem-rest (par x) y l (r .member) other;
+      rises = omega (arith, r .rises, place-later x y l d, place-later (par x) y l other);
+    }) in
+    ⊎-elim (λ z. rw (eq-eqb (par y) 0 z, rest))
+    (λ child.
+    let r = up y (mem-here y y l refl) child in
+    let other : par y ≡ y → ⊥ = λ q. omega (arith, r .rises, place-here (par y) y l q) in
+    rw (mem-rest (par y) y l (r .member) other, or-true (eqb (par y) 0), rest))
+    (same-or-not (par y) 0)

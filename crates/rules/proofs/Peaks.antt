@@ -83,6 +83,15 @@ pub level-first : (n : ℕ) (par out : ℕ → ℕ) → level n par out [] ≡ 0
 unfolding level resident mem
 level-first n par out = sum-zero (lying par out (λ i. mem i []) (λ i. mem i [])) n (λ i _. refl)
 
+-- it does not matter whether x ended first or last
+pub level-snoc : (n : ℕ) (par out : ℕ → ℕ) (l : List ℕ) (x : ℕ) → level n par out (l ++ x ∷ []) ≡ level n par out (x ∷ l)
+unfolding level
+level-snoc n par out l x =
+    let same : (i : ℕ) → mem i (l ++ x ∷ []) ≡ mem i (x ∷ l)
+    = λ i. mem-among i x l [] ∙ ap (λ t. mem i (x ∷ t)) (append-nil l) in
+    resident-cong n par out (λ i. mem i (l ++ x ∷ [])) (λ i. mem i (x ∷ l)) (λ i. mem i (l ++ x ∷ [])) (λ i. mem i (x ∷ l))
+    (λ i _. same i) (λ i _ _. same (par i))
+
 -- at the turn of x the outs of its children leave the level
 children-leave :
     (n : ℕ) (par out : ℕ → ℕ) (ended : List ℕ) (x : ℕ)

@@ -18,7 +18,8 @@ use Rattle.rules.specs.Obey.{withBooks, proceed, endedStandings, shared,
 use Rattle.rules.specs.Obey
 use Rattle.rules.specs.Day.{Event, started, ended}
 use Rattle.rules.proofs.Tests.{decide}
-use Rattle.rules.proofs.Sums.{Task, count-change}
+use Rattle.rules.proofs.Sums.{Task}
+use Rattle.rules.proofs.Counts.{count-change}
 use Rattle.rules.proofs.Orders.{within-task}
 use Rattle.rules.proofs.Ranks.{rankIn}
 use Rattle.rules.proofs.Roots.{root-last}

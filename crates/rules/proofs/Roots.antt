@@ -9,7 +9,8 @@ use borrow.Author.Tests.{eqb-true, eq-eqb, ne-eqb}
 use Rattle.rules.specs.Peak.{roots}
 use Rattle.rules.specs.Standing.{finished}
 use Rattle.rules.proofs.Tests.{clash, same-or-not}
-use Rattle.rules.proofs.Sums.{Task, counted, count-change, none-counted}
+use Rattle.rules.proofs.Sums.{Task, counted, none-counted}
+use Rattle.rules.proofs.Counts.{count-change}
 use Rattle.rules.proofs.Tree.{Tree, parent-task}
 use Rattle.rules.proofs.Shape.{Shape}
 

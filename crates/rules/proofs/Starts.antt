@@ -14,7 +14,8 @@ use Rattle.rules.specs.Grounds.{within}
 use Rattle.rules.specs.Standing.{activated, running, finished, count}
 use Rattle.rules.specs.Booking.{fed, ready, starts, start}
 use Rattle.rules.proofs.Tests.{decide, clash, same-or-not, and-true, and-false}
-use Rattle.rules.proofs.Sums.{Task, count-change, none-counted, count-none}
+use Rattle.rules.proofs.Sums.{Task, none-counted, count-none}
+use Rattle.rules.proofs.Counts.{count-change}
 use Rattle.rules.proofs.Orders.{mem-here, mem-more, mem-rest, nobody, within-task, every-mem}
 use Rattle.rules.proofs.Starting.{starting-shape, starting-balanced}
 use Rattle.rules.proofs.Branches.{starts-none, starts-one, first-here, first-later}

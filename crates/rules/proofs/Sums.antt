@@ -143,26 +143,6 @@ sum-positive f (suc n) h =
     ⊎-elim (λ e. let k = sum-positive f n (omega arith) in (k .0, omega (arith, k .1), k .2))
     (λ d. (suc n, omega arith, omega arith)) (same-or-not (f (suc n)) 0)
 
--- where the tests agree as many are counted
-pub count-cong :
-    (test test′ : ℕ → Bool) (n : ℕ) → ((i : ℕ) → Task n i → test i ≡ test′ i) → countTo test n ≡ countTo test′ n
-unfolding countTo
-count-cong test test′ n h =
-    sum-cong (λ i. only (test i) 1) (λ i. only (test′ i) 1) n (λ i t. ap (λ (b : Bool). only b 1) (h i t))
-
--- one more is counted
-pub count-change :
-    (test test′ : ℕ → Bool) (n x : ℕ)
-    → Task n x
-    → test x ≡ false
-    → test′ x ≡ true
-    → ((i : ℕ) → Task n i → (i ≡ x → ⊥) → test′ i ≡ test i)
-    → countTo test′ n ≡ countTo test n + 1
-unfolding countTo
-count-change test test′ n x t old new other =
-    sum-change (λ i. only (test i) 1) (λ i. only (test′ i) 1) n x 1 t (rw (old, new) (omega arith))
-    (λ i u d. ap (λ (b : Bool). only b 1) (other i u d))
-
 -- a count is nothing just where no task passes
 pub count-none : (test : ℕ → Bool) (n : ℕ) → ((i : ℕ) → Task n i → test i ≡ false) → countTo test n ≡ 0
 unfolding countTo

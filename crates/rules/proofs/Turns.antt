@@ -10,7 +10,7 @@ use lib.ListN.{length}
 use Rattle.rules.specs.Lists.{mem, every, distinct}
 use Rattle.rules.specs.Peak.{ordered}
 use Rattle.rules.specs.Grounds.{within}
-use Rattle.rules.proofs.Tests.{decide, clash, and-true}
+use Rattle.rules.proofs.Tests.{decide, clash, fails, and-true}
 use Rattle.rules.proofs.Sums.{Task}
 use Rattle.rules.proofs.Orders.{
   within-task,
@@ -68,9 +68,7 @@ left-split n par pre later v =
           (sym (every-append (λ i. within i n) pre later) ∙ v .inside) .1;
       once = two .second;
       upward = ordered-append par pre later (v .upward);
-      apart =
-          λ i e.
-          ⊎-elim (λ h. absurd (clash e (two .apart i h))) (λ h. h) (decide (mem i pre));
+      apart = λ i e. fails (mem i pre) (λ h. clash e (two .apart i h));
       all =
           λ i t e.
           (rw e at (sym (mem-append i pre later)))

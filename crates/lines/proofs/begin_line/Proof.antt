@@ -1,0 +1,25 @@
+-- `lines::begin_line` meets its contract.
+use borrow.Author.Needs.{needs}
+use Rattle.rules.specs.Text.{ascii, beginLine}
+use Rattle.lines.proofs.Pieces.{_then_, whole}
+use Rattle.lines.proofs.begin_line.Statement.{statement}
+use Rattle.lines.proofs.begin_line.Tie as tie
+
+returns : tie.Need-returns
+unfolding ascii beginLine
+returns c =
+    let figures = c .before .before in
+    let peak = figures .before .before .before .before in
+    let begin = peak .before .before .before .before in
+    whole (begin .text .ensures then peak .number .ensures then figures .figures .ensures)
+
+pub begin-line-spec : {M : Type 1} → statement M
+begin-line-spec =
+    tie.close
+    (tie.spec
+    (λ c. search needs)
+    (λ c κs. search needs)
+    (λ c κs. search needs)
+    (λ c κs. search needs)
+    (λ c. search needs)
+    returns)

@@ -1,0 +1,35 @@
+-- `lines::done_line` meets its contract.
+use borrow.Author.Needs.{needs}
+use Rattle.rules.specs.Text.{ascii, doneLine}
+use Rattle.lines.proofs.Pieces.{_then_, whole}
+use Rattle.lines.proofs.done_line.Statement.{statement}
+use Rattle.lines.proofs.done_line.Tie as tie
+
+returns : tie.Need-returns
+unfolding ascii doneLine
+returns c =
+    let figures = c .before .before in
+    let offers = figures .before .before .before .before in
+    let offers-name = offers .before .before .before .before in
+    let task = offers-name .before .before .before .before .before in
+    let done = task .before .before .before .before in
+    whole
+    (done .text .ensures
+    then task .number .ensures
+    then offers-name .text2 .ensures
+    then offers .number2 .ensures
+    then figures .figures .ensures)
+
+pub done-line-spec : {M : Type 1} → statement M
+done-line-spec =
+    tie.close
+    (tie.spec
+    (λ c. search needs)
+    (λ c κs. search needs)
+    (λ c κs. search needs)
+    (λ c. search needs)
+    (λ c κs. search needs)
+    (λ c κs. search needs)
+    (λ c κs. search needs)
+    (λ c. search needs)
+    returns)

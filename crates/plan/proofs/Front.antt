@@ -1,0 +1,30 @@
+-- Laws of the front of an array: the entries of the tasks of a plan.
+use mathlib.Core.Path.{_≡_, sym, ap, _∙_}
+use mathlib.Core.List.{List}
+use Prim.Native.Nat.{ℕ, suc, _+_, _≤_, _<_}
+use native.Mathlib.Omega.{arith}
+use lib.ListN.{length, set, length-take}
+use lib.Seq.{getD-take, take-set-lt, length-take-le}
+use Rattle.rules.specs.Sums.{Task, sumTo}
+use Rattle.rules.specs.Lists.{at}
+use Rattle.rules.specs.Booking.{figure, total}
+use Rattle.rules.proofs.Sums.{sum-cong}
+use Rattle.rules.proofs.Tree.{figure-cong}
+use Rattle.plan.specs.Kept.{front}
+
+pub at-front : (n : ℕ) (l : List ℕ) (i : ℕ) → i ≤ n → at (front n l) i ≡ at l i
+at-front n l i h = getD-take (suc n) l i 0 (omega arith)
+
+pub front-set : (n : ℕ) (l : List ℕ) (i v : ℕ) → i ≤ n → front n (set l i v) ≡ set (front n l) i v
+front-set n l i v h = take-set-lt (suc n) l i v (omega arith)
+
+pub front-length : (n : ℕ) (l : List ℕ) → n < length l → length (front n l) ≡ suc n
+front-length n l h = length-take-le (suc n) l h
+
+-- sums over the tasks look at the front only
+pub figure-front : (n : ℕ) (par : ℕ → ℕ) (l : List ℕ) (i : ℕ) → figure n par (at (front n l)) i ≡ figure n par (at l) i
+figure-front n par l i = figure-cong n par (at l) (at (front n l)) i (λ k t. at-front n l k (t .high))
+
+pub total-front : (n : ℕ) (l : List ℕ) → total n (at (front n l)) ≡ total n (at l)
+unfolding total
+total-front n l = sum-cong (at (front n l)) (at l) n (λ k t. at-front n l k (t .high))
