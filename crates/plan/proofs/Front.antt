@@ -1,16 +1,19 @@
 -- Laws of the front of an array: the entries of the tasks of a plan.
-use mathlib.Core.Path.{_≡_, sym, ap, _∙_}
+use mathlib.Core.Path.{_≡_, sym, ap, fun-ext, _∙_}
+use mathlib.Core.Logic.{⊎-elim}
 use mathlib.Core.List.{List}
 use Prim.Native.Nat.{ℕ, suc, _+_, _≤_, _<_}
 use native.Mathlib.Omega.{arith}
-use lib.ListN.{length, set, length-take}
-use lib.Seq.{getD-take, take-set-lt, length-take-le}
+use lib.ListN.{length, set, length-take, List·getD-eq-default}
+use lib.Seq.{getD-take, getD-set-other, take-set-lt, length-take-le}
 use Rattle.rules.specs.Sums.{Task, sumTo}
 use Rattle.rules.specs.Lists.{at}
 use Rattle.rules.specs.Booking.{figure, total}
 use Rattle.rules.proofs.Sums.{sum-cong}
 use Rattle.rules.proofs.Tree.{figure-cong}
+use Rattle.rules.proofs.Tests.{le-or-lt}
 use Rattle.plan.specs.Kept.{front}
+use Rattle.plan.specs.Finish.{Quiet}
 
 pub at-front : (n : ℕ) (l : List ℕ) (i : ℕ) → i ≤ n → at (front n l) i ≡ at l i
 at-front n l i h = getD-take (suc n) l i 0 (omega arith)
@@ -28,3 +31,16 @@ figure-front n par l i = figure-cong n par (at l) (at (front n l)) i (λ k t. at
 pub total-front : (n : ℕ) (l : List ℕ) → total n (at (front n l)) ≡ total n (at l)
 unfolding total
 total-front n l = sum-cong (at (front n l)) (at l) n (λ k t. at-front n l k (t .high))
+
+-- where nothing stands past the tasks, the front is all there is to look at
+pub front-is : (n : ℕ) (l : List ℕ) → Quiet n l → at (front n l) ≡ at l
+front-is n l quiet =
+    fun-ext
+    (λ a.
+    ⊎-elim (λ (h : a ≤ n). at-front n l a h)
+    (λ (h : n < a).
+    List·getD-eq-default (front n l) 0 (let t = length-take (suc n) l in omega arith) ∙ sym (quiet a h))
+    (le-or-lt a n))
+
+pub quiet-set : (n : ℕ) (l : List ℕ) (i v : ℕ) → i ≤ n → Quiet n l → Quiet n (set l i v)
+quiet-set n l i v h quiet a past = getD-set-other l i a v 0 (λ e. omega arith) ∙ quiet a past

@@ -11,8 +11,8 @@ use Rattle.rules.specs.Lists.{mem}
 use Rattle.rules.specs.Standing.{waiting, activated, running, finished}
 use Rattle.rules.specs.Booking.{chain, figure}
 use Rattle.rules.proofs.Tests.{decide, clash, fails, same-or-not, or-cases, or-none}
-use Rattle.rules.proofs.Sums.{sum-cong, only-and, only-cong, only-add, only-true, only-false, only-zero}
-use Rattle.rules.proofs.Children.{children, children-cong, children-add, children-change, children-zero, figure-children}
+use Rattle.rules.proofs.Sums.{sum-cong, only-le, only-and, only-cong, only-add, only-true, only-false, only-zero}
+use Rattle.rules.proofs.Children.{children, children-le, children-cong, children-add, children-change, children-zero, figure-children}
 use Rattle.rules.proofs.Tree.{Tree, up, up-self, up-step, up-rank, up-nobody, parent-task, not-above-itself, figure-change}
 use Rattle.rules.proofs.Shape.{Shape, Moved}
 use Rattle.plan.specs.Kept.{held, heldWith}
@@ -281,3 +281,142 @@ module _ (n : ℕ) (par rank : ℕ → ℕ) (tree : Tree n par rank) where
       let none = only-false (up n par c i) r off in
       omega arith)))
       ∙ sym (held-is n par st b i)
+
+  -- no more than the subtree figure
+  pub held-le-figure : (st b : ℕ → ℕ) (i : ℕ) → Task n i → held n par st b i ≤ figure n par b i
+  held-le-figure st b i t =
+      let h = held-is n par st b i in
+      let f = figure-children n par rank tree b i t in
+      let less =
+      children-le n par (λ c. counts st c (figure n par b c)) (λ c. figure n par b c) i
+      (λ c _ _. only-le (not (eqb (st c) waiting)) (figure n par b c))
+      in
+      omega arith
+
+  -- task j has ended and its trays are taken: r of them are in the air, and its parent keeps the rest
+  module _ (st st′ b b₁ b′ : ℕ → ℕ) (j r kept : ℕ) (shape : Shape n par rank st) (task : Task n j) (runs : st j ≡ running)
+      (moved : Moved n st st′ j finished) (taken : b₁ j ≡ 0) (others : (i : ℕ) → Task n i → (i ≡ j → ⊥) → b₁ i ≡ b i)
+      (gave : (i : ℕ) → Task n i → b′ i ≡ b₁ i + only (eqb (par j) i) kept) (parts : r + kept ≡ b j)
+      (figure-before : (a : ℕ) → figure n par b a ≡ figure n par b₁ a + only (up n par a j) (b j))
+      (figure-after : (a : ℕ) → figure n par b′ a ≡ figure n par b₁ a + only (up n par a (par j)) kept)
+      (below : (c : ℕ) → Task n c → par c ≡ j → figure n par b c ≡ 0) where
+    -- who waits is the same
+    same-waiting : (c : ℕ) → Task n c → eqb (st′ c) waiting ≡ eqb (st c) waiting
+    same-waiting c t =
+        ⊎-elim
+        (λ e.
+        let new : st′ c ≡ finished = ap st′ e ∙ moved .there in
+        let old : st c ≡ running = ap st e ∙ runs in
+        ne-eqb (st′ c) waiting (λ q. omega arith) ∙ sym (ne-eqb (st c) waiting (λ q. omega arith)))
+        (λ d. ap (λ (v : ℕ). eqb v waiting) (moved .elsewhere c t d))
+        (same-or-not c j)
+
+    own-figure : figure n par b j ≡ b j
+    own-figure =
+        figure-children n par rank tree b j task
+        ∙ (let z = children-zero n par (λ c. figure n par b c) j below in omega arith)
+
+    -- the trays in the air and those that the parent keeps are counted as before, but for those kept
+    figure-in-air :
+        (c : ℕ) → figure n par b′ c + only (up n par c j) r + only (eqb c j) kept ≡ figure n par b c
+    figure-in-air c =
+        let before = figure-before c in
+        let after = figure-after c in
+        ⊎-elim
+        (λ e.
+        let self : up n par c j ≡ true = ap (λ (v : ℕ). up n par v j) e ∙ up-self n par rank tree j task in
+        let off : up n par c (par j) ≡ false = ap (λ (v : ℕ). up n par v (par j)) e ∙ not-above-itself n par rank tree j task in
+        let one = only-true (up n par c j) (b j) self in
+        let two = only-true (up n par c j) r self in
+        let three = only-false (up n par c (par j)) kept off in
+        let four = only-true (eqb c j) kept (eq-eqb c j e) in
+        omega arith)
+        (λ d.
+        let on : up n par c j ≡ up n par c (par j) =
+        up-step n par rank tree c j task ∙ ap (λ (s : Bool). s || up n par c (par j)) (ne-eqb c j d)
+        in
+        let none = only-false (eqb c j) kept (ne-eqb c j d) in
+        ⊎-elim
+        (λ (h : up n par c (par j) ≡ true).
+        let one = only-true (up n par c j) (b j) (on ∙ h) in
+        let two = only-true (up n par c j) r (on ∙ h) in
+        let three = only-true (up n par c (par j)) kept h in
+        omega arith)
+        (λ (h : up n par c (par j) ≡ false).
+        let one = only-false (up n par c j) (b j) (on ∙ h) in
+        let two = only-false (up n par c j) r (on ∙ h) in
+        let three = only-false (up n par c (par j)) kept h in
+        omega arith)
+        (decide (up n par c (par j))))
+        (same-or-not c j)
+
+    -- everybody else holds what it held
+    pub held-taken :
+        (a : ℕ) → Task n a → (a ≡ j → ⊥) → heldWith n par st′ b′ j r a ≡ held n par st b a
+    held-taken a t d =
+        let new = held-with-is n par st′ b′ j r a in
+        let old = held-is n par st b a in
+        let sum =
+        children-change n par (λ c. counts st′ c (figure n par b′ c + only (up n par c j) r))
+        (λ c. counts st c (figure n par b c)) j kept a task
+        (let keeps : (v : ℕ) → counts st j v ≡ v =
+        λ v. only-true (not (eqb (st j) waiting)) v (ap (λ (w : Bool). not w) (ne-eqb (st j) waiting (λ q. omega arith)))
+        in
+        let same : counts st′ j (figure n par b′ j + only (up n par j j) r) ≡ counts st j (figure n par b′ j + only (up n par j j) r) =
+        ap (λ (w : Bool). only (not w) (figure n par b′ j + only (up n par j j) r)) (same-waiting j task)
+        in
+        let one = keeps (figure n par b′ j + only (up n par j j) r) in
+        let two = keeps (figure n par b j) in
+        let air = figure-in-air j in
+        let k = only-true (eqb j j) kept (eq-eqb j j refl) in
+        omega arith)
+        (λ c u v.
+        ap (λ (w : Bool). only (not w) (figure n par b c)) (sym (same-waiting c u))
+        ∙ ap (counts st′ c)
+        (let air = figure-in-air c in let k = only-false (eqb c j) kept (ne-eqb c j v) in omega arith))
+        in
+        let mine = gave a t in
+        let was = others a t d in
+        omega arith
+
+    -- and j holds nothing
+    pub held-taken-there : heldWith n par st′ b′ j r j ≡ 0
+    held-taken-there =
+        let own = held-with-own st′ b′ j r task in
+        let new = held-is n par st′ b′ j in
+        let none =
+        children-zero n par (λ c. counts st′ c (figure n par b′ c)) j
+        (λ c u e.
+        let low = tree .rises c u (λ z. omega arith) in
+        let before = figure-before c in
+        let after = figure-after c in
+        let zero-figure = below c u e in
+        let up-rank-j : (k : ℕ) → Task n k → rank j ≤ rank k → up n par c k ≡ false =
+        λ k w h.
+        fails (up n par c k)
+        (λ m.
+        let a = up-rank n par rank tree c k w m .1 in
+        let e′ : rank (par c) ≡ rank j = ap rank e in
+        omega arith)
+        in
+        let off : up n par c (par j) ≡ false =
+        ⊎-elim (λ z. up-nobody n par c (par j) z)
+        (λ d.
+        let higher = tree .rises j task d in
+        up-rank-j (par j) (parent-task n par rank tree j task d) (omega arith))
+        (same-or-not (par j) 0)
+        in
+        let z = only-false (up n par c (par j)) kept off in
+        let f : figure n par b′ c ≡ 0 = omega arith in
+        ap (counts st′ c) f ∙ only-zero (not (eqb (st′ c) waiting)))
+        in
+        let mine = gave j task in
+        let self : only (eqb (par j) j) kept ≡ 0 =
+        only-false (eqb (par j) j) kept
+        (ne-eqb (par j) j
+        (λ e.
+        let up = tree .rises j task (λ z. omega arith) in
+        let same : rank (par j) ≡ rank j = ap rank e in
+        omega arith))
+        in
+        omega arith

@@ -27,7 +27,7 @@ pub struct Plan {
     standings: [u8; Plan::PLACES],
     figures: [u32; Plan::PLACES],
     unfed: [u16; Plan::PLACES],
-    blocks: [u8; Plan::BLOCKS],
+    blocks: [u16; Plan::BLOCKS],
 }
 
 impl Plan {
@@ -67,7 +67,7 @@ impl Plan {
             standings: [0u8; Plan::PLACES],
             figures: [0u32; Plan::PLACES],
             unfed: [0u16; Plan::PLACES],
-            blocks: [0u8; Plan::BLOCKS],
+            blocks: [0u16; Plan::BLOCKS],
         }
     }
 }

@@ -222,6 +222,15 @@ place-at x (y ∷ l) e =
     ⊎-elim (λ q. rw (place-here x y l q) (sym q))
     (λ d. rw (place-later x y l d) (place-at x l (mem-rest x y l e d))) (same-or-not x y)
 
+-- the place of the entry at k, where no entry stands twice
+pub place-of : (l : List ℕ) (k : ℕ) → distinct l ≡ true → k < length l → place (getD l k 0) l ≡ k
+place-of [] k once h = absurd (omega arith)
+place-of (y ∷ l) zero once h = place-here y y l refl
+place-of (y ∷ l) (suc k) once h =
+    let fresh = distinct-cons y l once in
+    let other : getD l k 0 ≡ y → ⊥ = mem-other (getD l k 0) y l (mem-at l k (omega arith)) (fresh .new) in
+    place-later (getD l k 0) y l other ∙ ap suc (place-of l k (fresh .later) (omega arith))
+
 pub place-injective :
     (x y : ℕ) (l : List ℕ) → mem x l ≡ true → mem y l ≡ true → place x l ≡ place y l → x ≡ y
 place-injective x y l e f q = sym (place-at x l e) ∙ ap (λ k. getD l k 0) q ∙ place-at y l f
