@@ -1,12 +1,17 @@
 -- What holds of the books of a day, as lists, between the parts of a command.
-use mathlib.Core.Path.{_≡_}
+use mathlib.Core.Path.{_≡_, sym, subst}
+use mathlib.Core.Logic.{⊎-elim}
 use mathlib.Core.List.{List}
 use Prim.Native.Nat.{ℕ, suc, _+_, _-_, _≤_}
 use native.Mathlib.Omega.{arith}
+use lib.Dec.{eqb}
 use lib.ListN.{length, set}
 use lib.Seq.{getD-set-same, getD-set-other}
+use borrow.Author.Tests.{eq-eqb, ne-eqb}
+use Rattle.rules.specs.Sums.{only}
 use Rattle.rules.specs.Lists.{at}
 use Rattle.rules.specs.Booking.{Books, total, figure}
+use Rattle.rules.proofs.Tests.{same-or-not}
 use Rattle.rules.proofs.Sums.{Task}
 use Rattle.rules.proofs.Shape.{Shape, Moved}
 use Rattle.rules.proofs.Balance.{Balanced}
@@ -42,3 +47,18 @@ pub given-by-set :
 given-by-set n par need l x e t =
     let all : ℕ = at l x + (need x - figure n par (at l) x) in
     record { there = at-set n l x all e t; elsewhere = λ i _ d. at-other l x all i d }
+
+-- a list in which one entry grows
+pub grown-by-set :
+    (n : ℕ) (l : List ℕ) (q v : ℕ)
+    → length l ≡ suc n
+    → Task n q
+    → (i : ℕ)
+    → at (set l q (at l q + v)) i ≡ at l i + only (eqb q i) v
+grown-by-set n l q v e t i =
+    ⊎-elim
+    (λ (same : q ≡ i).
+    let new = subst (λ (k : ℕ). at (set l q (at l q + v)) k ≡ at l k + v) same (at-set n l q (at l q + v) e t) in
+    rw (eq-eqb q i same) new)
+    (λ d. let old = at-other l q (at l q + v) i (λ s. d (sym s)) in rw (ne-eqb q i d) (omega arith))
+    (same-or-not q i)

@@ -12,14 +12,14 @@ use Rattle.rules.specs.Lists.{at, mem}
 use Rattle.rules.specs.Standing.{waiting, activated, running, finished}
 use Rattle.rules.specs.Booking.{Books, Climbed, total, chain, offer, gift, climb, dispatch}
 use Rattle.rules.proofs.Tests.{decide, clash, same-or-not, or-cases, or-right, or-false}
-use Rattle.rules.proofs.Sums.{Task, only-false}
+use Rattle.rules.proofs.Sums.{Task, only-false, only-zero}
 use Rattle.rules.proofs.Tree.{Tree, up, up-nobody, up-self, up-step, chain-none, chain-step, parent-task, not-above-itself}
 use Rattle.rules.proofs.Shape.{Shape, Moved, not-begun-above}
 use Rattle.rules.proofs.Balance.{Active, Balance, Balanced, Roomy, cleared}
 use Rattle.rules.proofs.Climbing.{nothing-left, at-waiting, offer-balance, offer-total}
 use Rattle.rules.proofs.Finishing.{Taken, finishing-shape, finishing}
 use Rattle.rules.proofs.Branches.{climb-stop, climb-offer, dispatch-root, dispatch-child}
-use Rattle.rules.proofs.Good.{Good, at-set, at-other, moved-by-set, given-by-set}
+use Rattle.rules.proofs.Good.{Good, at-other, moved-by-set, given-by-set, grown-by-set}
 
 -- what a climb with r trays leaves of the booked trays b
 pub record Climbs (n : ℕ) (par need out st : ℕ → ℕ) (b : List ℕ) (r : ℕ) (c : Climbed) : Type 0 where
@@ -151,17 +151,17 @@ module _ (n : ℕ) (par rank : ℕ → ℕ) (tree : Tree n par rank) (need out :
       (dispatch n par need (at (set (k .standings) j finished)) out (k .booked) j)
   unfolding total
   shared-root z =
-      let ends : Taken n par out (at (k .booked)) (at (set (k .booked) j 0)) (at (set (k .booked) j 0)) j (at (k .booked) j) =
+      let ends : Taken n par out (at (k .booked)) (at (set (k .booked) j 0)) (at (set (k .booked) j 0)) j (at (k .booked) j) 0 =
       record {
         taken = taken;
-        gave = λ d. absurd (d z);
-        others = λ i _ _. refl;
+        gave = λ i _. let none = only-zero (eqb (par j) i) in omega arith;
         root = λ _. refl;
         child = λ d. absurd (d z);
+        rest = omega arith;
       }
       in
       let owed =
-      finishing n par rank tree (at (k .standings)) _ (good .shape) j task runs moved need out (at (k .booked)) _ _ _ roomy
+      finishing n par rank tree (at (k .standings)) _ (good .shape) j task runs moved need out (at (k .booked)) _ _ _ _ roomy
       (good .books) ends
       in
       rw (dispatch-root n par need (at (set (k .standings) j finished)) out (k .booked) j (eq-eqb (par j) 0 z))
@@ -183,17 +183,17 @@ module _ (n : ℕ) (par rank : ℕ → ℕ) (tree : Tree n par rank) (need out :
       let u = parent-task n par rank tree j task d in
       let b₁ : List ℕ = set (k .booked) j 0 in
       let b₂ : List ℕ = set b₁ (par j) (at b₁ (par j) + out j) in
-      let ends : Taken n par out (at (k .booked)) (at b₁) (at b₂) j (at (k .booked) j - out j) =
+      let ends : Taken n par out (at (k .booked)) (at b₁) (at b₂) j (at (k .booked) j - out j) (out j) =
       record {
         taken = taken;
-        gave = λ _. at-set n b₁ (par j) (at b₁ (par j) + out j) sized-taken u;
-        others = λ i _ v. at-other b₁ (par j) (at b₁ (par j) + out j) i v;
+        gave = λ i _. grown-by-set n b₁ (par j) (out j) sized-taken u i;
         root = λ z. absurd (d z);
         child = λ _. refl;
+        rest = refl;
       }
       in
       let owed =
-      finishing n par rank tree (at (k .standings)) _ (good .shape) j task runs moved need out (at (k .booked)) _ _ _ roomy
+      finishing n par rank tree (at (k .standings)) _ (good .shape) j task runs moved need out (at (k .booked)) _ _ _ _ roomy
       (good .books) ends
       in
       let done =
