@@ -19,7 +19,7 @@ use Rattle.rules.proofs.Tree.{Tree, up, chain-none, not-above-itself}
 use Rattle.rules.proofs.Ranks.{rankIn, tree-of}
 use Rattle.rules.proofs.Shape.{Shape, Moved, not-begun-above}
 use Rattle.rules.proofs.Balance.{Balance, Balanced, finished-figure}
-use Rattle.rules.proofs.Finishing.{finishing-shape, finishing-balance, finishing-total, figure-taken, figure-kept, kept-within}
+use Rattle.rules.proofs.Finishing.{Taken, finishing-shape, finishing-balance, finishing-total, figure-taken, figure-kept, kept-within}
 use Rattle.rules.proofs.Branches.{dispatch-root, dispatch-child}
 use Rattle.rules.proofs.Sharing.{Climbs, climbs}
 use Rattle.plan.specs.Kept.{front, held, heldWith, unended, readyIn, blockSize, booksIn, Figured, Counted, Blocked}
@@ -93,17 +93,29 @@ module _ {n : ℕ} {parents outs needs places booked figures standings unfed blo
       grown-at (set booked j 0) (at parents j) (kept (at parents j) (at outs j)) i
       (let z = length-set booked j 0 ∙ may .sizes .booked-size in let p = parent-in in omega arith) (t .low)
 
+  ends :
+      Taken n (at parents) (at outs) (at booked) (at (set booked j 0)) (at (sharedWith booked j (at parents j) (at outs j))) j
+      (restOf booked j (at parents j) (at outs j)) (kept (at parents j) (at outs j))
+  ends =
+      record {
+        taken = record { there = taken; elsewhere = taken-others };
+        gave = gave;
+        root = root;
+        child = child;
+        rest = refl;
+      }
+
   pub kept-fits : kept (at parents j) (at outs j) ≤ at booked j
   kept-fits =
       kept-within n (at parents) (rankIn (may .order)) tree (at standings) (at (set standings j finished)) shape j (may .task)
       (may .running-there) moved (at needs) (at outs) (at booked) (at (set booked j 0)) (at (sharedWith booked j (at parents j) (at outs j))) (restOf booked j (at parents j) (at outs j))
-      (kept (at parents j) (at outs j)) (may .going .roomy) books taken taken-others root child gave refl
+      (kept (at parents j) (at outs j)) (may .going .roomy) books ends
 
   total-shared : sumTo (at (sharedWith booked j (at parents j) (at outs j))) n + (restOf booked j (at parents j) (at outs j)) ≡ sumTo (at booked) n
   total-shared =
       finishing-total n (at parents) (rankIn (may .order)) tree (at standings) (at (set standings j finished)) shape j (may .task)
       (may .running-there) moved (at needs) (at outs) (at booked) (at (set booked j 0)) (at (sharedWith booked j (at parents j) (at outs j))) (restOf booked j (at parents j) (at outs j))
-      (kept (at parents j) (at outs j)) (may .going .roomy) books taken taken-others root child gave refl
+      (kept (at parents j) (at outs j)) (may .going .roomy) books ends
 
   within-bound : total n (at (sharedWith booked j (at parents j) (at outs j))) + (restOf booked j (at parents j) (at outs j)) ≤ may .bound
   unfolding total
@@ -150,12 +162,12 @@ module _ {n : ℕ} {parents outs needs places booked figures standings unfed blo
       let before : (c : ℕ) → figure n (at parents) (at booked) c ≡ figure n (at parents) (at (set booked j 0)) c + only (up n (at parents) c j) (at booked j) =
       figure-taken n (at parents) (rankIn (may .order)) tree (at standings) (at (set standings j finished)) shape j (may .task)
       (may .running-there) moved (at needs) (at outs) (at booked) (at (set booked j 0)) (at (sharedWith booked j (at parents j) (at outs j))) (restOf booked j (at parents j) (at outs j))
-      (kept (at parents j) (at outs j)) (may .going .roomy) books taken taken-others root child gave refl
+      (kept (at parents j) (at outs j)) (may .going .roomy) books ends
       in
       let later : (c : ℕ) → figure n (at parents) (at (sharedWith booked j (at parents j) (at outs j))) c ≡ figure n (at parents) (at (set booked j 0)) c + only (up n (at parents) c (at parents j)) (kept (at parents j) (at outs j)) =
       figure-kept n (at parents) (rankIn (may .order)) tree (at standings) (at (set standings j finished)) shape j (may .task)
       (may .running-there) moved (at needs) (at outs) (at booked) (at (set booked j 0)) (at (sharedWith booked j (at parents j) (at outs j))) (restOf booked j (at parents j) (at outs j))
-      (kept (at parents j) (at outs j)) (may .going .roomy) books taken taken-others root child gave refl
+      (kept (at parents j) (at outs j)) (may .going .roomy) books ends
       in
       let below : (c : ℕ) → Task n c → at parents c ≡ j → figure n (at parents) (at booked) c ≡ 0 =
       λ c u e.
@@ -206,7 +218,7 @@ module _ {n : ℕ} {parents outs needs places booked figures standings unfed blo
               owed =
                   finishing-balance n (at parents) (rankIn (may .order)) tree (at standings) (at (set standings j finished)) shape j
                   (may .task) (may .running-there) moved (at needs) (at outs) (at booked) (at (set booked j 0)) (at (sharedWith booked j (at parents j) (at outs j))) (restOf booked j (at parents j) (at outs j))
-                  (kept (at parents j) (at outs j)) (may .going .roomy) books taken taken-others root child gave refl;
+                  (kept (at parents j) (at outs j)) (may .going .roomy) books ends;
               idle = idle;
               figured = figures-in-air;
               bound = may .bound;

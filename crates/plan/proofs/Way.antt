@@ -18,6 +18,7 @@ use Rattle.rules.proofs.Sums.{sum-le, term-le, only-le, only-true, only-false}
 use Rattle.rules.proofs.Tree.{Tree, up, up-self, up-step, chain-none, chain-more, chain-step}
 use Rattle.rules.proofs.Shape.{Shape, child-not-waiting}
 use Rattle.rules.proofs.Balance.{Active, Balance}
+use Rattle.rules.proofs.Giving.{Given}
 use Rattle.rules.proofs.Climbing.{gift-within, offer-balance, offer-total}
 use Rattle.rules.proofs.Branches.{climb-stop, climb-offer}
 use Rattle.plan.specs.Kept.{front, held, heldWith}
@@ -235,12 +236,15 @@ module _ {n : ℕ} {par need st : ℕ → ℕ} {goal : Climbed} {booked₀ booke
         others : (k : ℕ) → Task n k → (k ≡ i → ⊥) → at (set booked i (at booked i + g)) k ≡ at booked k
         others k _ d = getD-set-other booked i k (at booked i + g) 0 d
 
+        handed : Given n par need (at booked) (at (set booked i (at booked i + g))) i
+        handed = record { there = granted; elsewhere = others }
+
         pub gift-fits : g ≤ left
         gift-fits =
             let c = way .carrying in
             let w =
             gift-within n par (c .rank) (c .tree) st (c .shape) need (c .out) (c .roomy) i task active left (at booked)
-            (at (set booked i (at booked i + g))) owed granted others
+            (at (set booked i (at booked i + g))) owed handed
             in
             let e = given in
             omega arith
@@ -357,7 +361,7 @@ module _ {n : ℕ} {par need st : ℕ → ℕ} {goal : Climbed} {booked₀ booke
                         (λ (v : ℕ). Balance n par need (c .out) st (at (set booked i (at booked i + g))) (chain n par (par i)) (left - v))
                         (sym given)
                         (offer-balance n par (c .rank) (c .tree) st (c .shape) need (c .out) (c .roomy) i task active left (at booked)
-                        (at (set booked i (at booked i + g))) owed granted others);
+                        (at (set booked i (at booked i + g))) owed handed);
                     idle =
                         λ a m.
                         c .idle a
@@ -370,7 +374,7 @@ module _ {n : ℕ} {par need st : ℕ → ℕ} {goal : Climbed} {booked₀ booke
                     within =
                         (let same =
                         offer-total n par (c .rank) (c .tree) st (c .shape) need (c .out) (c .roomy) i task active left (at booked)
-                        (at (set booked i (at booked i + g))) owed granted others
+                        (at (set booked i (at booked i + g))) owed handed
                         in
                         let w = c .within in
                         let e = given in

@@ -1,28 +1,27 @@
 -- Booking ahead keeps what holds of the day, and stops where the first waiting task does not fit.
 use mathlib.Core.Path.{_≡_, refl, sym, ap, _∙_}
-use mathlib.Core.Bool.{Bool, true, false}
+use mathlib.Core.Bool.{true, false}
 use mathlib.Core.Logic.{⊎-elim}
 use mathlib.Core.List.{List, [], _∷_, _++_, append-nil, append-assoc}
-use Prim.Native.Nat.{ℕ, zero, suc, _+_, _-_, _≤_, _<_}
+use Prim.Native.Nat.{ℕ, _+_, _≤_, _<_}
 use native.Mathlib.Omega.{arith}
 use lib.Dec.{eqb}
-use lib.ListN.{length, set, length-set}
-use borrow.Author.Tests.{eqb-true, eqb-false, eq-eqb, leb-true}
+use lib.ListN.{set, length-set}
+use borrow.Author.Tests.{eqb-true, eqb-false, leb-true}
 use Rattle.rules.specs.Lists.{at, mem}
 use Rattle.rules.specs.Standing.{waiting, activated}
-use Rattle.rules.specs.Grounds.{within}
-use Rattle.rules.specs.Booking.{Books, total, figure, missing, lacks, allows, book, activate}
-use Rattle.rules.proofs.Tests.{decide, same-or-not, or-cases, or-right}
-use Rattle.rules.proofs.Sums.{Task, sum-change}
-use Rattle.rules.proofs.Orders.{mem-append, mem-here, mem-rest, nobody, within-task, every-mem}
+use Rattle.rules.specs.Booking.{Books, total, lacks, allows, book, activate}
+use Rattle.rules.proofs.Tests.{decide, same-or-not, or-cases}
+use Rattle.rules.proofs.Sums.{Task}
+use Rattle.rules.proofs.Orders.{mem-append, mem-rest, nobody}
 use Rattle.rules.proofs.Turns.{Valid}
-use Rattle.rules.proofs.Ranks.{rankIn, stands, same-rank, in-front}
+use Rattle.rules.proofs.Ranks.{rankIn, stands, entry, same-rank, in-front}
 use Rattle.rules.proofs.Tree.{Tree}
-use Rattle.rules.proofs.Shape.{Shape, Moved}
-use Rattle.rules.proofs.Balance.{Balanced, Roomy, missing-is}
+use Rattle.rules.proofs.Balance.{Roomy, missing-is}
+use Rattle.rules.proofs.Giving.{Given, gains}
 use Rattle.rules.proofs.Activating.{activating-shape, activating-balanced}
 use Rattle.rules.proofs.Branches.{activate-pass, activate-book, activate-stop}
-use Rattle.rules.proofs.Good.{Good, Sized, at-set, at-other, moved-by-set}
+use Rattle.rules.proofs.Good.{Good, at-set, at-other, moved-by-set, given-by-set}
 
 -- x waits, and nobody of lower rank does
 pub record FirstWaiting (n : ℕ) (rank st : ℕ → ℕ) (x : ℕ) : Type 0 where
@@ -52,10 +51,12 @@ module _ (n : ℕ) (par : ℕ → ℕ) (order : List ℕ) (valid : Valid n par o
   book-good k x good w a =
       let t = w .task in
       let moved = moved-by-set n (k .standings) x activated (good .sized .standings) t in
-      let is : missing n par need (at (k .standings)) (at (k .booked)) x ≡ need x - figure n par (at (k .booked)) x =
+      let is =
       missing-is n par (rankIn order) tree need out (at (k .standings)) (at (k .booked)) (good .shape) [] 0 (good .books) x t
       in
-      let granted = at-set n (k .booked) x (at (k .booked) x + lacks n par need k x) (good .sized .booked) t in
+      let given : Given n par need (at (k .booked)) (at (book n par need k x .booked)) x =
+      rw is (given-by-set n par need (k .booked) x (good .sized .booked) t)
+      in
       record {
         sized =
             record {
@@ -65,15 +66,8 @@ module _ (n : ℕ) (par : ℕ → ℕ) (order : List ℕ) (valid : Valid n par o
         shape = activating-shape n par (rankIn order) tree (at (k .standings)) _ (good .shape) x t (w .waits) (w .first) moved;
         books =
             activating-balanced n par (rankIn order) tree (at (k .standings)) _ (good .shape) x t (w .waits) (w .first) moved need out
-            (at (k .booked)) _ roomy (good .books) (granted ∙ ap (λ (m : ℕ). at (k .booked) x + m) is)
-            (λ i _ d. at-other (k .booked) x (at (k .booked) x + lacks n par need k x) i d);
-        within =
-            let sum =
-            sum-change (at (k .booked)) (at (book n par need k x .booked)) n x (lacks n par need k x) t granted
-            (λ i _ d. at-other (k .booked) x (at (k .booked) x + lacks n par need k x) i d)
-            in
-            let fits = leb-true (total n (at (k .booked)) + lacks n par need k x) bound a in
-            omega arith;
+            (at (k .booked)) _ roomy (good .books) given;
+        within = (let sum = gains tree t given in let fits = leb-true _ bound a in omega arith);
       }
 
   -- who stands in front of the rest of the order, with one more
@@ -143,13 +137,6 @@ module _ (n : ℕ) (par : ℕ → ℕ) (order : List ℕ) (valid : Valid n par o
         halted = done .halted;
       }
 
-  -- an entry of the order is a task
-  entry : (pre : List ℕ) (x : ℕ) (later : List ℕ) → order ≡ pre ++ x ∷ later → Task n x
-  entry pre x later e =
-      within-task n x
-      (every-mem (λ i. within i n) order x (valid .inside)
-      (rw e (mem-append x pre (x ∷ later) ∙ or-right (mem x pre) (mem x (x ∷ later)) (mem-here x x later refl))))
-
   -- two tasks that are first to wait are one
   first-waiting-one :
       (st : ℕ → ℕ) (x y : ℕ) → FirstWaiting n (rankIn order) st x → FirstWaiting n (rankIn order) st y → x ≡ y
@@ -180,7 +167,7 @@ module _ (n : ℕ) (par : ℕ → ℕ) (order : List ℕ) (valid : Valid n par o
       ⊎-elim
       (λ (w : eqb (at (k .standings) x) waiting ≡ true).
       let waits = eqb-true (at (k .standings) x) waiting w in
-      let t = entry pre x later e in
+      let t = entry n par order valid pre x later e in
       let first : FirstWaiting n (rankIn order) (at (k .standings)) x =
       record {
         task = t;

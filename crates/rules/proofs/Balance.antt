@@ -1,21 +1,21 @@
 -- What holds of the books of a day in one store that is left open, over functions, and what follows from it.
-use mathlib.Core.Path.{_≡_, refl, sym, ap, _∙_}
+use mathlib.Core.Path.{_≡_, sym, ap, _∙_}
 use mathlib.Core.Bool.{Bool, true, false, not, _&&_}
 use mathlib.Core.Logic.{⊎-elim}
 use mathlib.Core.List.{List, []}
-use Prim.Native.Nat.{ℕ, zero, suc, _+_, _-_, _≤_, _<_}
+use Prim.Native.Nat.{ℕ, _+_, _-_, _≤_}
 use native.Mathlib.Omega.{arith}
-use lib.Dec.{eqb, leb}
-use borrow.Author.Tests.{eqb-true, eqb-false, eq-eqb, ne-eqb}
+use lib.Dec.{eqb}
+use borrow.Author.Tests.{eqb-true, eqb-false, eq-eqb}
 use Rattle.rules.specs.Sums.{only, sumTo}
 use Rattle.rules.specs.Lists.{mem}
-use Rattle.rules.specs.Booking.{chain, figure, childrenFigure, missing}
+use Rattle.rules.specs.Booking.{figure, childrenFigure, missing}
 use Rattle.rules.specs.Standing.{waiting, activated, running, finished}
-use Rattle.rules.proofs.Tests.{decide, fails}
-use Rattle.rules.proofs.Sums.{Task, sum-cong, sum-zero, only-and, only-zero, only-false, only-true, only-cong}
+use Rattle.rules.proofs.Tests.{decide}
+use Rattle.rules.proofs.Sums.{Task, sum-cong, sum-zero, only-and, only-zero, only-false, only-cong}
 use Rattle.rules.proofs.Tree.{Tree, up, figure-splits}
 use Rattle.rules.proofs.Children.{children, children-cong, children-le, children-zero, children-add}
-use Rattle.rules.proofs.Shape.{Shape, finished-below, child-not-waiting}
+use Rattle.rules.proofs.Shape.{Shape, finished-below}
 
 -- the outs of the ended children of a task, and those of its other children
 unfoldable pub arrived : (n : ℕ) (par out st : ℕ → ℕ) → ℕ → ℕ
@@ -157,28 +157,17 @@ module _ (n : ℕ) (par rank : ℕ → ℕ) (tree : Tree n par rank)
       in
       omega arith
 
-  -- what is still to come to a task is below its children's figures, where each of those that have not ended has its out covered
-  pub pending-covered :
-      (i : ℕ)
-      → ((c : ℕ) → Task n c → par c ≡ i → (st c ≡ finished → ⊥) → out c ≤ figure n par b c)
-      → pending n par out st i ≤ children n par (λ c. figure n par b c) i
-  unfolding pending
-  pending-covered i h =
-      children-le n par (λ c. only (not (eqb (st c) finished)) (out c)) (λ c. figure n par b c) i
-      (λ c u e.
-      ⊎-elim
-      (λ (q : eqb (st c) finished ≡ true).
-      let none : only (not (eqb (st c) finished)) (out c) ≡ 0 =
-      only-false (not (eqb (st c) finished)) (out c) (ap (λ (t : Bool). not t) q)
-      in
-      omega arith)
-      (λ (q : eqb (st c) finished ≡ false).
-      let one : only (not (eqb (st c) finished)) (out c) ≡ out c =
-      only-true (not (eqb (st c) finished)) (out c) (ap (λ (t : Bool). not t) q)
-      in
-      let k = h c u e (eqb-false (st c) finished q) in
-      omega arith)
-      (decide (eqb (st c) finished)))
+-- what is still to come to a task is below its children's figures, where each of those that have not ended has its out covered
+pub pending-covered :
+    (n : ℕ) (par out st b : ℕ → ℕ) (i : ℕ)
+    → ((c : ℕ) → Task n c → par c ≡ i → (st c ≡ finished → ⊥) → out c ≤ figure n par b c)
+    → pending n par out st i ≤ children n par (λ c. figure n par b c) i
+unfolding pending
+pending-covered n par out st b i h =
+    children-le n par (λ c. only (not (eqb (st c) finished)) (out c)) (λ c. figure n par b c) i
+    (λ c u e.
+    ⊎-elim (λ (q : eqb (st c) finished ≡ true). rw q (omega arith))
+    (λ (q : eqb (st c) finished ≡ false). rw q (h c u e (eqb-false (st c) finished q))) (decide (eqb (st c) finished)))
 
 -- where the same tasks have ended, the same has arrived and the same is to come
 module _ (n : ℕ) (par out st st′ : ℕ → ℕ)

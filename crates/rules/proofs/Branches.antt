@@ -1,13 +1,13 @@
 -- The rules' recursions, one equation a branch: no later proof opens them.
-use mathlib.Core.Path.{_≡_, refl, sym, ap, _∙_}
+use mathlib.Core.Path.{_≡_}
 use mathlib.Core.Bool.{Bool, true, false, _||_}
 use mathlib.Core.List.{List, [], _∷_}
-use Prim.Native.Nat.{ℕ, zero, suc, _+_, _-_}
+use Prim.Native.Nat.{ℕ, suc, _+_, _-_}
 use lib.Dec.{eqb}
 use lib.ListN.{set}
-use Rattle.rules.specs.Lists.{at, mem, first}
+use Rattle.rules.specs.Lists.{at, first}
 use Rattle.rules.specs.Standing.{waiting, running}
-use Rattle.rules.specs.Booking.{Books, Climbed, allows, book, activate, ready, starts, chain, offer, gift, climb, dispatch}
+use Rattle.rules.specs.Booking.{Books, allows, book, activate, ready, starts, chain, offer, gift, climb, dispatch}
 
 module _ (n : ℕ) (par need : ℕ → ℕ) (bound : ℕ) (i : ℕ) (later : List ℕ) (s : Books) where
   -- booking ahead passes a task that does not wait, books one that is allowed, and stops at one that is not

@@ -1,8 +1,8 @@
 -- Laws of sums over the children of a task.
 use mathlib.Core.Path.{_≡_, refl, sym, ap, _∙_}
 use mathlib.Core.Bool.{Bool, true, false, not, _&&_}
-use mathlib.Core.Logic.{_⊎_, inl, inr, ⊎-elim}
-use Prim.Native.Nat.{ℕ, zero, suc, _+_, _≤_, _<_}
+use mathlib.Core.Logic.{⊎-elim}
+use Prim.Native.Nat.{ℕ, _+_, _≤_}
 use native.Mathlib.Omega.{arith}
 use lib.Dec.{eqb}
 use borrow.Author.Tests.{eqb-true, eq-eqb, ne-eqb}
@@ -10,26 +10,8 @@ use Rattle.rules.specs.Sums.{only, sumTo}
 use Rattle.rules.specs.Need.{childrenOut, resident}
 use Rattle.rules.specs.Booking.{figure}
 use Rattle.rules.proofs.Tree.{Tree, figure-splits}
-use Rattle.rules.proofs.Tests.{decide, same-or-not, eqb-sym}
-use Rattle.rules.proofs.Sums.{
-  Task,
-  sum-cong,
-  sum-le,
-  sum-add,
-  sum-zero,
-  sum-swap,
-  sum-single,
-  sum-change,
-  only-sum,
-  only-add,
-  only-swap,
-  only-and,
-  only-zero,
-  only-mono,
-  only-cong,
-  only-true,
-  only-false,
-}
+use Rattle.rules.proofs.Tests.{same-or-not, eqb-sym}
+use Rattle.rules.proofs.Sums.{Task, sum-cong, sum-le, sum-add, sum-zero, sum-swap, sum-single, sum-change, only-sum, only-add, only-swap, only-zero, only-mono, only-cong, only-false}
 
 -- the sum of f over the children of i
 unfoldable pub children : (n : ℕ) (par f : ℕ → ℕ) → ℕ → ℕ

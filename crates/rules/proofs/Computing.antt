@@ -1,5 +1,4 @@
 -- Opens the rules for computing: whoever unfolds `computing` may evaluate a command, a day or the printer.
-use Prim.Native.Nat.{ℕ}
 use Rattle.rules.specs.Sums.{sumTo, countTo}
 use Rattle.rules.specs.Lists.{mem, first, largest}
 use Rattle.rules.specs.Need.{childrenOut, need, resident}
@@ -45,7 +44,9 @@ use Rattle.rules.specs.Obey.{
 }
 use Rattle.rules.specs.Answer.{refuse, front, accept, judge, respond, command}
 use Rattle.rules.specs.Question.{isRunning, booked, inUse, fullnessOf, fullness}
-use Rattle.rules.specs.Day.{after}
+use Rattle.rules.specs.Day.{after, answers, accepted, isPlan, isBegin, reported, events, log, opensDay, opensPlan, nextPlan}
+use Rattle.rules.specs.Day
+use Rattle.rules.specs.Theorem.{runs, usedBy}
 use Rattle.rules.specs.Text.{
   ascii,
   digits,
@@ -129,6 +130,20 @@ unfolding
     booked
     inUse
     after
+    answers
+    accepted
+    isPlan
+    isBegin
+    reported
+    events
+    log
+    Day.starts
+    Day.ends
+    opensDay
+    opensPlan
+    nextPlan
+    runs
+    usedBy
     fullnessOf
     fullness
     ascii

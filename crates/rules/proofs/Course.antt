@@ -2,14 +2,13 @@
 use mathlib.Core.Path.{_≡_, refl, sym, ap, _∙_}
 use mathlib.Core.Bool.{Bool, true, false, not, _&&_}
 use mathlib.Core.Logic.{_⊎_, inl, inr, ⊎-elim}
-use mathlib.Core.List.{List, [], _∷_, _++_, map}
-use Prim.Native.Nat.{ℕ, zero, suc, _+_, _-_, _≤_, _<_}
+use mathlib.Core.List.{List, [], _++_, map}
+use Prim.Native.Nat.{ℕ, suc, _+_, _-_, _≤_, _<_}
 use native.Mathlib.Omega.{arith}
 use lib.Dec.{eqb, leb}
 use lib.ListN.{length}
-use borrow.Author.Tests.{ne-eqb}
-use Rattle.rules.specs.Sums.{only, sumTo, countTo}
-use Rattle.rules.specs.Lists.{at, mem, every, distinct}
+use Rattle.rules.specs.Sums.{only}
+use Rattle.rules.specs.Lists.{at, every, distinct}
 use Rattle.rules.specs.Grounds.{within}
 use Rattle.rules.specs.Standing.{waiting, activated, running, finished, count}
 use Rattle.rules.specs.Booking.{
@@ -27,25 +26,17 @@ use Rattle.rules.specs.Booking.{
   free,
 }
 use Rattle.rules.specs.Day.{Event, started}
-use Rattle.rules.proofs.Tests.{same-or-not}
+use Rattle.rules.proofs.Tests.{same-or-not, eqb-above}
 use Rattle.rules.proofs.Sums.{Task, sum-cong}
+use Rattle.rules.proofs.Counts.{count-cong}
 use Rattle.rules.proofs.Orders.{all-in, nobody}
 use Rattle.rules.proofs.Turns.{Valid}
 use Rattle.rules.proofs.Ranks.{rankIn}
 use Rattle.rules.proofs.Tree.{Tree}
 use Rattle.rules.proofs.Balance.{Roomy}
-use Rattle.rules.proofs.Good.{Good, Sized}
+use Rattle.rules.proofs.Good.{Good}
 use Rattle.rules.proofs.Ahead.{FirstWaiting, Activated, activates}
-use Rattle.rules.proofs.Starts.{
-  Startable,
-  starts-startable,
-  starts-length,
-  starts-halt,
-  start-length,
-  start-count,
-  start-good,
-  start-kind,
-}
+use Rattle.rules.proofs.Starts.{Startable, starts-startable, starts-length, starts-halt, start-count, start-good, start-kind}
 use Rattle.rules.proofs.Log.{Logged, InOrder, logged-same, starts-logged}
 
 -- what a task lacks goes by who has ended
@@ -70,6 +61,18 @@ pub record Settled (n : ℕ) (par rank need out : ℕ → ℕ) (bound processors
   pub busy :
       count n (at (k .standings)) running < processors → (i : ℕ) → Task n i → ready n par (k .standings) i ≡ false
 
+-- what booking ahead and starting make of the books k, where the tasks of l start
+pub record Coursed (n : ℕ) (par rank need out : ℕ → ℕ) (bound processors : ℕ) (k k′ : Books) (l : List ℕ) : Type 0 where
+  pub settled : Settled n par rank need out bound processors k′
+  -- nobody ends
+  pub ends : (i : ℕ) → Task n i → eqb (at (k′ .standings) i) finished ≡ eqb (at (k .standings) i) finished
+  -- what happened, with the starts
+  pub logged :
+      (happened : List Event)
+      → Logged n (at (k .standings)) happened
+      → InOrder n par happened
+      → Logged n (at (k′ .standings)) (happened ++ map started l) × InOrder n par (happened ++ map started l)
+
 module _ (n : ℕ) (par : ℕ → ℕ) (order : List ℕ) (valid : Valid n par order) (tree : Tree n par (rankIn order))
     (need out : ℕ → ℕ) (roomy : Roomy n par need out) (bound processors : ℕ) (execution : List ℕ)
     (inside : every (λ i. within i n) execution ≡ true) (once : distinct execution ≡ true) (whole : length execution ≡ n)
@@ -90,16 +93,10 @@ module _ (n : ℕ) (par : ℕ → ℕ) (order : List ℕ) (valid : Valid n par o
       (same-or-not (at (k .standings) i) waiting)
 
   running-ahead : count n (at (k₁ .standings)) running ≡ count n (at (k .standings)) running
-  unfolding count countTo
+  unfolding count
   running-ahead =
-      sum-cong (λ i. only (eqb (at (k₁ .standings) i) running) 1) (λ i. only (eqb (at (k .standings) i) running) 1) n
-      (λ i t.
-      ⊎-elim (λ e. ap (λ (v : ℕ). only (eqb v running) 1) e)
-      (λ h.
-      ap (λ (v : Bool). only v 1)
-      (ne-eqb (at (k₁ .standings) i) running (λ q. omega (arith, h .1))
-      ∙ sym (ne-eqb (at (k .standings) i) running (λ q. omega (arith, h .0)))))
-      (same-ahead i t))
+      count-cong (λ i. eqb (at (k₁ .standings) i) running) (λ i. eqb (at (k .standings) i) running) n
+      (λ i t. eqb-above _ _ activated running (omega arith) (same-ahead i t))
 
   may-start : Startable n par (k₁ .standings) l
   may-start = rw begun (starts-startable n par execution inside (free n processors (k₁ .standings)) (k₁ .standings))
@@ -126,11 +123,8 @@ module _ (n : ℕ) (par : ℕ → ℕ) (order : List ℕ) (valid : Valid n par o
   -- starting ends nobody
   same-ended : (c : ℕ) → Task n c → eqb (at (start l (k₁ .standings)) c) finished ≡ eqb (at (k₁ .standings) c) finished
   same-ended c _ =
-      ⊎-elim (λ e. ap (λ (v : ℕ). eqb v finished) e)
-      (λ h.
-      ne-eqb (at (start l (k₁ .standings)) c) finished (λ q. omega (arith, h .1))
-      ∙ sym (ne-eqb (at (k₁ .standings) c) finished (λ q. omega (arith, h .0))))
-      (kind c)
+      eqb-above _ _ running finished (omega arith)
+      (⊎-elim inl (λ h. inr (omega (arith, h .0), omega (arith, h .1))) (kind c))
 
   -- who waits afterwards waited after booking ahead, and the other way round
   waits-before : (i : ℕ) → at (start l (k₁ .standings)) i ≡ waiting → at (k₁ .standings) i ≡ waiting
@@ -139,7 +133,7 @@ module _ (n : ℕ) (par : ℕ → ℕ) (order : List ℕ) (valid : Valid n par o
   waits-after : (i : ℕ) → at (k₁ .standings) i ≡ waiting → at (start l (k₁ .standings)) i ≡ waiting
   waits-after i w = ⊎-elim (λ e. e ∙ w) (λ h. absurd (omega (arith, h .0))) (kind i)
 
-  pub settles :
+  settles :
       Settled n par (rankIn order) need out bound processors (record { standings = start l (k₁ .standings); booked = k₁ .booked })
   unfolding free
   settles =
@@ -167,23 +161,15 @@ module _ (n : ℕ) (par : ℕ → ℕ) (order : List ℕ) (valid : Valid n par o
             (all-in n execution inside once whole i t));
       }
 
-  -- what happened, with the starts
-  pub course-logged :
-      (happened : List Event)
-      → Logged n (at (k .standings)) happened
-      → InOrder n par happened
-      → Logged n (at (start l (k₁ .standings))) (happened ++ map started l) × InOrder n par (happened ++ map started l)
-  course-logged happened logged order =
-      starts-logged n par l (k₁ .standings) happened sized-ahead may-start
-      (logged-same n (at (k .standings)) (at (k₁ .standings)) happened same-ahead logged) order
-
-  -- nobody ends
-  pub course-ends :
-      (i : ℕ) → Task n i → eqb (at (start l (k₁ .standings)) i) finished ≡ eqb (at (k .standings) i) finished
-  course-ends i t =
-      same-ended i t
-      ∙ ⊎-elim (λ e. ap (λ (v : ℕ). eqb v finished) e)
-      (λ h.
-      ne-eqb (at (k₁ .standings) i) finished (λ q. omega (arith, h .1))
-      ∙ sym (ne-eqb (at (k .standings) i) finished (λ q. omega (arith, h .0))))
-      (same-ahead i t)
+  pub coursed :
+      Coursed n par (rankIn order) need out bound processors k
+      (record { standings = start l (k₁ .standings); booked = k₁ .booked }) l
+  coursed =
+      record {
+        settled = settles;
+        ends = λ i t. same-ended i t ∙ eqb-above _ _ activated finished (omega arith) (same-ahead i t);
+        logged =
+            λ happened logged in-order.
+            starts-logged n par l (k₁ .standings) happened sized-ahead may-start
+            (logged-same n (at (k .standings)) (at (k₁ .standings)) happened same-ahead logged) in-order;
+      }

@@ -1,9 +1,8 @@
 -- What holds of every plan that commands led to: parents and orders are in their limits, and no step stands twice.
-use mathlib.Core.Path.{_≡_, refl, sym, ap, _∙_}
-use mathlib.Core.Bool.{Bool, true, false, not, cond, _&&_}
-use mathlib.Core.Logic.{⊎-elim}
+use mathlib.Core.Path.{_≡_, refl, _∙_}
+use mathlib.Core.Bool.{Bool, true, false, not, _&&_}
 use mathlib.Core.List.{List, [], _∷_, _++_}
-use Prim.Native.Nat.{ℕ, zero, suc, _+_, _≤_, _<_}
+use Prim.Native.Nat.{ℕ, zero, suc, _≤_}
 use native.Mathlib.Omega.{arith}
 use lib.Dec.{eqb, leb}
 use lib.ListN.{length}
@@ -14,7 +13,7 @@ use Rattle.rules.specs.Phase
 use Rattle.rules.specs.State.{State, none}
 use Rattle.rules.specs.Command.{Command, plan, task, activation, execution, begin, done}
 use Rattle.rules.specs.Grounds.{inTurn, inLimits, within, demand, ownGround, ground}
-use Rattle.rules.specs.Obey.{opened, withTask, withOrders, withBooks, proceed, plain, obey}
+use Rattle.rules.specs.Obey.{opened, withTask, withOrders, withBooks, proceed, obey}
 use Rattle.rules.proofs.Tests.{and-true, and-both}
 use Rattle.rules.proofs.Orders.{every-append, distinct-snoc}
 

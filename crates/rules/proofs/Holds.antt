@@ -1,39 +1,37 @@
 -- What is promised of a day follows from what is kept of it.
-use mathlib.Core.Path.{_≡_, refl, sym, ap, ap₂, subst, _∙_}
-use mathlib.Core.Bool.{Bool, true, false, not, _&&_}
-use mathlib.Core.Logic.{_↔_, _⊎_, inl, inr, ⊎-elim}
-use mathlib.Core.List.{List, [], _∷_, _++_}
-use Prim.Native.Nat.{ℕ, zero, suc, _+_, _≤_, _<_}
+use mathlib.Core.Path.{_≡_, sym, ap₂, _∙_}
+use mathlib.Core.Bool.{Bool, true, not, _&&_}
+use mathlib.Core.Logic.{_↔_, ⊎-elim}
+use mathlib.Core.List.{List}
+use Prim.Native.Nat.{ℕ, _+_, _≤_, _<_}
 use native.Mathlib.Omega.{arith}
 use lib.Dec.{eqb, leb}
 use lib.ListN.{length}
-use borrow.Author.Tests.{eqb-true, eqb-false, eq-eqb, ne-eqb, leb-true, le-leb, lt-leb, not-true}
-use Rattle.rules.specs.Sums.{only, sumTo, countTo}
+use borrow.Author.Tests.{eqb-true, eq-eqb, ne-eqb, le-leb, lt-leb}
+use Rattle.rules.specs.Sums.{only, countTo}
 use Rattle.rules.specs.Lists.{at, mem}
-use Rattle.rules.specs.Need.{need, resident}
 use Rattle.rules.specs.Need
 use Rattle.rules.specs.Phase
-use Rattle.rules.specs.Standing.{waiting, activated, running, finished, count}
+use Rattle.rules.specs.Standing.{activated, running, finished, count}
 use Rattle.rules.specs.State.{State, needs}
-use Rattle.rules.specs.Grounds.{within, peakOf}
+use Rattle.rules.specs.Grounds.{peakOf}
 use Rattle.rules.specs.Booking.{total, lacks, allows, ready, fed}
 use Rattle.rules.specs.Question
 use Rattle.rules.specs.Day.{Event, starts, ends}
 use Rattle.rules.specs.Theorem.{runs, usedBy, DayHolds}
-use Rattle.rules.proofs.Tests.{decide, clash, same-or-not, and-true, and-both, or-right}
-use Rattle.rules.proofs.Sums.{Task, sum-cong, sum-le, sum-zero, counted, none-counted, count-le, count-all, only-le, only-mono, only-true, only-false}
-use Rattle.rules.proofs.Counts.{count-full}
-use Rattle.rules.proofs.Orders.{mem-here, mem-append, sum-members, sum-length, within-task, every-mem}
+use Rattle.rules.proofs.Tests.{clash, same-or-not, and-both}
+use Rattle.rules.proofs.Sums.{Task, sum-cong, sum-zero, counted, none-counted, count-le, count-all, only-le, only-mono, only-true, only-false}
+use Rattle.rules.proofs.Counts.{count-full, count-cong}
+use Rattle.rules.proofs.Orders.{sum-members, sum-length}
 use Rattle.rules.proofs.Peaks.{resident-cong}
 use Rattle.rules.proofs.Ranks.{rankIn, stands}
-use Rattle.rules.proofs.Tree.{Tree, parent-task}
+use Rattle.rules.proofs.Tree.{parent-task}
 use Rattle.rules.proofs.Roots.{some-root}
 use Rattle.rules.proofs.Balance.{running-holds-need}
 use Rattle.rules.proofs.Usage.{hasEnded, hasBegun, in-use-within}
 use Rattle.rules.proofs.Progress.{Stuck, waits-or-ended}
 use Rattle.rules.proofs.Waiting.{Found, first-waiting, found-first, found-fits}
 use Rattle.rules.proofs.Starts.{children-fed}
-use Rattle.rules.proofs.Log.{Logged}
 use Rattle.rules.proofs.InDay.{Closing, open-day, closed, InDay, needs-roomy, tree}
 
 -- begun and not ended is running
@@ -53,8 +51,7 @@ module _ (s : State) (happened : List Event) (day : InDay s happened) where
   reports =
       sym (sum-length (ends happened))
       ∙ sum-members (λ _. 1) (s .size) (ends happened) (day .logged .inside) (day .logged .apart)
-      ∙ sum-cong (λ i. only (mem i (ends happened)) 1) (λ i. only (eqb (at (s .standings) i) finished) 1) (s .size)
-      (λ i t. ap (λ (b : Bool). only b 1) (day .logged .done i t))
+      ∙ count-cong (λ i. mem i (ends happened)) (λ i. eqb (at (s .standings) i) finished) (s .size) (day .logged .done)
 
   -- a task runs by what happened just where its standing says so
   runs-is : (i : ℕ) → Task (s .size) i → runs happened i ≡ eqb (at (s .standings) i) running
@@ -86,21 +83,12 @@ module _ (s : State) (happened : List Event) (day : InDay s happened) where
   stuck-at : count (s .size) (at (s .standings)) running ≡ 0 → Found (at (s .standings)) (s .activation) → ⊥
   unfolding allows lacks peakOf
   stuck-at none found =
-      let n = s .size in
       let valid = day .planned .valid in
       let t = tree s (day .planned) in
       let shape = day .settled .good .shape in
-      let task : Task (s .size) (found .x) =
-      within-task (s .size) (found .x)
-      (every-mem (λ i. within i (s .size)) (s .activation) (found .x) (valid .inside)
-      (ap (mem (found .x)) (found .whole)
-      ∙ mem-append (found .x) (found .pre) (found .x ∷ found .post)
-      ∙ or-right (mem (found .x) (found .pre)) (mem (found .x) (found .x ∷ found .post))
-      (mem-here (found .x) (found .x) (found .post) refl)))
-      in
-      let first = found-first (s .size) (at (s .parents)) (s .activation) valid t (at (s .standings)) shape found task in
+      let first = found-first (s .size) (at (s .parents)) (s .activation) valid t (at (s .standings)) shape found in
       let fits =
-      found-fits (s .size) (at (s .parents)) (s .activation) valid t (at (s .standings)) shape found task (stuck none)
+      found-fits (s .size) (at (s .parents)) (s .activation) valid t (at (s .standings)) shape found (stuck none)
       (at (s .memory .works)) (at (s .memory .outs)) (at (s .memory .booked)) (needs-roomy s) (day .settled .good .books)
       in
       let bound = day .planned .fits in
@@ -209,29 +197,8 @@ module _ (s : State) (happened : List Event) (day : InDay s happened) where
           only-false (eqb (s .phase) Phase.running) _ (ne-eqb (s .phase) Phase.running (λ q. omega arith))
           ∙ (let u = used-is in let w = in-use-booked in let z = nothing-booked h in omega arith)
 
-  -- "trays in use never exceed trays booked, nor booked trays the cold room's places"
-  covered : Question.inUse s ≤ Question.booked s
-  unfolding Question.inUse Question.booked
-  covered = only-mono (Question.isRunning s) _ (total (s .size) (at (s .memory .booked))) (λ _. in-use-booked)
-
-  within-bound : Question.booked s ≤ s .memory .bound
-  unfolding Question.booked
-  within-bound =
-      let o = only-le (Question.isRunning s) (total (s .size) (at (s .memory .booked))) in
-      let w = day .settled .good .within in
-      omega arith
-
-  staffed : countTo (runs happened) (s .size) ≤ s .processors
-  unfolding countTo count
-  staffed =
-      let same =
-      sum-cong (λ i. only (runs happened i) 1) (λ i. only (eqb (at (s .standings) i) running) 1) (s .size)
-      (λ i t. ap (λ (b : Bool). only b 1) (runs-is i t))
-      in
-      let few = day .settled .staffed in
-      omega arith
-
   pub day-holds : DayHolds s happened
+  unfolding Question.inUse Question.booked count
   day-holds =
       record {
         once = day .order .once;
@@ -245,9 +212,15 @@ module _ (s : State) (happened : List Event) (day : InDay s happened) where
             );
         over = over;
         used = used;
-        covered = covered;
-        within = within-bound;
-        staffed = staffed;
+        covered = only-mono (Question.isRunning s) _ (total (s .size) (at (s .memory .booked))) (λ _. in-use-booked);
+        within =
+            (let o = only-le (Question.isRunning s) (total (s .size) (at (s .memory .booked))) in
+            let w = day .settled .good .within in
+            omega arith);
+        staffed =
+            (let same = count-cong (runs happened) (λ i. eqb (at (s .standings) i) running) (s .size) runs-is in
+            let few = day .settled .staffed in
+            omega arith);
         exact =
             λ i t r.
             running-holds-need (s .size) (at (s .parents)) (rankIn (s .activation)) (tree s (day .planned)) (needs s)

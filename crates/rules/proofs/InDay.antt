@@ -1,50 +1,34 @@
 -- A plan in its day: what holds after an accepted BEGIN and after each accepted DONE.
-use mathlib.Core.Path.{_≡_, refl, sym, ap, subst, _∙_}
-use mathlib.Core.Bool.{Bool, true, false, not, cond, _&&_}
-use mathlib.Core.Logic.{_⊎_, inl, inr, ⊎-elim}
-use mathlib.Core.List.{List, [], _∷_, _++_, map, append-assoc}
-use Prim.Native.Nat.{ℕ, zero, suc, _+_, _-_, _≤_, _<_}
+use mathlib.Core.Path.{_≡_, refl, sym, _∙_}
+use mathlib.Core.Bool.{_&&_}
+use mathlib.Core.List.{List, _++_, map}
+use Prim.Native.Nat.{ℕ, suc, _≤_}
 use native.Mathlib.Omega.{arith}
 use lib.Dec.{eqb, leb}
-use lib.ListN.{length, set, length-set, replicate, length-replicate, getD-replicate}
-use borrow.Author.Tests.{eqb-true, eqb-false, eq-eqb, ne-eqb, leb-true}
-use Rattle.rules.specs.Sums.{only, sumTo, countTo}
-use Rattle.rules.specs.Lists.{at, mem, every, distinct}
-use Rattle.rules.specs.Need.{childrenOut, need}
+use lib.ListN.{length, replicate, length-replicate, getD-replicate}
+use borrow.Author.Tests.{eqb-true, ne-eqb, leb-true}
+use Rattle.rules.specs.Sums.{only, sumTo}
+use Rattle.rules.specs.Lists.{at}
+use Rattle.rules.specs.Need.{need}
 use Rattle.rules.specs.Peak.{roots, ordered}
 use Rattle.rules.specs.Phase
-use Rattle.rules.specs.Standing.{waiting, activated, running, finished, count}
+use Rattle.rules.specs.Standing.{waiting, running, finished, count}
 use Rattle.rules.specs.State.{State, needs}
-use Rattle.rules.specs.Command.{Command, begin, done}
-use Rattle.rules.specs.Grounds.{inTurn, inLimits, within, demand, peakOf, ownGround}
-use Rattle.rules.specs.Booking.{Books, total, activate, starts, start, free, dispatch}
-use Rattle.rules.specs.Obey.{
-  withBooks,
-  ahead,
-  begun,
-  proceed,
-  fresh,
-  endedStandings,
-  shared,
-  ended,
-  phaseAfter,
-  obey,
-}
+use Rattle.rules.specs.Command.{begin}
+use Rattle.rules.specs.Grounds.{inTurn, demand, peakOf, ownGround}
+use Rattle.rules.specs.Booking.{Books, total}
+use Rattle.rules.specs.Obey.{withBooks, ahead, begun, proceed, fresh}
 use Rattle.rules.specs.Day.{Event, started}
-use Rattle.rules.specs.Day
-use Rattle.rules.proofs.Tests.{decide, clash, same-or-not, and-true}
-use Rattle.rules.proofs.Sums.{Task, sum-change, sum-zero, only-true, only-false}
-use Rattle.rules.proofs.Orders.{within-task}
+use Rattle.rules.proofs.Tests.{and-true}
+use Rattle.rules.proofs.Sums.{Task, sum-zero, count-none, only-false}
 use Rattle.rules.proofs.Turns.{Valid}
 use Rattle.rules.proofs.Ranks.{rankIn, tree-of}
 use Rattle.rules.proofs.Tree.{Tree}
-use Rattle.rules.proofs.Children.{children, children-out, children-zero}
-use Rattle.rules.proofs.Shape.{Shape}
-use Rattle.rules.proofs.Balance.{Balanced, Roomy, arrived}
-use Rattle.rules.proofs.Good.{Good, Sized, at-set, at-other}
-use Rattle.rules.proofs.Sharing.{sharing-good}
-use Rattle.rules.proofs.Course.{Settled, settles, course-logged, course-ends}
-use Rattle.rules.proofs.Log.{Logged, InOrder, nothing-logged, nothing-in-order, ended-logged, ended-in-order}
+use Rattle.rules.proofs.Children.{children-out, children-zero}
+use Rattle.rules.proofs.Balance.{Roomy, arrived}
+use Rattle.rules.proofs.Good.{Good}
+use Rattle.rules.proofs.Course.{Settled, Coursed, coursed}
+use Rattle.rules.proofs.Log.{Logged, InOrder}
 use Rattle.rules.proofs.Formed.{Formed, Accepted, demand-none, with-books-formed}
 
 -- the plan as BEGIN found it in order, and the bound in force above its peak
@@ -129,12 +113,10 @@ unfolding fresh
 fresh-waits = fresh-at
 
 pub fresh-idle : (n : ℕ) → count n (at (fresh n .standings)) running ≡ 0
-unfolding fresh count countTo
+unfolding fresh count
 fresh-idle n =
-    sum-zero (λ i. only (eqb (at (replicate (suc n) waiting) i) running) 1) n
-    (λ i t.
-    only-false (eqb (at (replicate (suc n) waiting) i) running) 1
-    (let z = fresh-at n i t in ne-eqb (at (replicate (suc n) waiting) i) running (λ q. omega arith)))
+    count-none (λ i. eqb (at (replicate (suc n) waiting) i) running) n
+    (λ i t. let z = fresh-at n i t in ne-eqb (at (replicate (suc n) waiting) i) running (λ q. omega arith))
 
 -- what BEGIN's checks give
 pub begin-planned : (s : State) → Formed s → Accepted s begin → Planned s
@@ -189,23 +171,12 @@ books-planned s phase st b p =
 module _ (s : State) (p : Planned s) (phase : ℕ) (k : Books) (peak offers : ℕ)
     (good : Good (s .size) (at (s .parents)) (rankIn (s .activation)) (needs s) (at (s .memory .outs)) (s .memory .bound) k)
     (few : count (s .size) (at (k .standings)) running ≤ s .processors) where
-  -- nobody ends there
-  pub proceed-ends :
-      (i : ℕ)
-      → Task (s .size) i
-      → eqb (at (proceed s phase k peak offers .state .standings) i) finished ≡ eqb (at (k .standings) i) finished
+  pub proceeds :
+      Coursed (s .size) (at (s .parents)) (rankIn (s .activation)) (needs s) (at (s .memory .outs)) (s .memory .bound)
+      (s .processors) k (booksOf (proceed s phase k peak offers .state)) (proceed s phase k peak offers .started)
   unfolding proceed withBooks ahead begun
-  proceed-ends =
-      course-ends (s .size) (at (s .parents)) (s .activation) (p .valid) (tree s p) (needs s) (at (s .memory .outs)) (needs-roomy s)
-      (s .memory .bound) (s .processors) (s .execution) (p .formed .execution-inside) (p .formed .execution-once) (p .executed) k
-      (ahead s k) good few refl (begun s (ahead s k)) refl
-
-  pub proceed-settled :
-      Settled (s .size) (at (s .parents)) (rankIn (s .activation)) (needs s) (at (s .memory .outs)) (s .memory .bound)
-      (s .processors) (booksOf (proceed s phase k peak offers .state))
-  unfolding proceed withBooks ahead begun
-  proceed-settled =
-      settles (s .size) (at (s .parents)) (s .activation) (p .valid) (tree s p) (needs s) (at (s .memory .outs)) (needs-roomy s)
+  proceeds =
+      coursed (s .size) (at (s .parents)) (s .activation) (p .valid) (tree s p) (needs s) (at (s .memory .outs)) (needs-roomy s)
       (s .memory .bound) (s .processors) (s .execution) (p .formed .execution-inside) (p .formed .execution-once) (p .executed) k
       (ahead s k) good few refl (begun s (ahead s k)) refl
 
@@ -215,16 +186,12 @@ module _ (s : State) (p : Planned s) (phase : ℕ) (k : Books) (peak offers : �
       → InOrder (s .size) (at (s .parents)) happened
       → Closing (proceed s phase k peak offers .state)
       → InDay (proceed s phase k peak offers .state) (happened ++ map started (proceed s phase k peak offers .started))
-  unfolding proceed withBooks ahead begun
+  unfolding proceed withBooks
   proceed-in-day happened logged order closing =
-      let log =
-      course-logged (s .size) (at (s .parents)) (s .activation) (p .valid) (tree s p) (needs s) (at (s .memory .outs))
-      (needs-roomy s) (s .memory .bound) (s .processors) (s .execution) (p .formed .execution-inside)
-      (p .formed .execution-once) (p .executed) k (ahead s k) good few refl (begun s (ahead s k)) refl happened logged order
-      in
+      let log = proceeds .logged happened logged order in
       record {
         planned = books-planned s phase _ _ p;
-        settled = proceed-settled;
+        settled = proceeds .settled;
         logged = log .0;
         order = log .1;
         closing = closing;

@@ -19,6 +19,7 @@ pub mod Tree
 pub mod Children
 pub mod Shape
 pub mod Balance
+pub mod Giving
 pub mod Activating
 pub mod Starting
 pub mod Climbing
@@ -43,3 +44,5 @@ pub mod Holds
 pub mod Steps
 pub mod Theorem
 pub mod Reaching
+-- a worked day
+pub mod Worked

@@ -1,19 +1,19 @@
 -- Laws of what happens in a day: starts and ends in order, and how they agree with the standings.
 use mathlib.Core.Path.{_≡_, refl, sym, ap, subst, _∙_}
 use mathlib.Core.Bool.{Bool, true, false, _||_}
-use mathlib.Core.Logic.{_⊎_, inl, inr, ⊎-elim}
+use mathlib.Core.Logic.{_⊎_, ⊎-elim}
 use mathlib.Core.List.{List, [], _∷_, _++_, map, append-nil, append-assoc}
-use Prim.Native.Nat.{ℕ, zero, suc, _+_, _≤_, _<_}
+use Prim.Native.Nat.{ℕ, suc, _≤_}
 use native.Mathlib.Omega.{arith}
 use lib.Dec.{eqb, leb}
-use lib.ListN.{length, set, length-set, length-append}
-use borrow.Author.Tests.{eq-eqb, ne-eqb, le-leb, lt-leb, leb-true}
+use lib.ListN.{length, set, length-set}
+use borrow.Author.Tests.{eq-eqb, ne-eqb, lt-leb}
 use Rattle.rules.specs.Lists.{at, mem, every, distinct}
 use Rattle.rules.specs.Grounds.{within}
 use Rattle.rules.specs.Standing.{activated, running, finished}
 use Rattle.rules.specs.Booking.{start}
 use Rattle.rules.specs.Day.{Event, started, ended, starts, ends}
-use Rattle.rules.proofs.Tests.{same-or-not, or-right, or-none, and-both}
+use Rattle.rules.proofs.Tests.{same-or-not, or-right, or-none, and-both, eqb-above}
 use Rattle.rules.proofs.Sums.{Task}
 use Rattle.rules.proofs.Orders.{mem-append, mem-here, mem-later, mem-none, every-append, distinct-snoc, task-within}
 use Rattle.rules.proofs.Good.{at-set, at-other}
@@ -77,56 +77,51 @@ module _ (n : ℕ) (par : ℕ → ℕ) where
       never [] later i q = let z : _≡_ {A = ℕ} 0 1 = cc in omega arith
       never (w ∷ l) later i q = let z : _≡_ {A = ℕ} 0 1 = cc in omega arith
 
-  -- an end may come at any time
-  pub ended-in-order : (old : List Event) (j : ℕ) → InOrder n par old → InOrder n par (old ++ (ended j ∷ []))
-  ended-in-order old j h =
+  -- one event more: where it is a start, it is the first of its task and comes after those that feed it
+  one-more :
+      (old : List Event) (new : Event)
+      → InOrder n par old
+      → ((i : ℕ) → started i ≡ new → mem i (starts old) ≡ false)
+      → ((i : ℕ) → started i ≡ new → (c : ℕ) → Task n c → par c ≡ i → mem c (ends old) ≡ true)
+      → InOrder n par (old ++ (new ∷ []))
+  one-more old new h first fed =
       record {
-        once = λ e l i q. once-there e i (snoc-where old (ended j) e (started i) l q);
-        fed = λ e l i q. fed-there e i (snoc-where old (ended j) e (started i) l q);
+        once = λ e l i q. once-there e i (snoc-where old new e (started i) l q);
+        fed = λ e l i q. fed-there e i (snoc-where old new e (started i) l q);
       }
     where
-      once-there : (e : List Event) (i : ℕ) → Where old (ended j) e (started i) → mem i (starts e) ≡ false
-      once-there e i (last p q) = let z : _≡_ {A = ℕ} 0 1 = cc in absurd (omega arith)
+      once-there : (e : List Event) (i : ℕ) → Where old new e (started i) → mem i (starts e) ≡ false
+      once-there e i (last p q) = ap (λ (v : List Event). mem i (starts v)) p ∙ first i q
       once-there e i (before l p) = h .once e l i p
 
       fed-there :
           (e : List Event) (i : ℕ)
-          → Where old (ended j) e (started i)
+          → Where old new e (started i)
           → (c : ℕ)
           → Task n c
           → par c ≡ i
           → mem c (ends e) ≡ true
-      fed-there e i (last p q) = let z : _≡_ {A = ℕ} 0 1 = cc in absurd (omega arith)
-      fed-there e i (before l p) = h .fed e l i p
+      fed-there e i (last p q) c t r = ap (λ (v : List Event). mem c (ends v)) p ∙ fed i q c t r
+      fed-there e i (before l p) c t r = h .fed e l i p c t r
+
+  -- an end may come at any time
+  pub ended-in-order : (old : List Event) (j : ℕ) → InOrder n par old → InOrder n par (old ++ (ended j ∷ []))
+  ended-in-order old j h =
+      one-more old (ended j) h (λ i q. absurd (never i q)) (λ i q. absurd (never i q))
+    where
+      never : (i : ℕ) → started i ≡ ended j → ⊥
+      never i q = let z : _≡_ {A = ℕ} 0 1 = cc in omega arith
 
   -- a start comes once, and after those that feed it
-  pub started-in-order :
+  started-in-order :
       (old : List Event) (x : ℕ)
       → InOrder n par old
       → mem x (starts old) ≡ false
       → ((c : ℕ) → Task n c → par c ≡ x → mem c (ends old) ≡ true)
       → InOrder n par (old ++ (started x ∷ []))
   started-in-order old x h new ready =
-      record {
-        once = λ e l i q. once-there e i (snoc-where old (started x) e (started i) l q);
-        fed = λ e l i q. fed-there e i (snoc-where old (started x) e (started i) l q);
-      }
-    where
-      once-there : (e : List Event) (i : ℕ) → Where old (started x) e (started i) → mem i (starts e) ≡ false
-      once-there e i (last p q) =
-          let same : i ≡ x = cc in ap (λ (v : List Event). mem i (starts v)) p ∙ ap (λ (v : ℕ). mem v (starts old)) same ∙ new
-      once-there e i (before l p) = h .once e l i p
-
-      fed-there :
-          (e : List Event) (i : ℕ)
-          → Where old (started x) e (started i)
-          → (c : ℕ)
-          → Task n c
-          → par c ≡ i
-          → mem c (ends e) ≡ true
-      fed-there e i (last p q) c t r =
-          let same : i ≡ x = cc in ap (λ (v : List Event). mem c (ends v)) p ∙ ready c t (r ∙ same)
-      fed-there e i (before l p) c t r = h .fed e l i p c t r
+      one-more old (started x) h (λ i q. let same : i ≡ x = cc in rw same new)
+      (λ i q c t r. let same : i ≡ x = cc in ready c t (r ∙ same))
 
 -- what happened agrees with the standings
 pub record Logged (n : ℕ) (st : ℕ → ℕ) (happened : List Event) : Type 0 where
@@ -160,16 +155,29 @@ logged-same n st st′ happened same h =
           h .begun i t
           ∙ ⊎-elim (λ e. ap (leb running) (sym e))
           (λ l. lt-leb running (st i) (omega (arith, l .0)) ∙ sym (lt-leb running (st′ i) (omega (arith, l .1)))) (same i t);
-      done =
-          λ i t.
-          h .done i t
-          ∙ ⊎-elim (λ e. ap (λ (v : ℕ). eqb v finished) (sym e))
-          (λ l.
-          ne-eqb (st i) finished (λ q. omega (arith, l .0)) ∙ sym (ne-eqb (st′ i) finished (λ q. omega (arith, l .1))))
-          (same i t);
+      done = λ i t. h .done i t ∙ sym (eqb-above (st′ i) (st i) activated finished (omega arith) (same i t));
       inside = h .inside;
       apart = h .apart;
     }
+
+-- those of a list pass a test, which changes for x alone
+module _ (n x : ℕ) (l : List ℕ) (test test′ : ℕ → Bool) (listed : (i : ℕ) → Task n i → mem i l ≡ test i)
+    (others : (i : ℕ) → (i ≡ x → ⊥) → test′ i ≡ test i) where
+  -- it does not change for x either
+  list-kept : test′ x ≡ test x → (i : ℕ) → Task n i → mem i l ≡ test′ i
+  list-kept same i t = listed i t ∙ sym (⊎-elim (λ q. rw q same) (others i) (same-or-not i x))
+
+  -- x passes it now, and is put at the end
+  list-more : test′ x ≡ true → (i : ℕ) → Task n i → mem i (l ++ (x ∷ [])) ≡ test′ i
+  list-more now i t =
+      mem-append i l (x ∷ [])
+      ∙ ⊎-elim (λ q. or-right (mem i l) (mem i (x ∷ [])) (mem-here i x [] q) ∙ sym (ap test′ q ∙ now))
+      (λ d.
+      ap (λ (v : Bool). mem i l || v) (mem-later i x [] d ∙ mem-none i)
+      ∙ or-none (mem i l)
+      ∙ listed i t
+      ∙ sym (others i d))
+      (same-or-not i x)
 
 module _ (n : ℕ) (st : List ℕ) (sized : length st ≡ suc n) (happened : List Event) (x : ℕ) (task : Task n x)
     (logged : Logged n (at st) happened) where
@@ -188,28 +196,13 @@ module _ (n : ℕ) (st : List ℕ) (sized : length st ≡ suc n) (happened : Lis
         begun =
             λ i t.
             ap (mem i) s-is
-            ∙ logged .begun i t
-            ∙ ⊎-elim
-            (λ q.
-            let old : at st i ≡ running = ap (at st) q ∙ runs in
-            let now : at (set st x finished) i ≡ finished = ap (at (set st x finished)) q ∙ there in
-            le-leb running (at st i) (omega arith) ∙ sym (le-leb running (at (set st x finished) i) (omega arith)))
-            (λ d. ap (leb running) (sym (at-other st x finished i d)))
-            (same-or-not i x);
+            ∙ list-kept n x (starts happened) (λ k. leb running (at st k)) (λ k. leb running (at (set st x finished) k))
+            (logged .begun) (λ k d. ap (leb running) (at-other st x finished k d)) (rw (there, runs)) i t;
         done =
             λ i t.
             ap (mem i) e-is
-            ∙ mem-append i (ends happened) (x ∷ [])
-            ∙ ⊎-elim
-            (λ q.
-            let now : at (set st x finished) i ≡ finished = ap (at (set st x finished)) q ∙ there in
-            or-right (mem i (ends happened)) (mem i (x ∷ [])) (mem-here i x [] q) ∙ sym (eq-eqb (at (set st x finished) i) finished now))
-            (λ d.
-            ap (λ (v : Bool). mem i (ends happened) || v) (mem-later i x [] d ∙ mem-none i)
-            ∙ or-none (mem i (ends happened))
-            ∙ logged .done i t
-            ∙ ap (λ (v : ℕ). eqb v finished) (sym (at-other st x finished i d)))
-            (same-or-not i x);
+            ∙ list-more n x (ends happened) (λ k. eqb (at st k) finished) (λ k. eqb (at (set st x finished) k) finished)
+            (logged .done) (λ k d. ap (λ (v : ℕ). eqb v finished) (at-other st x finished k d)) (rw there) i t;
         inside =
             ap (every (λ i. within i n)) e-is
             ∙ every-append (λ i. within i n) (ends happened) (x ∷ [])
@@ -219,7 +212,7 @@ module _ (n : ℕ) (st : List ℕ) (sized : length st ≡ suc n) (happened : Lis
       }
 
   -- a booked task starts
-  pub started-logged :
+  started-logged :
       at st x ≡ activated → Logged n (at (set st x running)) (happened ++ (started x ∷ []))
   unfolding starts ends
   started-logged booked =
@@ -234,29 +227,13 @@ module _ (n : ℕ) (st : List ℕ) (sized : length st ≡ suc n) (happened : Lis
         begun =
             λ i t.
             ap (mem i) s-is
-            ∙ mem-append i (starts happened) (x ∷ [])
-            ∙ ⊎-elim
-            (λ q.
-            let now : at (set st x running) i ≡ running = ap (at (set st x running)) q ∙ there in
-            or-right (mem i (starts happened)) (mem i (x ∷ [])) (mem-here i x [] q)
-            ∙ sym (le-leb running (at (set st x running) i) (omega arith)))
-            (λ d.
-            ap (λ (v : Bool). mem i (starts happened) || v) (mem-later i x [] d ∙ mem-none i)
-            ∙ or-none (mem i (starts happened))
-            ∙ logged .begun i t
-            ∙ ap (leb running) (sym (at-other st x running i d)))
-            (same-or-not i x);
+            ∙ list-more n x (starts happened) (λ k. leb running (at st k)) (λ k. leb running (at (set st x running) k))
+            (logged .begun) (λ k d. ap (leb running) (at-other st x running k d)) (rw there) i t;
         done =
             λ i t.
             ap (mem i) e-is
-            ∙ logged .done i t
-            ∙ ⊎-elim
-            (λ q.
-            let old : at st i ≡ activated = ap (at st) q ∙ booked in
-            let now : at (set st x running) i ≡ running = ap (at (set st x running)) q ∙ there in
-            ne-eqb (at st i) finished (λ z. omega arith) ∙ sym (ne-eqb (at (set st x running) i) finished (λ z. omega arith)))
-            (λ d. ap (λ (v : ℕ). eqb v finished) (sym (at-other st x running i d)))
-            (same-or-not i x);
+            ∙ list-kept n x (ends happened) (λ k. eqb (at st k) finished) (λ k. eqb (at (set st x running) k) finished)
+            (logged .done) (λ k d. ap (λ (v : ℕ). eqb v finished) (at-other st x running k d)) (rw (there, booked)) i t;
         inside = ap (every (λ i. within i n)) e-is ∙ logged .inside;
         apart = ap distinct e-is ∙ logged .apart;
       }

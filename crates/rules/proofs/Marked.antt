@@ -1,9 +1,8 @@
--- The † table holds, and plan A prints its four lines: both by computation.
+-- The † table and the table of the grounds hold, and plan A prints its four lines: all by computation.
 use mathlib.Core.Path.{_≡_, refl}
 use mathlib.Core.Bool.{true}
-use mathlib.Core.List.{List, [], _∷_, _++_}
-use Prim.Native.Nat.{ℕ}
-use Rattle.rules.specs.Command.{Command, begin, done, bytes}
+use mathlib.Core.List.{[], _∷_, _++_}
+use Rattle.rules.specs.Command.{begin}
 use Rattle.rules.specs.Text.{ascii, print}
 use Rattle.rules.specs.Marked.{
   ask,
@@ -11,7 +10,14 @@ use Rattle.rules.specs.Marked.{
   last,
   startedBy,
   inOrder,
+  inOrders,
+  tasksA,
   planA,
+  reading,
+  short,
+  told,
+  refusal,
+  grounds,
   planC,
   dayC,
   single,
@@ -24,8 +30,19 @@ use Rattle.rules.proofs.Computing.{computing}
 
 -- the single claim over the † table
 pub marked-holds : holds marked ≡ true
-unfolding computing ask asks last startedBy inOrder planA planC dayC single marked same holds
+unfolding computing ask asks last startedBy inOrder tasksA planA planC dayC single marked same holds
 marked-holds = refl
+
+-- each small input of the grounds is refused with its number
+pub grounds-hold : holds grounds ≡ true
+unfolding computing ask asks inOrder inOrders tasksA planA reading short told refusal grounds same holds
+grounds-hold = refl
+
+-- "Choosing by activation order where the execution order should choose": with execution order 2, 1, 3 step 2 starts first
+pub execution-chooses :
+    startedBy (last (tasksA 12 ++ inOrders (1 ∷ 2 ∷ 3 ∷ []) (2 ∷ 1 ∷ 3 ∷ [])) begin) ≡ 2 ∷ 1 ∷ []
+unfolding computing ask asks last startedBy inOrders tasksA
+execution-chooses = refl
 
 -- plan A's whole output
 pub day-A :

@@ -1,21 +1,18 @@
 -- An accepted BEGIN opens a day.
-use mathlib.Core.Path.{_≡_, refl, sym, ap, _∙_}
-use mathlib.Core.Bool.{true, false}
-use mathlib.Core.List.{List, [], map}
-use Prim.Native.Nat.{ℕ, _≤_}
+use mathlib.Core.Path.{refl, sym, _∙_}
+use mathlib.Core.List.{[], map}
+use Prim.Native.Nat.{_≤_}
 use native.Mathlib.Omega.{arith}
-use lib.Dec.{eqb}
 use borrow.Author.Tests.{eq-eqb, ne-eqb}
 use Rattle.rules.specs.Lists.{at}
 use Rattle.rules.specs.Phase
-use Rattle.rules.specs.Standing.{waiting, activated, running, finished, count}
+use Rattle.rules.specs.Standing.{running, finished, count}
 use Rattle.rules.specs.State.{State, needs}
 use Rattle.rules.specs.Command.{begin}
 use Rattle.rules.specs.Grounds.{peakOf}
 use Rattle.rules.specs.Obey.{fresh, withBooks, proceed, obey}
 use Rattle.rules.specs.Day.{started}
 use Rattle.rules.proofs.Tests.{clash}
-use Rattle.rules.proofs.Sums.{Task}
 use Rattle.rules.proofs.Ranks.{rankIn}
 use Rattle.rules.proofs.Good.{Good}
 use Rattle.rules.proofs.Log.{nothing-logged, nothing-in-order}
@@ -29,7 +26,7 @@ use Rattle.rules.proofs.InDay.{
   fresh-good,
   fresh-idle,
   begin-planned,
-  proceed-ends,
+  proceeds,
   proceed-in-day,
 }
 
@@ -43,7 +40,7 @@ unfolding proceed withBooks
 still-open s p good few =
     open-day refl
     (λ r t z e.
-    let same = proceed-ends s p Phase.running (fresh (s .size)) (peakOf s) 0 good few r t in
+    let same = proceeds s p Phase.running (fresh (s .size)) (peakOf s) 0 good few .ends r t in
     let w = fresh-waits (s .size) r t in
     clash (sym same ∙ eq-eqb _ finished e) (ne-eqb (at (fresh (s .size) .standings) r) finished (λ q. omega arith)))
 

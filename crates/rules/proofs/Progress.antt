@@ -1,22 +1,21 @@
 -- Somebody runs: where nobody runs and nobody can start, the first waiting task fits.
-use mathlib.Core.Path.{_≡_, refl, sym, ap, _∙_}
-use mathlib.Core.Bool.{Bool, true, false, not, _&&_, _||_}
+use mathlib.Core.Path.{_≡_, refl, sym, _∙_}
+use mathlib.Core.Bool.{Bool, not, _||_}
 use mathlib.Core.Logic.{⊎-elim}
-use mathlib.Core.List.{List, []}
-use Prim.Native.Nat.{ℕ, zero, suc, _+_, _-_, _≤_, _<_}
+use Prim.Native.Nat.{ℕ, zero, suc, _+_, _≤_, _<_}
 use native.Mathlib.Omega.{arith}
-use lib.Dec.{eqb, leb}
-use borrow.Author.Tests.{eq-eqb, ne-eqb, le-leb, lt-leb}
-use Rattle.rules.specs.Sums.{only, sumTo}
+use lib.Dec.{eqb}
+use borrow.Author.Tests.{eq-eqb, ne-eqb}
+use Rattle.rules.specs.Sums.{only}
 use Rattle.rules.specs.Need.{resident}
 use Rattle.rules.specs.Booking.{total, missing}
 use Rattle.rules.specs.Standing.{waiting, activated, running, finished}
-use Rattle.rules.proofs.Tests.{same-or-not, le-or-lt}
-use Rattle.rules.proofs.Sums.{Task, sum-cong, sum-change, only-true, only-false}
+use Rattle.rules.proofs.Tests.{same-or-not}
+use Rattle.rules.proofs.Sums.{Task, sum-change, only-true, only-false}
 use Rattle.rules.proofs.Tree.{Tree}
-use Rattle.rules.proofs.Children.{children, resident-by-parent}
+use Rattle.rules.proofs.Children.{resident-by-parent}
 use Rattle.rules.proofs.Shape.{Shape, child-before, child-not-waiting}
-use Rattle.rules.proofs.Balance.{Active, Balanced, Roomy, arrived, pending, arrived-pending}
+use Rattle.rules.proofs.Balance.{Balanced, Roomy, arrived, arrived-pending}
 
 -- the tasks that have ended, and those with x beside them
 abbrev pub ended : (ℕ → ℕ) → ℕ → Bool

@@ -1,15 +1,20 @@
 -- A valid activation order gives each task a rank, its place, that rises towards the root.
-use mathlib.Core.Path.{_≡_, refl, sym, ap, _∙_}
-use mathlib.Core.Bool.{Bool, true, false}
+use mathlib.Core.Path.{_≡_, refl, _∙_}
+use mathlib.Core.Bool.{true, false}
 use mathlib.Core.Logic.{⊎-elim}
-use mathlib.Core.List.{List, [], _∷_, _++_}
-use Prim.Native.Nat.{ℕ, zero, suc, _+_, _≤_, _<_}
+use mathlib.Core.List.{List, _∷_, _++_}
+use Prim.Native.Nat.{ℕ, _+_, _≤_, _<_}
 use native.Mathlib.Omega.{arith}
 use lib.ListN.{length}
 use Rattle.rules.specs.Lists.{mem}
+use Rattle.rules.specs.Grounds.{within}
 use Rattle.rules.proofs.Tests.{decide}
 use Rattle.rules.proofs.Sums.{Task}
 use Rattle.rules.proofs.Orders.{
+  within-task,
+  every-mem,
+  mem-here,
+  mem-among,
   place,
   place-lt,
   place-second,
@@ -31,14 +36,21 @@ module _ (n : ℕ) (par : ℕ → ℕ) (order : List ℕ) (valid : Valid n par o
   pub stands : (i : ℕ) → Task n i → mem i order ≡ true
   stands = all-in n order (valid .inside) (valid .once) (valid .whole)
 
+  -- an entry of the order is a task
+  pub entry : (pre : List ℕ) (x : ℕ) (later : List ℕ) → order ≡ pre ++ x ∷ later → Task n x
+  entry pre x later e =
+      within-task n x
+      (every-mem (λ i. within i n) order x (valid .inside)
+      (rw e (mem-among x x pre later ∙ mem-here x x (pre ++ later) refl)))
+
   -- two tasks of one rank are one
   pub same-rank : (i j : ℕ) → Task n i → Task n j → rankIn order i ≡ rankIn order j → i ≡ j
   same-rank i j t u e = place-injective i j order (stands i t) (stands j u) e
 
   pub tree-of : ((i : ℕ) → Task n i → par i ≤ n) → Tree n par (rankIn order)
-  tree-of within =
+  tree-of inside =
       record {
-        within = within;
+        within = inside;
         rises = λ i t d. ordered-rises par order i (valid .upward) (valid .once) (stands i t) d .rises;
         below = λ i t. let p = place-lt i order (stands i t) in let w = valid .whole in omega arith;
       }

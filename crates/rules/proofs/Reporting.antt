@@ -1,14 +1,13 @@
 -- An accepted DONE keeps the day.
 use mathlib.Core.Path.{_≡_, refl, sym, ap, subst, _∙_}
-use mathlib.Core.Bool.{Bool, true, false, cond}
+use mathlib.Core.Bool.{true, false}
 use mathlib.Core.Logic.{⊎-elim}
 use mathlib.Core.List.{List, [], _∷_, _++_, map, append-assoc}
 use Prim.Native.Nat.{ℕ, suc, _+_, _≤_}
 use native.Mathlib.Omega.{arith}
 use lib.Dec.{eqb}
-use lib.ListN.{length, set, length-set}
+use lib.ListN.{length, set}
 use borrow.Author.Tests.{eqb-true, eqb-false, eq-eqb, ne-eqb}
-use Rattle.rules.specs.Sums.{only, sumTo, countTo}
 use Rattle.rules.specs.Lists.{at}
 use Rattle.rules.specs.Phase
 use Rattle.rules.specs.Standing.{running, finished, count}
@@ -18,8 +17,9 @@ use Rattle.rules.specs.Grounds.{inTurn, inLimits, ownGround}
 use Rattle.rules.specs.Obey.{withBooks, proceed, endedStandings, shared, phaseAfter, obey}
 use Rattle.rules.specs.Obey
 use Rattle.rules.specs.Day.{Event, started, ended}
-use Rattle.rules.proofs.Tests.{decide, clash}
-use Rattle.rules.proofs.Sums.{Task, sum-change, only-true, only-false}
+use Rattle.rules.proofs.Tests.{decide}
+use Rattle.rules.proofs.Sums.{Task}
+use Rattle.rules.proofs.Counts.{count-change}
 use Rattle.rules.proofs.Orders.{within-task}
 use Rattle.rules.proofs.Ranks.{rankIn}
 use Rattle.rules.proofs.Roots.{root-last}
@@ -27,19 +27,7 @@ use Rattle.rules.proofs.Good.{Good, at-set, at-other}
 use Rattle.rules.proofs.Sharing.{sharing-good}
 use Rattle.rules.proofs.Log.{Logged, ended-logged, ended-in-order}
 use Rattle.rules.proofs.Formed.{Accepted, demand-none}
-use Rattle.rules.proofs.InDay.{
-  Planned,
-  InDay,
-  Closing,
-  open-day,
-  closed,
-  booksOf,
-  tree,
-  needs-roomy,
-  proceed-ends,
-  proceed-settled,
-  proceed-in-day,
-}
+use Rattle.rules.proofs.InDay.{InDay, Closing, open-day, closed, booksOf, tree, needs-roomy, proceeds, proceed-in-day}
 
 -- one fewer runs
 one-fewer :
@@ -48,16 +36,12 @@ one-fewer :
     → Task n j
     → at st j ≡ running
     → count n (at st) running ≡ count n (at (set st j finished)) running + 1
-unfolding count countTo
+unfolding count
 one-fewer n st j sized t runs =
-    sum-change (λ i. only (eqb (at (set st j finished) i) running) 1) (λ i. only (eqb (at st i) running) 1) n j 1 t
-    (let there = at-set n st j finished sized t in
-    let old = only-true (eqb (at st j) running) 1 (eq-eqb (at st j) running runs) in
-    let new =
-    only-false (eqb (at (set st j finished) j) running) 1 (ne-eqb (at (set st j finished) j) running (λ q. omega arith))
-    in
-    omega arith)
-    (λ i _ d. ap (λ (v : ℕ). only (eqb v running) 1) (sym (at-other st j finished i d)))
+    let there = at-set n st j finished sized t in
+    count-change (λ i. eqb (at (set st j finished) i) running) (λ i. eqb (at st i) running) n j t
+    (ne-eqb (at (set st j finished) j) running (λ q. omega arith)) (eq-eqb (at st j) running runs)
+    (λ i _ d. ap (λ (v : ℕ). eqb v running) (sym (at-other st j finished i d)))
 
 module _ (s : State) (happened : List Event) (day : InDay s happened) (j : ℕ) (a : Accepted s (done j)) where
   task : Task (s .size) j
@@ -101,20 +85,19 @@ module _ (s : State) (happened : List Event) (day : InDay s happened) (j : ℕ) 
   closes : (offers : ℕ) → Closing (proceed s (phaseAfter s j) (Obey.ended s j) 0 offers .state)
   unfolding proceed withBooks phaseAfter
   closes offers =
-      let ends = proceed-ends s (day .planned) (phaseAfter s j) (Obey.ended s j) 0 offers good few in
-      let settled = proceed-settled s (day .planned) (phaseAfter s j) (Obey.ended s j) 0 offers good few in
+      let course = proceeds s (day .planned) (phaseAfter s j) (Obey.ended s j) 0 offers good few in
       ⊎-elim
       (λ (z : eqb (at (s .parents) j) 0 ≡ true).
       closed (rw z refl)
-      (root-last (s .size) (at (s .parents)) (rankIn (s .activation)) (tree s (day .planned)) _ (settled .good .shape)
+      (root-last (s .size) (at (s .parents)) (rankIn (s .activation)) (tree s (day .planned)) _ (course .settled .good .shape)
       (day .planned .rooted) j task (eqb-true (at (s .parents) j) 0 z)
-      (eqb-true _ finished (ends j task ∙ eq-eqb _ finished ended-there))))
+      (eqb-true _ finished (course .ends j task ∙ eq-eqb _ finished ended-there))))
       (λ (z : eqb (at (s .parents) j) 0 ≡ false).
       open-day (rw z refl)
       (λ r t root e.
       let r-not : r ≡ j → ⊥ = λ q. eqb-false (at (s .parents) j) 0 z (ap (at (s .parents)) (sym q) ∙ root) in
       let before : at (s .standings) r ≡ finished =
-      sym (ended-other r r-not) ∙ eqb-true _ finished (sym (ends r t) ∙ eq-eqb _ finished e)
+      sym (ended-other r r-not) ∙ eqb-true _ finished (sym (course .ends r t) ∙ eq-eqb _ finished e)
       in
       not-yet (day .closing) r t root before))
       (decide (eqb (at (s .parents) j) 0))

@@ -1,16 +1,16 @@
 -- The root: there is one, and when it has ended all have.
 use mathlib.Core.Path.{_≡_, refl, sym, ap, _∙_}
-use mathlib.Core.Bool.{Bool, true, false, not}
+use mathlib.Core.Bool.{Bool, not, _&&_}
 use mathlib.Core.Logic.{⊎-elim}
-use Prim.Native.Nat.{ℕ, zero, suc, _+_, _≤_, _<_}
+use Prim.Native.Nat.{ℕ, zero, suc, _+_, _≤_}
 use native.Mathlib.Omega.{arith}
 use lib.Dec.{eqb}
 use borrow.Author.Tests.{eqb-true, eq-eqb, ne-eqb}
-use Rattle.rules.specs.Sums.{only, sumTo, countTo}
 use Rattle.rules.specs.Peak.{roots}
 use Rattle.rules.specs.Standing.{finished}
-use Rattle.rules.proofs.Tests.{same-or-not}
-use Rattle.rules.proofs.Sums.{Task, term-le, sum-change, counted, only-true, only-false}
+use Rattle.rules.proofs.Tests.{clash, same-or-not}
+use Rattle.rules.proofs.Sums.{Task, counted, none-counted}
+use Rattle.rules.proofs.Counts.{count-change}
 use Rattle.rules.proofs.Tree.{Tree, parent-task}
 use Rattle.rules.proofs.Shape.{Shape}
 
@@ -24,23 +24,16 @@ some-root n par one =
 -- one root only
 pub one-root :
     (n : ℕ) (par : ℕ → ℕ) → roots n par ≡ 1 → (i j : ℕ) → Task n i → Task n j → par i ≡ 0 → par j ≡ 0 → i ≡ j
-unfolding roots countTo
+unfolding roots
 one-root n par one i j t u p q =
+    let other : ℕ → Bool = λ k. not (eqb k i) && eqb (par k) 0 in
+    let more =
+    count-change other (λ k. eqb (par k) 0) n i t (rw (eq-eqb i i refl)) (eq-eqb (par i) 0 p) (λ k _ d. rw (ne-eqb k i d))
+    in
     ⊎-elim (λ e. e)
     (λ d.
-    let rest : ℕ → ℕ = λ k. only (not (eqb k i)) (only (eqb (par k) 0) 1) in
-    let sum : sumTo (λ k. only (eqb (par k) 0) 1) n ≡ sumTo rest n + 1 =
-    sum-change rest (λ k. only (eqb (par k) 0) 1) n i 1 t
-    (let a = only-true (eqb (par i) 0) 1 (eq-eqb (par i) 0 p) in
-    let b = only-false (not (eqb i i)) (only (eqb (par i) 0) 1) (rw (eq-eqb i i refl) refl) in
-    omega arith)
-    (λ k _ v. sym (only-true (not (eqb k i)) (only (eqb (par k) 0) 1) (rw (ne-eqb k i v) refl)))
-    in
-    let other : rest j ≡ 1 =
-    only-true (not (eqb j i)) (only (eqb (par j) 0) 1) (rw (ne-eqb j i (λ e. d (sym e))) refl)
-    ∙ only-true (eqb (par j) 0) 1 (eq-eqb (par j) 0 q)
-    in
-    absurd (omega (arith, term-le rest n j u)))
+    absurd
+    (clash (rw (ne-eqb j i (λ e. d (sym e)), eq-eqb (par j) 0 q) refl) (none-counted other n (omega arith) j u)))
     (same-or-not i j)
 
 -- when the root has ended all have

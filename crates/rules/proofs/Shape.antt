@@ -1,13 +1,13 @@
 -- What holds of the standings of a day, over functions: waiting tasks come last in rank, and who has begun is fed.
 use mathlib.Core.Path.{_≡_, refl, sym, ap, _∙_}
-use mathlib.Core.Bool.{Bool, true, false}
+use mathlib.Core.Bool.{true}
 use mathlib.Core.Logic.{⊎-elim}
 use Prim.Native.Nat.{ℕ, zero, suc, _+_, _≤_, _<_}
 use native.Mathlib.Omega.{arith}
 use lib.Dec.{eqb}
-use borrow.Author.Tests.{eqb-true}
+use borrow.Author.Tests.{eqb-true, ne-eqb}
 use Rattle.rules.specs.Standing.{waiting, activated, running, finished}
-use Rattle.rules.proofs.Tests.{clash, le-or-lt, or-cases}
+use Rattle.rules.proofs.Tests.{clash, same-or-not, le-or-lt, or-cases}
 use Rattle.rules.proofs.Sums.{Task}
 use Rattle.rules.proofs.Tree.{Tree, up, up-nobody, up-step, parent-task}
 
@@ -23,6 +23,52 @@ pub record Shape (n : ℕ) (par rank st : ℕ → ℕ) : Type 0 where
 pub record Moved (n : ℕ) (st st′ : ℕ → ℕ) (x new : ℕ) : Type 0 where
   pub there : st′ x ≡ new
   pub elsewhere : (i : ℕ) → Task n i → (i ≡ x → ⊥) → st′ i ≡ st i
+
+module _ {n : ℕ} {st st′ : ℕ → ℕ} {x new : ℕ} (moved : Moved n st st′ x new) where
+  -- whoever has not the new standing is not x, and has the standing that it had
+  pub was : (i : ℕ) → Task n i → (st′ i ≡ new → ⊥) → (i ≡ x → ⊥) × (st′ i ≡ st i)
+  was i t d = let off : i ≡ x → ⊥ = λ e. d (ap st′ e ∙ moved .there) in (off, moved .elsewhere i t off)
+
+  -- whoever had another standing than x keeps it
+  pub stays : (i : ℕ) → Task n i → (st i ≡ st x → ⊥) → st′ i ≡ st i
+  stays i t d = moved .elsewhere i t (λ e. d (ap st e))
+
+  -- where x did not wait and does not, whoever ranks behind a waiting task still waits
+  pub behind-still :
+      {par rank : ℕ → ℕ}
+      → Shape n par rank st
+      → (st x ≡ waiting → ⊥)
+      → (new ≡ waiting → ⊥)
+      → (i j : ℕ)
+      → Task n i
+      → Task n j
+      → rank i < rank j
+      → st′ i ≡ waiting
+      → st′ j ≡ waiting
+  behind-still shape old now i j t u h w =
+      let before : st i ≡ waiting = sym (was i t (λ q. now (sym q ∙ w)) .1) ∙ w in
+      let later = shape .behind i j t u h before in
+      stays j u (λ q. old (sym q ∙ later)) ∙ later
+
+  -- there are four standings still
+  pub four-still : new ≤ finished → ((i : ℕ) → Task n i → st i ≤ finished) → (i : ℕ) → Task n i → st′ i ≤ finished
+  four-still h four i t =
+      ⊎-elim (λ e. let a : st′ i ≡ new = ap st′ e ∙ moved .there in omega arith)
+      (λ d. let a = moved .elsewhere i t d in let f = four i t in omega arith) (same-or-not i x)
+
+  -- where x had not ended and has not, the same tasks have ended
+  pub same-ended :
+      (st x ≡ finished → ⊥)
+      → (new ≡ finished → ⊥)
+      → (c : ℕ)
+      → Task n c
+      → eqb (st′ c) finished ≡ eqb (st c) finished
+  same-ended old now c u =
+      ⊎-elim
+      (λ e.
+      ne-eqb (st′ c) finished (λ q. now (sym (ap st′ e ∙ moved .there) ∙ q))
+      ∙ sym (ne-eqb (st c) finished (λ q. old (sym (ap st e) ∙ q))))
+      (λ d. ap (λ (v : ℕ). eqb v finished) (moved .elsewhere c u d)) (same-or-not c x)
 
 module _ (n : ℕ) (par rank : ℕ → ℕ) (tree : Tree n par rank) (st : ℕ → ℕ) (shape : Shape n par rank st) where
   -- a child ranks before its parent

@@ -1,26 +1,25 @@
 -- Sharing out what an ended task held keeps what holds of the day.
 use mathlib.Core.Path.{_≡_, refl, sym, ap, subst, _∙_}
-use mathlib.Core.Bool.{Bool, true, false, _||_}
+use mathlib.Core.Bool.{true, false, _||_}
 use mathlib.Core.Logic.{⊎-elim}
 use mathlib.Core.List.{List, [], _∷_}
-use Prim.Native.Nat.{ℕ, zero, suc, _+_, _-_, _≤_, _<_}
+use Prim.Native.Nat.{ℕ, suc, _+_, _-_, _≤_}
 use native.Mathlib.Omega.{arith}
 use lib.Dec.{eqb}
 use lib.ListN.{length, set, length-set}
 use borrow.Author.Tests.{eqb-true, eqb-false, eq-eqb, ne-eqb}
-use Rattle.rules.specs.Sums.{only, sumTo}
 use Rattle.rules.specs.Lists.{at, mem}
 use Rattle.rules.specs.Standing.{waiting, activated, running, finished}
-use Rattle.rules.specs.Booking.{Books, Climbed, total, chain, figure, offer, gift, climb, dispatch}
+use Rattle.rules.specs.Booking.{Books, Climbed, total, chain, offer, gift, climb, dispatch}
 use Rattle.rules.proofs.Tests.{decide, clash, same-or-not, or-cases, or-right, or-false}
-use Rattle.rules.proofs.Sums.{Task, only-true, only-false, only-zero}
+use Rattle.rules.proofs.Sums.{Task, only-false, only-zero}
 use Rattle.rules.proofs.Tree.{Tree, up, up-nobody, up-self, up-step, chain-none, chain-step, parent-task, not-above-itself}
 use Rattle.rules.proofs.Shape.{Shape, Moved, not-begun-above}
 use Rattle.rules.proofs.Balance.{Active, Balance, Balanced, Roomy, cleared}
 use Rattle.rules.proofs.Climbing.{nothing-left, at-waiting, offer-balance, offer-total}
-use Rattle.rules.proofs.Finishing.{finishing-shape, finishing-balance, finishing-total}
+use Rattle.rules.proofs.Finishing.{Taken, finishing-shape, finishing}
 use Rattle.rules.proofs.Branches.{climb-stop, climb-offer, dispatch-root, dispatch-child}
-use Rattle.rules.proofs.Good.{Good, Sized, at-set, at-other, moved-by-set}
+use Rattle.rules.proofs.Good.{Good, at-other, moved-by-set, given-by-set, grown-by-set}
 
 -- what a climb with r trays leaves of the booked trays b
 pub record Climbs (n : ℕ) (par need out st : ℕ → ℕ) (b : List ℕ) (r : ℕ) (c : Climbed) : Type 0 where
@@ -38,43 +37,24 @@ module _ (n : ℕ) (par rank : ℕ → ℕ) (tree : Tree n par rank) (need out :
       → Climbs n par need out st b r (record { offered = []; left = r; booked = b })
   stopped b r sized books = record { books = books; all = refl; sized = sized }
 
-  -- one offer, and what the climb from the parent on leaves
+  -- one offer: the rest is owed to those above, and what the climb leaves that goes on with it is left of the whole
   offered :
       (x r : ℕ) (b : List ℕ)
       → Task n x
       → Active st x
       → length b ≡ suc n
       → Balance n par need out st (at b) (chain n par x) r
-      → (c : Climbed)
+      → Balance n par need out st (at (set b x (at b x + gift n par need b x))) (chain n par (par x)) (r - gift n par need b x)
+      × ((c : Climbed)
       → Climbs n par need out st (set b x (at b x + gift n par need b x)) (r - gift n par need b x) c
-      → Climbs n par need out st b r (offer x c)
+      → Climbs n par need out st b r (offer x c))
   unfolding offer gift total
-  offered x r b t a sized books c later =
-      let given = at-set n b x (at b x + gift n par need b x) sized t in
-      let kept =
-      offer-total n par rank tree st shape need out roomy x t a r (at b) (at (set b x (at b x + gift n par need b x))) books given
-      (λ i _ d. at-other b x (at b x + gift n par need b x) i d)
-      in
-      record {
-        books = later .books;
-        all = (let l = later .all in omega arith);
-        sized = later .sized;
-      }
-
-  -- after it the rest is owed to those above
-  next :
-      (x r : ℕ) (b : List ℕ)
-      → Task n x
-      → Active st x
-      → length b ≡ suc n
-      → Balance n par need out st (at b) (chain n par x) r
-      → Balance n par need out st (at (set b x (at b x + gift n par need b x))) (chain n par (par x))
-      (r - gift n par need b x)
-  unfolding gift
-  next x r b t a sized books =
-      offer-balance n par rank tree st shape need out roomy x t a r (at b) (at (set b x (at b x + gift n par need b x))) books
-      (at-set n b x (at b x + gift n par need b x) sized t)
-      (λ i _ d. at-other b x (at b x + gift n par need b x) i d)
+  offered x r b t a sized books =
+      let given = given-by-set n par need b x sized t in
+      let kept = offer-total n par rank tree st shape need out roomy x t a r (at b) _ books given in (
+        offer-balance n par rank tree st shape need out roomy x t a r (at b) _ books given,
+        (λ c later. record { books = later .books; all = omega (arith, later .all); sized = later .sized }),
+      )
 
   -- the tasks above a task that has not ended, after one step
   idle-above :
@@ -121,20 +101,20 @@ module _ (n : ℕ) (par rank : ℕ → ℕ) (tree : Tree n par rank) (need out :
       (stopped b r sized
       (⊎-elim
       (λ (w : eqb (st x) waiting ≡ true).
-      at-waiting n par rank tree st shape need out roomy (at b) x r t (eqb-true (st x) waiting w) books-x)
+      at-waiting n par rank tree st shape need out (at b) x r t (eqb-true (st x) waiting w) books-x)
       (λ (z : eqb r 0 ≡ true).
-      nothing-left n par rank tree st shape need out roomy (at b) (chain n par x) r (eqb-true r 0 z) books-x)
+      nothing-left n par need out st (at b) (chain n par x) r (eqb-true r 0 z) books-x)
       (or-cases (eqb (st x) waiting) (eqb r 0) s))))
       (λ (s : (eqb (st x) waiting || eqb r 0) ≡ false).
       let busy = eqb-false (st x) waiting (or-false (eqb (st x) waiting) (eqb r 0) s .0) in
       let low = idle-x x (up-self n par rank tree x t) in
       let a : Active st x = omega arith in
       let within = tree .within x t in
+      let one = offered x r b t a sized books-x in
       rw (climb-offer n par need st x above r b s)
-      (offered x r b t a sized books-x
-      (climb n par need st above (r - gift n par need b x) (set b x (at b x + gift n par need b x)))
+      (one .1 _
       (climbs above (par x) (r - gift n par need b x) (set b x (at b x + gift n par need b x)) above-is within
-      (length-set b x (at b x + gift n par need b x) ∙ sized) (idle-above x t idle-x) (next x r b t a sized books-x))))
+      (length-set b x (at b x + gift n par need b x) ∙ sized) (idle-above x t idle-x) (one .0))))
       (decide (eqb (st x) waiting || eqb r 0))
 
 module _ (n : ℕ) (par rank : ℕ → ℕ) (tree : Tree n par rank) (need out : ℕ → ℕ) (roomy : Roomy n par need out)
@@ -158,11 +138,11 @@ module _ (n : ℕ) (par rank : ℕ → ℕ) (tree : Tree n par rank) (need out :
       let same = at-other (k .standings) j finished a a-not in
       omega arith
 
-  taken : at (set (k .booked) j 0) j ≡ 0
-  taken = at-set n (k .booked) j 0 (good .sized .booked) task
+  taken : Moved n (at (k .booked)) (at (set (k .booked) j 0)) j 0
+  taken = moved-by-set n (k .booked) j 0 (good .sized .booked) task
 
-  taken-others : (i : ℕ) → Task n i → (i ≡ j → ⊥) → at (set (k .booked) j 0) i ≡ at (k .booked) i
-  taken-others i _ d = at-other (k .booked) j 0 i d
+  sized-taken : length (set (k .booked) j 0) ≡ suc n
+  sized-taken = length-set (k .booked) j 0 ∙ good .sized .booked
 
   -- the root's trays are free
   shared-root :
@@ -171,24 +151,26 @@ module _ (n : ℕ) (par rank : ℕ → ℕ) (tree : Tree n par rank) (need out :
       (dispatch n par need (at (set (k .standings) j finished)) out (k .booked) j)
   unfolding total
   shared-root z =
-      let gave : (i : ℕ) → Task n i → at (set (k .booked) j 0) i ≡ at (set (k .booked) j 0) i + only (eqb (par j) i) 0 =
-      λ i _. let n = only-zero (eqb (par j) i) in omega arith
+      let ends : Taken n par out (at (k .booked)) (at (set (k .booked) j 0)) (at (set (k .booked) j 0)) j (at (k .booked) j) 0 =
+      record {
+        taken = taken;
+        gave = λ i _. let none = only-zero (eqb (par j) i) in omega arith;
+        root = λ _. refl;
+        child = λ d. absurd (d z);
+        rest = omega arith;
+      }
       in
-      let whole =
-      finishing-total n par rank tree (at (k .standings)) _ (good .shape) j task runs moved need out (at (k .booked))
-      (at (set (k .booked) j 0)) (at (set (k .booked) j 0)) (at (k .booked) j) 0 roomy (good .books) taken taken-others (λ _. refl)
-      (λ d. absurd (d z)) gave (omega arith)
+      let owed =
+      finishing n par rank tree (at (k .standings)) _ (good .shape) j task runs moved need out (at (k .booked)) _ _ _ _ roomy
+      (good .books) ends
       in
       rw (dispatch-root n par need (at (set (k .standings) j finished)) out (k .booked) j (eq-eqb (par j) 0 z))
       (record {
         books =
-            cleared n par need out _ (at (set (k .booked) j 0)) (chain n par (par j)) (at (k .booked) j)
-            (finishing-balance n par rank tree (at (k .standings)) _ (good .shape) j task runs moved need out (at (k .booked))
-            (at (set (k .booked) j 0)) (at (set (k .booked) j 0)) (at (k .booked) j) 0 roomy (good .books) taken taken-others (λ _. refl)
-            (λ d. absurd (d z)) gave (omega arith))
+            cleared n par need out _ (at (set (k .booked) j 0)) (chain n par (par j)) (at (k .booked) j) (owed .0)
             (λ i _ _. only-false (up n par i (par j)) (at (k .booked) j) (up-nobody n par i (par j) z));
-        all = omega arith;
-        sized = length-set (k .booked) j 0 ∙ good .sized .booked;
+        all = omega (arith, owed .1);
+        sized = sized-taken;
       })
 
   -- a parent keeps the out, and the rest climbs
@@ -198,42 +180,28 @@ module _ (n : ℕ) (par rank : ℕ → ℕ) (tree : Tree n par rank) (need out :
       (dispatch n par need (at (set (k .standings) j finished)) out (k .booked) j)
   unfolding total
   shared-child d =
-      let q : ℕ = par j in
-      let u : Task n q = parent-task n par rank tree j task d in
+      let u = parent-task n par rank tree j task d in
       let b₁ : List ℕ = set (k .booked) j 0 in
-      let b₂ : List ℕ = set b₁ q (at b₁ q + out j) in
-      let sized₁ : length b₁ ≡ suc n = length-set (k .booked) j 0 ∙ good .sized .booked in
-      let gave : (i : ℕ) → Task n i → at b₂ i ≡ at b₁ i + only (eqb q i) (out j) =
-      λ i t.
-      ⊎-elim
-      (λ e.
-      let one = only-true (eqb q i) (out j) (eq-eqb q i e) in
-      let new : at b₂ i ≡ at b₁ i + out j =
-      subst (λ (v : ℕ). at b₂ v ≡ at b₁ v + out j) e (at-set n b₁ q (at b₁ q + out j) sized₁ u)
-      in
-      omega arith)
-      (λ v.
-      let none = only-false (eqb q i) (out j) (ne-eqb q i v) in
-      let old = at-other b₁ q (at b₁ q + out j) i (λ e. v (sym e)) in
-      omega arith)
-      (same-or-not q i)
+      let b₂ : List ℕ = set b₁ (par j) (at b₁ (par j) + out j) in
+      let ends : Taken n par out (at (k .booked)) (at b₁) (at b₂) j (at (k .booked) j - out j) (out j) =
+      record {
+        taken = taken;
+        gave = λ i _. grown-by-set n b₁ (par j) (out j) sized-taken u i;
+        root = λ z. absurd (d z);
+        child = λ _. refl;
+        rest = refl;
+      }
       in
       let owed =
-      finishing-balance n par rank tree (at (k .standings)) (at (set (k .standings) j finished)) (good .shape) j task runs moved
-      need out (at (k .booked)) (at b₁) (at b₂) (at (k .booked) j - out j) (out j) roomy (good .books) taken taken-others
-      (λ z. absurd (d z)) (λ _. refl) gave refl
-      in
-      let whole =
-      finishing-total n par rank tree (at (k .standings)) (at (set (k .standings) j finished)) (good .shape) j task runs moved need
-      out (at (k .booked)) (at b₁) (at b₂) (at (k .booked) j - out j) (out j) roomy (good .books) taken taken-others
-      (λ z. absurd (d z)) (λ _. refl) gave refl
+      finishing n par rank tree (at (k .standings)) _ (good .shape) j task runs moved need out (at (k .booked)) _ _ _ _ roomy
+      (good .books) ends
       in
       let done =
-      climbs n par rank tree need out roomy (at (set (k .standings) j finished)) shape-after (chain n par q) q
-      (at (k .booked) j - out j) b₂ refl (u .high) (length-set b₁ q (at b₁ q + out j) ∙ sized₁) idle owed
+      climbs n par rank tree need out roomy (at (set (k .standings) j finished)) shape-after (chain n par (par j)) (par j)
+      (at (k .booked) j - out j) b₂ refl (u .high) (length-set b₁ (par j) (at b₁ (par j) + out j) ∙ sized-taken) idle (owed .0)
       in
       rw (dispatch-child n par need (at (set (k .standings) j finished)) out (k .booked) j (ne-eqb (par j) 0 d))
-      (record { books = done .books; all = (let a = done .all in omega arith); sized = done .sized })
+      (record { books = done .books; all = omega (arith, done .all, owed .1); sized = done .sized })
 
   -- the books once j has ended
   pub sharing-good :

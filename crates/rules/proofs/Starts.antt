@@ -8,19 +8,18 @@ use native.Mathlib.Omega.{arith}
 use lib.Dec.{eqb}
 use lib.ListN.{length, set, length-set}
 use borrow.Author.Tests.{eqb-true, eq-eqb, ne-eqb, not-false}
-use Rattle.rules.specs.Sums.{only, sumTo, countTo}
+use Rattle.rules.specs.Sums.{countTo}
 use Rattle.rules.specs.Lists.{at, mem, every, first}
 use Rattle.rules.specs.Grounds.{within}
 use Rattle.rules.specs.Standing.{activated, running, finished, count}
-use Rattle.rules.specs.Booking.{Books, fed, ready, starts, start}
-use Rattle.rules.proofs.Tests.{decide, clash, same-or-not, and-true, and-false, or-cases}
-use Rattle.rules.proofs.Sums.{Task, sum-change, none-counted, count-none, only-true, only-false}
-use Rattle.rules.proofs.Orders.{mem-here, mem-more, mem-rest, mem-out, nobody, within-task, every-mem}
-use Rattle.rules.proofs.Shape.{Shape, Moved}
-use Rattle.rules.proofs.Balance.{Balanced}
+use Rattle.rules.specs.Booking.{fed, ready, starts, start}
+use Rattle.rules.proofs.Tests.{decide, clash, same-or-not, and-true, and-false}
+use Rattle.rules.proofs.Sums.{Task, none-counted, count-none}
+use Rattle.rules.proofs.Counts.{count-change}
+use Rattle.rules.proofs.Orders.{mem-here, mem-more, mem-rest, nobody, within-task, every-mem}
 use Rattle.rules.proofs.Starting.{starting-shape, starting-balanced}
 use Rattle.rules.proofs.Branches.{starts-none, starts-one, first-here, first-later}
-use Rattle.rules.proofs.Good.{Good, Sized, at-set, at-other, moved-by-set}
+use Rattle.rules.proofs.Good.{Good, at-set, at-other, moved-by-set}
 
 -- who is found first passes the test, and stands in the list
 pub first-passes : (test : ℕ → Bool) (l : List ℕ) (i : ℕ) → first test l ≡ suc i → (mem (suc i) l ≡ true) × (test (suc i) ≡ true)
@@ -105,42 +104,49 @@ ready-parts n par st x h =
     (eqb-true (at st x) activated (both .0), both .1)
 
 module _ (n : ℕ) (par : ℕ → ℕ) (execution : List ℕ) (inside : every (λ i. within i n) execution ≡ true) where
-  -- the rules start such tasks
-  pub starts-startable : (free : ℕ) (st : List ℕ) → Startable n par st (starts n par execution free st)
-  unfolding Startable starts
-  starts-startable zero st = tt
-  starts-startable (suc free) st = go (first (ready n par st) execution) refl (λ s. starts-startable free s)
+  -- what holds of the tasks started: where no processor is free, where nobody is ready, and with one more in front
+  starts-induct :
+      (P : ℕ → List ℕ → List ℕ → Type 0)
+      → ((st : List ℕ) → P 0 st [])
+      → ((free : ℕ) (st : List ℕ) → first (ready n par st) execution ≡ 0 → P (suc free) st [])
+      → ((free : ℕ) (st : List ℕ) (i : ℕ) (l : List ℕ)
+      → first (ready n par st) execution ≡ suc i
+      → P free (set st (suc i) running) l
+      → P (suc free) st (suc i ∷ l))
+      → (free : ℕ) (st : List ℕ)
+      → P free st (starts n par execution free st)
+  unfolding starts
+  starts-induct P busy none one zero st = busy st
+  starts-induct P busy none one (suc free) st =
+      go (first (ready n par st) execution) refl (λ s. starts-induct P busy none one free s)
     where
       go :
           (found : ℕ)
           → first (ready n par st) execution ≡ found
-          → ((s : List ℕ) → Startable n par s (starts n par execution free s))
-          → Startable n par st (starts n par execution (suc free) st)
-      go zero e later = rw (starts-none n par execution free st e) tt
-      go (suc i) e later =
-          let k = first-passes (ready n par st) execution i e in
-          let both = ready-parts n par st (suc i) (k .1) in
-          rw (starts-one n par execution free st i e) (
-            within-task n (suc i) (every-mem (λ i. within i n) execution (suc i) inside (k .0)),
-            both .0,
-            fed-children n par (at st) (suc i) (both .1),
-            later (set st (suc i) running),
-          )
+          → ((s : List ℕ) → P free s (starts n par execution free s))
+          → P (suc free) st (starts n par execution (suc free) st)
+      go zero e later = rw (starts-none n par execution free st e) (none free st e)
+      go (suc i) e later = rw (starts-one n par execution free st i e) (one free st i _ e (later (set st (suc i) running)))
+
+  -- the rules start such tasks
+  pub starts-startable : (free : ℕ) (st : List ℕ) → Startable n par st (starts n par execution free st)
+  unfolding Startable
+  starts-startable =
+      starts-induct (λ _ st l. Startable n par st l) (λ _. tt) (λ _ _ _. tt)
+      (λ free st i l e later.
+      let k = first-passes (ready n par st) execution i e in
+      let both = ready-parts n par st (suc i) (k .1) in (
+        within-task n (suc i) (every-mem (λ i. within i n) execution (suc i) inside (k .0)),
+        both .0,
+        fed-children n par (at st) (suc i) (both .1),
+        later,
+      ))
 
   -- no more than there are processors
   pub starts-length : (free : ℕ) (st : List ℕ) → length (starts n par execution free st) ≤ free
-  unfolding starts
-  starts-length zero st = omega arith
-  starts-length (suc free) st = go (first (ready n par st) execution) refl (λ s. starts-length free s)
-    where
-      go :
-          (found : ℕ)
-          → first (ready n par st) execution ≡ found
-          → ((s : List ℕ) → length (starts n par execution free s) ≤ free)
-          → length (starts n par execution (suc free) st) ≤ suc free
-      go zero e later = rw (starts-none n par execution free st e) (omega arith)
-      go (suc i) e later =
-          rw (starts-one n par execution free st i e) (let k = later (set st (suc i) running) in omega arith)
+  starts-length =
+      starts-induct (λ free _ l. length l ≤ free) (λ _. omega arith) (λ _ _ _. omega arith)
+      (λ free st i l e later. omega arith)
 
   -- where a processor stays free, nobody is ready any more
   pub starts-halt :
@@ -149,77 +155,27 @@ module _ (n : ℕ) (par : ℕ → ℕ) (execution : List ℕ) (inside : every (�
       → (x : ℕ)
       → mem x execution ≡ true
       → ready n par (start (starts n par execution free st) st) x ≡ false
-  unfolding starts start
-  starts-halt zero st = λ h x m. absurd (omega arith)
-  starts-halt (suc free) st = go (first (ready n par st) execution) refl (λ s. starts-halt free s)
-    where
-      go :
-          (found : ℕ)
-          → first (ready n par st) execution ≡ found
-          → ((s : List ℕ)
-          → length (starts n par execution free s) < free
-          → (x : ℕ)
-          → mem x execution ≡ true
-          → ready n par (start (starts n par execution free s) s) x ≡ false)
-          → length (starts n par execution (suc free) st) < suc free
-          → (x : ℕ)
-          → mem x execution ≡ true
-          → ready n par (start (starts n par execution (suc free) st) st) x ≡ false
-      go zero e later h x m =
-          rw (starts-none n par execution free st e) (first-none (ready n par st) n execution inside e x m)
-      go (suc i) e later h x m =
-          let shorter : length (starts n par execution free (set st (suc i) running)) < free =
-          (let k = rw (starts-one n par execution free st i e) at h in omega arith)
-          in
-          rw (starts-one n par execution free st i e) (later (set st (suc i) running) shorter x m)
+  unfolding start
+  starts-halt =
+      starts-induct
+      (λ free st l. length l < free → (x : ℕ) → mem x execution ≡ true → ready n par (start l st) x ≡ false)
+      (λ st h. absurd (omega arith))
+      (λ free st e h x m. first-none (ready n par st) n execution inside e x m)
+      (λ free st i l e later h. later (omega arith))
 
 -- the standings once such tasks run
 module _ (n : ℕ) (par : ℕ → ℕ) where
-  pub start-length : (l st : List ℕ) → length (start l st) ≡ length st
-  unfolding start
-  start-length [] st = refl
-  start-length (i ∷ l) st = start-length l (set st i running) ∙ length-set st i running
-
-  -- who is not in the list stays as it was
-  pub start-other : (l st : List ℕ) (i : ℕ) → mem i l ≡ false → at (start l st) i ≡ at st i
-  unfolding start
-  start-other [] st i m = refl
-  start-other (x ∷ l) st i m =
-      let k = mem-out i x l m in
-      start-other l (set st x running) i (k .1) ∙ at-other st x running i (k .0)
-
-  -- who is in it runs
-  pub start-runs :
-      (l st : List ℕ)
-      → length st ≡ suc n
-      → Startable n par st l
-      → (i : ℕ)
-      → mem i l ≡ true
-      → at (start l st) i ≡ running
-  unfolding start Startable
-  start-runs [] st e s i m = absurd (nobody i m)
-  start-runs (x ∷ l) st e s i m =
-      ⊎-elim (λ (h : mem i l ≡ true). start-runs l (set st x running) (length-set st x running ∙ e) (s .3) i h)
-      (λ (h : mem i l ≡ false).
-      let same : i ≡ x = ⊎-elim (λ q. q) (λ d. absurd (clash (mem-rest i x l m d) h)) (same-or-not i x) in
-      start-other l (set st x running) i h ∙ ap (at (set st x running)) same ∙ at-set n st x running e (s .0))
-      (decide (mem i l))
-
   one-more :
       (st : List ℕ) (x : ℕ)
       → length st ≡ suc n
       → Task n x
       → at st x ≡ activated
       → count n (at (set st x running)) running ≡ count n (at st) running + 1
-  unfolding count countTo
+  unfolding count
   one-more st x e t a =
-      sum-change (λ i. only (eqb (at st i) running) 1) (λ i. only (eqb (at (set st x running) i) running) 1) n x 1 t
-      (let new =
-      only-true (eqb (at (set st x running) x) running) 1 (eq-eqb (at (set st x running) x) running (at-set n st x running e t))
-      in
-      let old = only-false (eqb (at st x) running) 1 (ne-eqb (at st x) running (λ q. omega arith)) in
-      omega arith)
-      (λ i _ d. ap (λ (v : ℕ). only (eqb v running) 1) (at-other st x running i d))
+      count-change (λ i. eqb (at st i) running) (λ i. eqb (at (set st x running) i) running) n x t
+      (ne-eqb (at st x) running (λ q. omega arith)) (eq-eqb (at (set st x running) x) running (at-set n st x running e t))
+      (λ i _ d. ap (λ (v : ℕ). eqb v running) (at-other st x running i d))
 
   -- so many more run
   pub start-count :
@@ -248,9 +204,9 @@ module _ (n : ℕ) (par : ℕ → ℕ) where
       (record {
         sized =
             record { standings = length-set st x running ∙ good .sized .standings; booked = good .sized .booked };
-        shape = starting-shape n par rank (at st) (at (set st x running)) (good .shape) x (s .0) (s .1) (s .2) moved;
+        shape = starting-shape n par rank (at st) (at (set st x running)) (good .shape) x (s .1) (s .2) moved;
         books =
-            starting-balanced n par rank (at st) (at (set st x running)) (good .shape) x (s .0) (s .1) (s .2) moved need out (at b) [] 0
+            starting-balanced n par rank (at st) (at (set st x running)) (good .shape) x (s .1) (s .2) moved need out (at b) [] 0
             (good .books);
         within = good .within;
       })

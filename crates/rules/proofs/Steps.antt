@@ -1,22 +1,22 @@
 -- One asking: it is refused and changes nothing, or its command has no ground against it and is obeyed.
-use mathlib.Core.Path.{_≡_, refl, sym, ap, subst, _∙_}
+use mathlib.Core.Path.{_≡_, refl, ap, _∙_}
 use mathlib.Core.Bool.{Bool, true, false, cond}
 use mathlib.Core.Logic.{⊎-elim}
-use mathlib.Core.List.{List, [], _∷_, _++_, map}
-use Prim.Native.Nat.{ℕ, zero, suc, _+_}
+use mathlib.Core.List.{List, [], _++_, map}
+use Prim.Native.Nat.{ℕ, suc, _+_}
 use native.Mathlib.Omega.{arith}
 use lib.Dec.{eqb, leb, ltb}
 use lib.ListN.{length, take, drop}
 use lib.Seq.{take-append-seam}
-use borrow.Author.Tests.{eqb-true, eqb-false, eq-eqb, ne-eqb}
+use borrow.Author.Tests.{eqb-true, eqb-false, ne-eqb}
 use Rattle.rules.specs.Limits.{leastStarts}
 use Rattle.rules.specs.Lists.{at}
 use Rattle.rules.specs.State.{State}
 use Rattle.rules.specs.Command.{Command, Decoded, refused, read, whole, table, decode}
 use Rattle.rules.specs.Grounds.{ground}
-use Rattle.rules.specs.Obey.{Outcome, obey}
-use Rattle.rules.specs.Answer.{Asking, Answer, Answered, refuse, front, accept, judge, respond, command}
-use Rattle.rules.specs.Day.{Event, started, ended, accepted, reported, events}
+use Rattle.rules.specs.Obey.{obey}
+use Rattle.rules.specs.Answer.{Asking, Answered, refuse, front, accept, judge, respond, command}
+use Rattle.rules.specs.Day.{started, ended, accepted, reported, events}
 use Rattle.rules.proofs.Tests.{decide}
 use Rattle.rules.proofs.Formed.{Accepted, no-ground}
 

@@ -1,8 +1,9 @@
 -- Laws of tests.
-use mathlib.Core.Path.{_≡_, refl, sym, _∙_}
-use mathlib.Core.Bool.{Bool, true, false, not, _&&_, _||_, false≢true}
+use mathlib.Core.Path.{_≡_, refl, sym, ap, _∙_}
+use mathlib.Core.Bool.{Bool, true, false, _&&_, _||_, false≢true}
 use mathlib.Core.Logic.{_⊎_, inl, inr, ⊎-elim}
 use Prim.Native.Nat.{ℕ, _≤_, _<_}
+use native.Mathlib.Omega.{arith}
 use lib.Dec.{eqb, leb}
 use borrow.Author.Tests.{eqb-true, eqb-false, eq-eqb, ne-eqb, leb-true, leb-false}
 
@@ -67,3 +68,9 @@ and-none false = refl
 pub and-false : (a b : Bool) → (a && b) ≡ false → (a ≡ false) ⊎ (b ≡ false)
 and-false true b h = inr h
 and-false false b h = inl refl
+
+-- a value that is kept, or is below what is asked for before and after, passes the test as before
+pub eqb-above : (v w limit k : ℕ) → limit < k → (v ≡ w) ⊎ ((w ≤ limit) × (v ≤ limit)) → eqb v k ≡ eqb w k
+eqb-above v w limit k h (inl e) = ap (λ (u : ℕ). eqb u k) e
+eqb-above v w limit k h (inr l) =
+    ne-eqb v k (λ q. omega (arith, l .1)) ∙ sym (ne-eqb w k (λ q. omega (arith, l .0)))

@@ -1,18 +1,17 @@
 -- Demand 3: every day of every list of askings holds what is promised.
 use mathlib.Core.Path.{_≡_, refl, sym, ap, subst, subst₂, _∙_}
-use mathlib.Core.Bool.{Bool, true, false, _&&_, _||_}
+use mathlib.Core.Bool.{Bool, true, false, _&&_}
 use mathlib.Core.List.{List, [], _∷_, _++_, map, append-nil, append-assoc}
-use Prim.Native.Nat.{ℕ, zero, suc, _+_}
+use Prim.Native.Nat.{ℕ}
 use native.Mathlib.Omega.{arith}
 use lib.Dec.{eqb}
-use lib.ListN.{length}
 use borrow.Author.Tests.{eqb-true}
 use Rattle.rules.specs.Phase
 use Rattle.rules.specs.State.{State, none}
-use Rattle.rules.specs.Command.{Command, plan, task, activation, execution, begin, done, Decoded, refused, read, decode}
+use Rattle.rules.specs.Command.{Command, plan, task, activation, execution, begin, done, read, decode}
 use Rattle.rules.specs.Grounds.{inTurn}
 use Rattle.rules.specs.Obey.{obey}
-use Rattle.rules.specs.Answer.{Asking, Answered, command}
+use Rattle.rules.specs.Answer.{Asking, command}
 use Rattle.rules.specs.Day.{
   Event,
   started,
@@ -35,7 +34,7 @@ use Rattle.rules.proofs.InDay.{InDay, Closing, open-day, closed}
 use Rattle.rules.proofs.Opening.{begin-in-day}
 use Rattle.rules.proofs.Reporting.{done-in-day}
 use Rattle.rules.proofs.Holds.{day-holds}
-use Rattle.rules.proofs.Steps.{Step, Refused, Obeyed, is-refused, is-obeyed, step}
+use Rattle.rules.proofs.Steps.{Step, is-refused, is-obeyed, step}
 
 -- every asking leaves a plan that commands can lead to
 command-formed : (s : State) (a : Asking) → Formed s → Formed (command s a .state)

@@ -1,31 +1,17 @@
 -- Laws of the tree of tasks and of sums over subtrees, over functions and an abstract rank that rises towards the root.
 use mathlib.Core.Path.{_≡_, refl, sym, ap, _∙_}
 use mathlib.Core.Bool.{Bool, true, false, _||_}
-use mathlib.Core.Logic.{_⊎_, inl, inr, ⊎-elim}
+use mathlib.Core.Logic.{⊎-elim}
 use mathlib.Core.List.{List, [], _∷_}
 use Prim.Native.Nat.{ℕ, zero, suc, _+_, _≤_, _<_}
 use native.Mathlib.Omega.{arith}
 use lib.Dec.{eqb}
-use borrow.Author.Tests.{eqb-true, eqb-false, eq-eqb, ne-eqb}
+use borrow.Author.Tests.{eqb-true, eq-eqb, ne-eqb}
 use Rattle.rules.specs.Sums.{only, sumTo}
 use Rattle.rules.specs.Lists.{mem}
 use Rattle.rules.specs.Booking.{chain, figure}
-use Rattle.rules.proofs.Tests.{decide, clash, fails, same-or-not, eqb-sym, or-cases, or-left, or-right}
-use Rattle.rules.proofs.Sums.{
-  Task,
-  sum-cong,
-  sum-add,
-  sum-zero,
-  sum-swap,
-  sum-single,
-  sum-change,
-  only-sum,
-  only-add,
-  only-swap,
-  only-zero,
-  only-true,
-  only-false,
-}
+use Rattle.rules.proofs.Tests.{clash, fails, same-or-not, eqb-sym, or-cases, or-left}
+use Rattle.rules.proofs.Sums.{Task, sum-cong, sum-add, sum-zero, sum-swap, sum-single, sum-change, only-sum, only-add, only-swap, only-zero, only-false}
 
 -- parents are tasks or 0, and the rank rises from each task to its parent
 pub record Tree (n : ℕ) (par rank : ℕ → ℕ) : Type 0 where
@@ -111,6 +97,11 @@ module _ (n : ℕ) (par rank : ℕ → ℕ) (tree : Tree n par rank) where
   unfolding mem
   up-step i k t = ap (mem i) (chain-step k t)
 
+  -- where i is not k it stands above k just where it is k's parent or above it
+  pub up-parent : (i k : ℕ) → Task n k → (i ≡ k → ⊥) → up n par i k ≡ up n par i (par k)
+  up-parent i k t d = up-step i k t ∙ ap (λ (s : Bool). s || up n par i (par k)) (ne-eqb i k d)
+
+  -- k itself counts
   pub up-self : (k : ℕ) → Task n k → up n par k k ≡ true
   up-self k t = up-step k k t ∙ or-left (eqb k k) (up n par k (par k)) (eq-eqb k k refl)
 

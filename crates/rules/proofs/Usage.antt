@@ -1,22 +1,21 @@
 -- Trays in use never exceed trays booked, task by task.
-use mathlib.Core.Path.{_≡_, refl, sym, ap, _∙_}
+use mathlib.Core.Path.{_≡_, refl}
 use mathlib.Core.Bool.{Bool, true, false, not, _&&_}
 use mathlib.Core.Logic.{⊎-elim}
-use mathlib.Core.List.{List, []}
-use Prim.Native.Nat.{ℕ, zero, suc, _+_, _≤_, _<_}
+use Prim.Native.Nat.{ℕ, _+_, _≤_, _<_}
 use native.Mathlib.Omega.{arith}
 use lib.Dec.{eqb, leb}
 use borrow.Author.Tests.{eq-eqb, ne-eqb, le-leb, lt-leb}
-use Rattle.rules.specs.Sums.{only, sumTo}
-use Rattle.rules.specs.Need.{need, resident, inUse}
+use Rattle.rules.specs.Sums.{only}
+use Rattle.rules.specs.Need.{need, inUse}
 use Rattle.rules.specs.Booking.{total}
 use Rattle.rules.specs.Standing.{waiting, activated, running, finished}
 use Rattle.rules.proofs.Tests.{same-or-not, le-or-lt}
-use Rattle.rules.proofs.Sums.{Task, sum-le, sum-add, only-true, only-false}
+use Rattle.rules.proofs.Sums.{Task, sum-le, sum-add}
 use Rattle.rules.proofs.Tree.{Tree}
 use Rattle.rules.proofs.Children.{children, resident-by-parent}
 use Rattle.rules.proofs.Shape.{Shape}
-use Rattle.rules.proofs.Balance.{Active, Balanced, arrived, running-holds-need}
+use Rattle.rules.proofs.Balance.{Balanced, arrived, running-holds-need}
 
 -- a task has ended, and a task has begun, as its standing says
 abbrev pub hasEnded : (ℕ → ℕ) → ℕ → Bool

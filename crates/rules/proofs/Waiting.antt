@@ -1,24 +1,23 @@
 -- The first waiting task of an order, and that it fits where nobody runs and nobody can start.
-use mathlib.Core.Path.{_≡_, refl, sym, ap, subst, _∙_}
+use mathlib.Core.Path.{_≡_, refl, sym, ap, _∙_}
 use mathlib.Core.Bool.{Bool, true, false, _||_}
 use mathlib.Core.Logic.{_⊎_, inl, inr, ⊎-elim}
 use mathlib.Core.List.{List, [], _∷_, _++_}
-use Prim.Native.Nat.{ℕ, zero, suc, _+_, _≤_, _<_}
+use Prim.Native.Nat.{ℕ, _+_, _≤_, _<_}
 use native.Mathlib.Omega.{arith}
-use lib.Dec.{eqb, leb}
-use lib.ListN.{length}
-use borrow.Author.Tests.{eq-eqb, ne-eqb, le-leb}
-use Rattle.rules.specs.Lists.{mem, distinct}
-use Rattle.rules.specs.Need.{need, resident}
+use lib.Dec.{eqb}
+use borrow.Author.Tests.{eq-eqb, ne-eqb}
+use Rattle.rules.specs.Lists.{mem}
+use Rattle.rules.specs.Need.{need}
 use Rattle.rules.specs.Peak.{peak}
 use Rattle.rules.specs.Standing.{waiting, finished}
-use Rattle.rules.specs.Booking.{Books, total, missing, lacks, allows}
+use Rattle.rules.specs.Booking.{total, missing}
 use Rattle.rules.proofs.Tests.{decide, clash, same-or-not, le-or-lt}
 use Rattle.rules.proofs.Sums.{Task}
-use Rattle.rules.proofs.Orders.{mem-here, mem-later, mem-rest, nobody, place, place-second, place-split, distinct-split}
+use Rattle.rules.proofs.Orders.{mem-rest, nobody}
 use Rattle.rules.proofs.Turns.{Valid}
 use Rattle.rules.proofs.Peaks.{resident-cong, sum-le-peak}
-use Rattle.rules.proofs.Ranks.{rankIn, in-front, same-rank}
+use Rattle.rules.proofs.Ranks.{rankIn, entry, in-front, same-rank}
 use Rattle.rules.proofs.Tree.{Tree, parent-task}
 use Rattle.rules.proofs.Shape.{Shape}
 use Rattle.rules.proofs.Balance.{Balanced, Roomy}
@@ -60,12 +59,12 @@ first-waiting st (y ∷ l) =
     (same-or-not (st y) waiting)
 
 module _ (n : ℕ) (par : ℕ → ℕ) (order : List ℕ) (valid : Valid n par order) (tree : Tree n par (rankIn order))
-    (st : ℕ → ℕ) (shape : Shape n par (rankIn order) st) (found : Found st order) (task : Task n (found .x)) where
+    (st : ℕ → ℕ) (shape : Shape n par (rankIn order) st) (found : Found st order) where
   -- nobody of lower rank waits
   pub found-first : FirstWaiting n (rankIn order) st (found .x)
   found-first =
       record {
-        task = task;
+        task = entry n par order valid (found .pre) (found .x) (found .post) (found .whole);
         waits = found .waits;
         first = λ j _ h. found .busy j (in-front n par order valid (found .pre) (found .x) (found .post) (found .whole) j h);
       }
@@ -73,22 +72,15 @@ module _ (n : ℕ) (par : ℕ → ℕ) (order : List ℕ) (valid : Valid n par o
   -- and whoever does not stand in front of it waits
   waits-behind : (i : ℕ) → Task n i → mem i (found .pre) ≡ false → st i ≡ waiting
   waits-behind i t m =
-      let e = found .whole in
-      let alone =
-      distinct-split (found .pre) (found .x) (found .post)
-      (subst (λ (l : List ℕ). distinct l ≡ true) e (valid .once))
-      in
-      let own : place (found .x) order ≡ length (found .pre) =
-      ap (place (found .x)) e ∙ place-split (found .x) (found .pre) (found .post) (alone .not-earlier)
-      in
-      let other : place i order ≡ length (found .pre) + place i (found .x ∷ found .post) =
-      ap (place i) e ∙ place-second i (found .pre) (found .x ∷ found .post) m
+      let task = found-first .task in
+      let not-before : rankIn order i < rankIn order (found .x) → ⊥ =
+      λ h. clash (in-front n par order valid (found .pre) (found .x) (found .post) (found .whole) i h) m
       in
       ⊎-elim
-      (λ (same : place i order ≤ place (found .x) order).
+      (λ (same : rankIn order i ≤ rankIn order (found .x)).
       ap st (same-rank n par order valid i (found .x) t task (omega arith)) ∙ found .waits)
-      (λ (later : place (found .x) order < place i order). shape .behind (found .x) i task t later (found .waits))
-      (le-or-lt (place i order) (place (found .x) order))
+      (λ (later : rankIn order (found .x) < rankIn order i). shape .behind (found .x) i task t later (found .waits))
+      (le-or-lt (rankIn order i) (rankIn order (found .x)))
 
   module _ (stuck : Stuck n par st) where
     -- where nobody runs and nobody can start, those that have ended are those in front
@@ -115,7 +107,7 @@ module _ (n : ℕ) (par : ℕ → ℕ) (order : List ℕ) (valid : Valid n par o
         → Balanced n par (need n par work out) out st b
         → total n b + missing n par (need n par work out) st b (found .x) ≤ peak n par work out order
     found-fits work out b roomy books =
-        let room = fits n par (rankIn order) tree st shape stuck (need n par work out) out b roomy books (found .x) task (found .waits) in
+        let room = fits n par (rankIn order) tree st shape stuck (need n par work out) out b roomy books (found .x) (found-first .task) (found .waits) in
         let same =
         resident-cong n par out (ended st) (λ i. mem i (found .pre)) (endedOr st (found .x)) (λ i. mem i (found .x ∷ found .pre))
         ended-in-front (λ i t d. with-x (par i) (parent-task n par (rankIn order) tree i t d))

@@ -1,13 +1,13 @@
 -- "A day. Demand 3 takes any list of commands to a plan in phase empty, each asked of any reader on any bytes (cut short or none
 -- left included), with any start list."
-use mathlib.Core.Bool.{Bool, true, false, not, cond, _&&_, _||_}
+use mathlib.Core.Bool.{Bool, true, false, cond, _&&_, _||_}
 use mathlib.Core.List.{List, [], _∷_, _++_, map}
-use Prim.Native.Nat.{ℕ, zero, suc, _+_}
-use lib.Dec.{eqb, leb, ltb}
-use lib.ListN.{length, take}
-use Rattle.rules.specs.State.{State, none}
-use Rattle.rules.specs.Command.{Command, plan, task, activation, execution, begin, done, Decoded, refused, read, decode}
-use Rattle.rules.specs.Answer.{Asking, Answer, Answered, command}
+use Prim.Native.Nat.{ℕ}
+use lib.Dec.{eqb}
+use lib.ListN.{take}
+use Rattle.rules.specs.State.{State}
+use Rattle.rules.specs.Command.{plan, task, activation, execution, begin, done, Decoded, refused, read, decode}
+use Rattle.rules.specs.Answer.{Asking, Answered, command}
 
 -- "Each finds the plan as the one before left it": the plan after a list of askings
 unfoldable pub after : State → List Asking → State

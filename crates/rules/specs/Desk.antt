@@ -1,6 +1,6 @@
 -- "The planners' desk may ask the peak of its own list of step records, one record a step, with an activation list beside it."
 use mathlib.Core.Bool.{cond, _&&_}
-use mathlib.Core.List.{List, [], _∷_, map}
+use mathlib.Core.List.{List, _∷_, map}
 use Prim.Native.Nat.{ℕ}
 use lib.Dec.{eqb, ltb}
 use lib.ListN.{length}

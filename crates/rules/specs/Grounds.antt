@@ -1,7 +1,7 @@
 -- The grounds for refusing a whole command, in the order of checks: "3; 4; then 5 for 03 and 04, 6 for DONE, and 7, 8, 9 for
 -- BEGIN". 0 is no ground.
-use mathlib.Core.Bool.{Bool, true, false, not, cond, _&&_, _||_}
-use Prim.Native.Nat.{ℕ, zero, suc, _<_}
+use mathlib.Core.Bool.{Bool, true, not, cond, _&&_}
+use Prim.Native.Nat.{ℕ}
 use lib.Dec.{eqb, leb, ltb}
 use lib.ListN.{length}
 use Rattle.rules.specs.Lists.{at, mem}

@@ -1,14 +1,14 @@
--- "Cases marked † form one table with a single claim over it." A row has what the rules give and what the paper says.
+-- The paper's cases as tables: those marked †, and the small inputs of the grounds. "Cases marked † form one table with a single
+-- claim over it." A row has what the rules give and what the paper says.
 use mathlib.Core.Bool.{Bool, true, false, _&&_}
-use mathlib.Core.List.{List, [], _∷_, _++_}
+use mathlib.Core.List.{List, [], _∷_, _++_, map}
 use Prim.Native.Nat.{ℕ}
 use lib.Dec.{eqb}
 use lib.ListN.{take, replicate}
 use Rattle.rules.specs.Lists.{at}
-use Rattle.rules.specs.State.{State, none, needs}
-use Rattle.rules.specs.Grounds.{peakOf}
+use Rattle.rules.specs.State.{none, needs}
 use Rattle.rules.specs.Command.{Command, plan, task, activation, execution, begin, done, bytes}
-use Rattle.rules.specs.Answer.{Asking, Answer, Answered, command}
+use Rattle.rules.specs.Answer.{Asking, Answered, command}
 use Rattle.rules.specs.Question.{booked, inUse}
 use Rattle.rules.specs.Day.{after}
 
@@ -37,10 +37,16 @@ unfoldable pub inOrder : List ℕ → List Command
 inOrder [] = []
 inOrder (i ∷ later) = activation i ∷ execution i ∷ inOrder later
 
--- plan A in a cold room of M places
+-- one order, then the other
+unfoldable pub inOrders : List ℕ → List ℕ → List Command
+inOrders act exec = map activation act ++ map execution exec
+
+-- plan A in a cold room of M places, without its orders and with them
+unfoldable pub tasksA : ℕ → List Command
+tasksA bound = plan 3 2 bound ∷ task 3 5 1 ∷ task 3 5 1 ∷ task 0 0 1 ∷ []
+
 unfoldable pub planA : ℕ → List Command
-planA bound =
-    (plan 3 2 bound ∷ task 3 5 1 ∷ task 3 5 1 ∷ task 0 0 1 ∷ []) ++ inOrder (1 ∷ 2 ∷ 3 ∷ [])
+planA bound = tasksA bound ++ inOrder (1 ∷ 2 ∷ 3 ∷ [])
 
 -- the bytes of plan A and of its day, in the order of the paper: "then 03 and then 04 for steps 1, 2, 3"
 unfoldable pub dayA : List ℕ
@@ -133,6 +139,67 @@ marked =
       given = last single begin .answer .number ∷ last single begin .answer .peak ∷ startedBy (last single begin);
       stated = 0 ∷ 0 ∷ 1 ∷ [];
     }
+    ∷ []
+
+-- what stands at a place of a stream, with a start list of 64 entries
+unfoldable pub reading : List ℕ → ℕ → Asking
+reading stream place = record { stream = stream; place = place; list = replicate 64 0 }
+
+-- the same with a start list of 63
+unfoldable pub short : List ℕ → Asking
+short stream = record { stream = stream; place = 0; list = replicate 63 0 }
+
+-- the counts of the answer that the last asking gets after the others: the number, bytes used, starts, peak and offers
+unfoldable pub told : List Asking → Asking → List ℕ
+told earlier a =
+    let said = command (after none earlier) a .answer in
+    said .number ∷ said .used ∷ said .starts ∷ said .peak ∷ said .offers ∷ []
+
+-- the counts of a refusal: "its number, with bytes used, starts and every other count 0"
+unfoldable pub refusal : ℕ → List ℕ
+refusal k = k ∷ 0 ∷ 0 ∷ 0 ∷ 0 ∷ []
+
+-- the small inputs of the grounds, in their order, and the limits of n and p
+unfoldable pub grounds : List Row
+grounds =
+    -- 1 `02 03 00`
+    record { given = told [] (reading (2 ∷ 3 ∷ 0 ∷ []) 0); stated = refusal 1 }
+    -- 2 `09`
+    ∷ record { given = told [] (reading (9 ∷ []) 0); stated = refusal 2 }
+    -- 3 `05` as first command
+    ∷ record { given = told [] (reading (5 ∷ []) 0); stated = refusal 3 }
+    -- 4 `01 00 00 02 07 00 00 00`
+    ∷ record { given = told [] (reading (1 ∷ 0 ∷ 0 ∷ 2 ∷ 7 ∷ 0 ∷ 0 ∷ 0 ∷ []) 0); stated = refusal 4 }
+    -- 5 `03 01 00 03 01 00` in plan A, the second command of the stream
+    ∷ record {
+      given =
+          told (asks (tasksA 7) ++ (reading (3 ∷ 1 ∷ 0 ∷ 3 ∷ 1 ∷ 0 ∷ []) 0 ∷ [])) (reading (3 ∷ 1 ∷ 0 ∷ 3 ∷ 1 ∷ 0 ∷ []) 3);
+      stated = refusal 5;
+    }
+    -- 6 `06 03 00` after A's `05`
+    ∷ record { given = told (asks (planA 7 ++ (begin ∷ []))) (reading (6 ∷ 3 ∷ 0 ∷ []) 0); stated = refusal 6 }
+    -- 7 n = 1 and step `02 01 00 00 00 00 00`, at `05`
+    ∷ record {
+      given =
+          told (ask (plan 1 1 0) ∷ reading (2 ∷ 1 ∷ 0 ∷ 0 ∷ 0 ∷ 0 ∷ 0 ∷ []) 0 ∷ asks (inOrder (1 ∷ []))) (reading (5 ∷ []) 0);
+      stated = refusal 7;
+    }
+    -- 8 A with activation order 3, 1, 2, at `05`
+    ∷ record {
+      given = told (asks (tasksA 7 ++ inOrders (3 ∷ 1 ∷ 2 ∷ []) (1 ∷ 2 ∷ 3 ∷ []))) (reading (5 ∷ []) 0);
+      stated = refusal 8;
+    }
+    -- 9 A with M = 6, at `05`
+    ∷ record { given = told (asks (planA 6)) (reading (5 ∷ []) 0); stated = refusal 9 }
+    -- 10 a list of 63, any command: one that would be accepted with 64, and no byte at all
+    ∷ record { given = told (asks (planA 7)) (short (bytes begin)); stated = refusal 10 }
+    ∷ record { given = told [] (short []); stated = refusal 10 }
+    -- n = 1,024 accepted, 1,025 refused 4
+    ∷ record { given = told [] (ask (plan 1024 1 0)); stated = 0 ∷ 8 ∷ 0 ∷ 0 ∷ 0 ∷ [] }
+    ∷ record { given = told [] (ask (plan 1025 1 0)); stated = refusal 4 }
+    -- p = 64 accepted, 65 refused 4
+    ∷ record { given = told [] (ask (plan 1 64 0)); stated = 0 ∷ 8 ∷ 0 ∷ 0 ∷ 0 ∷ [] }
+    ∷ record { given = told [] (ask (plan 1 65 0)); stated = refusal 4 }
     ∷ []
 
 -- the two lists of a row are the same

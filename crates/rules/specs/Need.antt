@@ -1,5 +1,5 @@
 -- What a task needs, and what lies in a store while tasks run. A store is left open: `work` and `out` are its counts.
-use mathlib.Core.Bool.{Bool, true, false, not, _&&_}
+use mathlib.Core.Bool.{Bool, not, _&&_}
 use Prim.Native.Nat.{ℕ, _+_}
 use lib.Dec.{eqb}
 use Rattle.rules.specs.Sums.{only, sumTo}

@@ -1,13 +1,13 @@
 -- What an accepted command does to the plan.
-use mathlib.Core.Bool.{Bool, true, false, cond}
+use mathlib.Core.Bool.{cond}
 use mathlib.Core.List.{List, [], _∷_, _++_}
-use Prim.Native.Nat.{ℕ, zero, suc, _+_}
+use Prim.Native.Nat.{ℕ, suc}
 use lib.Dec.{eqb}
 use lib.ListN.{length, set, replicate}
 use Rattle.rules.specs.Lists.{at}
 use Rattle.rules.specs.Phase
 use Rattle.rules.specs.Standing
-use Rattle.rules.specs.State.{State, Store, needs}
+use Rattle.rules.specs.State.{State, needs}
 use Rattle.rules.specs.Command.{Command, plan, task, activation, execution, begin, done}
 use Rattle.rules.specs.Grounds.{peakOf}
 use Rattle.rules.specs.Booking.{Books, Climbed, activate, starts, start, free, dispatch}

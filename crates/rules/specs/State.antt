@@ -1,5 +1,5 @@
 -- A plan and its day, as the commands have left them.
-use mathlib.Core.List.{List, [], _∷_}
+use mathlib.Core.List.{List, []}
 use Prim.Native.Nat.{ℕ}
 use Rattle.rules.specs.Lists.{at}
 use Rattle.rules.specs.Need

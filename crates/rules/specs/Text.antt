@@ -1,9 +1,9 @@
 -- "The program reads commands from standard input and prints one line per accepted BEGIN or DONE, and on a refusal `refused K at
 -- O` (number, byte offset of the command counted from 0), then stops."
-use mathlib.Core.Bool.{Bool, true, false}
+use mathlib.Core.Bool.{true, false}
 use mathlib.Core.List.{List, [], _∷_, _++_}
 use Prim.Native.Nat.{ℕ, zero, suc, _+_, _/_, _%_}
-use Prim.Native.Char.{Char, code}
+use Prim.Native.Char.{code}
 use Prim.Native.String
 use Prim.Native.String.{String}
 use lib.Dec.{eqb, leb, ltb}
@@ -11,7 +11,7 @@ use lib.ListN.{length, take, replicate}
 use Rattle.rules.specs.Limits.{leastStarts}
 use Rattle.rules.specs.State.{State, none}
 use Rattle.rules.specs.Command.{Command, plan, task, activation, execution, begin, done, Decoded, refused, read, decode}
-use Rattle.rules.specs.Answer.{Answer, Answered, command}
+use Rattle.rules.specs.Answer.{Answered, command}
 use Rattle.rules.specs.Question.{booked, inUse, fullness}
 
 -- the bytes of a text

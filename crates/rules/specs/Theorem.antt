@@ -10,9 +10,9 @@ use Rattle.rules.specs.Lists.{at, mem}
 use Rattle.rules.specs.Need
 use Rattle.rules.specs.Phase
 use Rattle.rules.specs.State.{State, none, needs}
-use Rattle.rules.specs.Answer.{Asking, command}
+use Rattle.rules.specs.Answer.{Asking}
 use Rattle.rules.specs.Question
-use Rattle.rules.specs.Day.{Event, started, ended, starts, ends, log, after, opensDay, nextPlan}
+use Rattle.rules.specs.Day.{Event, started, starts, ends, log, after, opensDay, nextPlan}
 
 -- a task has started and not ended, by what happened
 unfoldable pub runs : List Event → ℕ → Bool

@@ -1,0 +1,119 @@
+-- A worked day with refusals in it: what is promised of every day is not empty, and statements that promise more are false.
+use mathlib.Core.Path.{_≡_, refl}
+use mathlib.Core.Bool.{true, false}
+use mathlib.Core.List.{List, [], _∷_, _++_, map}
+use Prim.Native.Nat.{ℕ, _<_}
+use native.Mathlib.Omega.{arith}
+use Rattle.rules.specs.Sums.{countTo}
+use Rattle.rules.specs.State.{State, none}
+use Rattle.rules.specs.Command.{plan, begin, done, bytes}
+use Rattle.rules.specs.Answer.{Asking}
+use Rattle.rules.specs.Question
+use Rattle.rules.specs.Day.{Event, started, ended, after, answers, log, opensDay, nextPlan}
+use Rattle.rules.specs.Theorem.{runs, DayHolds}
+use Rattle.rules.specs.Marked.{ask, asks, inOrder, tasksA, planA, planC, reading, short}
+use Rattle.rules.proofs.Computing.{computing}
+use Rattle.rules.proofs.Theorem.{every-day-holds}
+
+-- the first hours of a day of plan A: no asking but the last is accepted
+unfoldable pub morning : List Asking
+morning =
+    -- a start list of 63 entries
+    short (bytes (done 1))
+    -- a task that does not run
+    ∷ ask (done 3)
+    -- a command that is cut short, an unknown byte, and no byte at all
+    ∷ reading (6 ∷ 1 ∷ []) 0
+    ∷ reading (9 ∷ []) 0
+    ∷ reading [] 0
+    -- a next plan while this one runs
+    ∷ ask (plan 3 2 7)
+    ∷ ask (done 1)
+    ∷ []
+
+-- the whole day, with reports that come twice
+unfoldable pub whole : List Asking
+whole = morning ++ (ask (done 1) ∷ ask (done 2) ∷ ask (done 3) ∷ ask (done 3) ∷ [])
+
+-- BEGIN opens the day, and no next plan is opened in it
+opens : opensDay (after none (asks (planA 7))) (ask begin) ≡ true
+unfolding computing asks tasksA planA inOrder ask
+opens = refl
+
+no-next : nextPlan (after none (asks (planA 7))) (ask begin ∷ whole) ≡ false
+unfolding computing asks tasksA planA inOrder ask reading short morning whole
+no-next = refl
+
+-- each asking is answered by its number
+pub worked-numbers :
+    map (λ a. a .answer .number) (answers (after none (asks (planA 7))) (ask begin ∷ whole))
+    ≡ 0 ∷ 10 ∷ 6 ∷ 1 ∷ 2 ∷ 1 ∷ 3 ∷ 0 ∷ 6 ∷ 0 ∷ 0 ∷ 3 ∷ []
+unfolding computing asks tasksA planA inOrder ask reading short morning whole
+worked-numbers = refl
+
+-- what happens in the day, in order
+pub worked-log :
+    log (after none (asks (planA 7))) (ask begin ∷ whole)
+    ≡ started 1 ∷ ended 1 ∷ started 2 ∷ ended 2 ∷ started 3 ∷ ended 3 ∷ []
+unfolding computing asks tasksA planA inOrder ask reading short morning whole
+worked-log = refl
+
+-- all that is promised of a day holds of it
+pub worked-holds :
+    DayHolds (after none (asks (planA 7) ++ ask begin ∷ whole))
+    (started 1 ∷ ended 1 ∷ started 2 ∷ ended 2 ∷ started 3 ∷ ended 3 ∷ [])
+worked-holds = rw worked-log at (every-day-holds (asks (planA 7)) (ask begin) whole opens no-next)
+
+-- once it is over a next plan may be opened: it ends the day, and its own BEGIN opens another
+pub worked-next : nextPlan (after none (asks (planA 7))) ((ask begin ∷ whole) ++ asks planC) ≡ true
+unfolding computing asks tasksA planA planC inOrder ask reading short morning whole
+worked-next = refl
+
+pub worked-second : opensDay (after none ((asks (planA 7) ++ ask begin ∷ whole) ++ asks planC)) (ask begin) ≡ true
+unfolding computing asks tasksA planA planC inOrder ask reading short morning whole
+worked-second = refl
+
+-- a claim about the plan and about what happened, made of every day
+abbrev Always : (State → List Event → Type 0) → Type 0
+Always claim =
+    (earlier : List Asking) (opening : Asking) (later : List Asking)
+    → opensDay (after none earlier) opening ≡ true
+    → nextPlan (after none earlier) (opening ∷ later) ≡ false
+    → claim (after none (earlier ++ opening ∷ later)) (log (after none earlier) (opening ∷ later))
+
+-- what is proved is such a claim
+pub holds-always : Always DayHolds
+holds-always = every-day-holds
+
+-- wrong: "booked trays are fewer than the places"
+abbrev pub Below : Type 0
+Below = Always (λ s _. Question.booked s < s .memory .bound)
+
+-- wrong: "fewer tasks run than there are processors"
+abbrev pub Spare : Type 0
+Spare = Always (λ s happened. countTo (runs happened) (s .size) < s .processors)
+
+-- wrong: "what is booked is in use"
+abbrev pub Tight : Type 0
+Tight = Always (λ s _. Question.inUse s ≡ Question.booked s)
+
+-- after the morning all seven places are booked
+pub not-below : Below → ⊥
+unfolding computing asks tasksA planA inOrder ask reading short morning
+not-below h =
+    let full : 7 < 7 = h (asks (planA 7)) (ask begin) morning refl refl in
+    omega arith
+
+-- in twelve places both processors run a task at once
+pub not-spare : Spare → ⊥
+unfolding computing asks tasksA planA inOrder ask
+not-spare h =
+    let both : 2 < 2 = h (asks (planA 12)) (ask begin) [] refl refl in
+    omega arith
+
+-- in plan C, once task 1 has ended, 6 trays are booked and 5 in use
+pub not-tight : Tight → ⊥
+unfolding computing asks planC inOrder ask
+not-tight h =
+    let one : _≡_ {A = ℕ} 5 6 = h (asks planC) (ask begin) (ask (done 1) ∷ []) refl refl in
+    omega arith
