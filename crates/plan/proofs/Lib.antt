@@ -8,6 +8,7 @@ pub mod Weighing
 pub mod Held
 pub mod Unended
 pub mod ReadyIn
+pub mod Using
 -- sharing out, booking ahead and ending, one turn after the other
 pub mod Way
 pub mod Turning
