@@ -6,7 +6,7 @@ use Prim.Native.Nat.{ℕ, suc, _+_, _-_, _^_, _≤_, _<_}
 use native.Mathlib.Nat.{add-zero, add-assoc}
 use native.Mathlib.Omega.{arith}
 use lib.Dec.{ltb}
-use lib.ListN.{length, take, set, length-append, length-drop}
+use lib.ListN.{length, take, set, length-append, length-drop, length-set}
 use lib.Seq.{append-snoc}
 use borrow.Author.Tests.{lt-ltb, le-ltb}
 use Rattle.rules.specs.Lists.{at, first}
@@ -57,7 +57,7 @@ module _ {n processors : ℕ} {works outs execution places unfed standings₀ bl
   none-yet =
       record {
         done = [];
-        begun = record { counted = refl; listed = refl; run = refl; agrees = s .agrees; numbers = sym (more-none h₀) };
+        begun = record { counted = refl; listed = refl; run = refl; agrees = s .agrees; blocks-size = s .blocks-size; numbers = sym (more-none h₀) };
         whole = refl;
         busy = s .busy;
       }
@@ -183,6 +183,7 @@ module _ {n processors : ℕ} {works outs execution places unfed standings₀ bl
                         (sym (front-more (g .done) list₀ x (omega (arith, so-many))));
                     run = ran ∙ ap (λ (l : List ℕ). set l x running) (g .begun .run) ∙ sym (start-more (g .done) standings₀ x);
                     agrees = rw (ran, fewer) (agrees-run n (at places) standings unfed blocks (g .begun .agrees) x task ready);
+                    blocks-size = rw (fewer, length-set) (g .begun .blocks-size);
                     numbers =
                         one
                         ∙ ap (λ (k : Numbers). more k 1 (f x)) (g .begun .numbers)

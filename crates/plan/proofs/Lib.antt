@@ -9,6 +9,7 @@ pub mod Held
 pub mod Unended
 pub mod ReadyIn
 pub mod Using
+pub mod Idle
 -- sharing out, booking ahead and ending, one turn after the other
 pub mod Way
 pub mod Turning
@@ -18,3 +19,5 @@ pub mod First
 pub mod Blocks
 pub mod Picks
 pub mod Begun
+pub mod Chosen
+pub mod Advancing

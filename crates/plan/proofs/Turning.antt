@@ -95,12 +95,13 @@ module _ {n bound : ℕ} {par need : ℕ → ℕ} {order : List ℕ} {place : �
     {booked₀ standings₀ booked figures standings blocks : List ℕ} {next sum : ℕ}
     (turning : Turning n bound par need order place unfed goal booked₀ standings₀ booked figures standings blocks next sum) where
   -- what is promised once nothing more is to be booked
-  ends : goal ≡ booksIn n standings booked → DidBook n par order place goal booked₀ standings₀ booked figures standings blocks next sum
+  ends : goal ≡ booksIn n standings booked → DidBook n par order place goal unfed booked₀ standings₀ booked figures standings blocks next sum
   ends e =
       record {
         sizes = turning .sizes;
         books = sym e;
         figured = turning .figured;
+        counted = turning .counted;
         blocked = turning .blocked;
         reached = turning .reached;
         totals = turning .totals;
@@ -109,7 +110,7 @@ module _ {n bound : ℕ} {par need : ℕ → ℕ} {order : List ℕ} {place : �
       }
 
   -- the whole order is booked
-  pub turning-end : n ≤ next → DidBook n par order place goal booked₀ standings₀ booked figures standings blocks next sum
+  pub turning-end : n ≤ next → DidBook n par order place goal unfed booked₀ standings₀ booked figures standings blocks next sum
   unfolding activate
   turning-end h =
       let size = turning .going .valid .whole in
@@ -178,7 +179,7 @@ module _ {n bound : ℕ} {par need : ℕ → ℕ} {order : List ℕ} {place : �
 
       -- it does not fit
       pub turning-stop :
-          bound - sum < m → DidBook n par order place goal booked₀ standings₀ booked figures standings blocks next sum
+          bound - sum < m → DidBook n par order place goal unfed booked₀ standings₀ booked figures standings blocks next sum
       unfolding allows
       turning-stop over =
           let fits = turning .fits in

@@ -61,10 +61,11 @@ pub record MayBook (n bound : ℕ) (parents needs activation places unfed booked
   pub totals : sum ≡ total n (at (booksIn n standings booked .booked))
 
 pub record DidBook (n : ℕ) (par : ℕ → ℕ) (order : List ℕ) (place : ℕ → ℕ) (goal : Books)
-    (booked₀ standings₀ booked figures standings blocks : List ℕ) (next sum : ℕ) : Type 0 where
+    (unfed booked₀ standings₀ booked figures standings blocks : List ℕ) (next sum : ℕ) : Type 0 where
   pub sizes : Sizes booked figures standings blocks
   pub books : booksIn n standings booked ≡ goal
   pub figured : Figured n par (booksIn n standings booked) figures
+  pub counted : Counted n par (booksIn n standings booked) unfed
   pub blocked : Blocked n par (booksIn n standings booked) place blocks
   pub reached : Reached n order (booksIn n standings booked) next
   pub totals : sum ≡ total n (at (booksIn n standings booked .booked))

@@ -9,3 +9,4 @@ pub mod Finish
 pub mod Starting
 pub mod Ready
 pub mod Start
+pub mod Advance

@@ -40,6 +40,7 @@ pub record CanStart (n processors : ℕ) (works outs execution places unfed stan
   pub room : leastStarts ≤ length list
   pub placed : Placed n (take n execution) (at places)
   pub agrees : Agrees n (at places) standings unfed blocks
+  pub blocks-size : length blocks ≡ 32
   pub fits : h .used + trays works outs (chosen n processors execution unfed standings h) < 2 ^ 32
 
 -- the tasks l run, and are written to the front of the start list
@@ -49,4 +50,5 @@ pub record Begun (l : List ℕ) (n : ℕ) (works outs places unfed standings : L
   pub listed : list′ ≡ front l list
   pub run : standings′ ≡ start l standings
   pub agrees : Agrees n (at places) standings′ unfed blocks′
+  pub blocks-size : length blocks′ ≡ 32
   pub numbers : h′ ≡ more h (length l) (trays works outs l)

@@ -70,7 +70,7 @@ pub(crate) fn book_ahead<'a>(
     numbers: Numbers,
 ) -> Numbers
     requires { ⌜ MayBook n bound (now parents) (now needs) (now activation) (now places) (now unfed) (now booked) (now figures) (now standings) (now blocks) (numbers .next) (numbers .booked) ⌝ }
-    ensures { λ r. ⌜ (DidBook n (at (now (parents .entry))) (take n (now (activation .entry))) (at (now (places .entry))) (activate n (at (now (parents .entry))) (at (now (needs .entry))) bound (take n (now (activation .entry))) (booksIn n (now (standings .entry)) (now (booked .entry)))) (now (booked .entry)) (now (standings .entry)) (now (booked .exit)) (now (figures .exit)) (now (standings .exit)) (now (blocks .exit)) (r .next) (r .booked)) × (r .running ≡ numbers .running) × (r .finished ≡ numbers .finished) × (r .used ≡ numbers .used) ⌝ }
+    ensures { λ r. ⌜ (DidBook n (at (now (parents .entry))) (take n (now (activation .entry))) (at (now (places .entry))) (activate n (at (now (parents .entry))) (at (now (needs .entry))) bound (take n (now (activation .entry))) (booksIn n (now (standings .entry)) (now (booked .entry)))) (now (unfed .entry)) (now (booked .entry)) (now (standings .entry)) (now (booked .exit)) (now (figures .exit)) (now (standings .exit)) (now (blocks .exit)) (r .next) (r .booked)) × (r .running ≡ numbers .running) × (r .finished ≡ numbers .finished) × (r .used ≡ numbers .used) ⌝ }
 {
     let mut next = numbers.next;
     let mut total = numbers.booked;

@@ -1,4 +1,5 @@
 // The plan of a kitchen's day: commands in, answers out.
+mod advance;
 mod ahead;
 mod climb;
 mod finish;

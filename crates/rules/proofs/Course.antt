@@ -79,12 +79,12 @@ module _ (n : ℕ) (par : ℕ → ℕ) (order : List ℕ) (valid : Valid n par o
     (k k₁ : Books) (good : Good n par (rankIn order) need out bound k)
     (staffed : count n (at (k .standings)) running ≤ processors) (ahead : k₁ ≡ activate n par need bound order k) (l : List ℕ)
     (begun : l ≡ starts n par execution (free n processors (k₁ .standings)) (k₁ .standings)) where
-  activated-ahead : Activated n par (rankIn order) need out bound k k₁
+  pub activated-ahead : Activated n par (rankIn order) need out bound k k₁
   activated-ahead =
       rw ahead (activates n par order valid tree need out roomy bound [] order k refl (λ j m. absurd (nobody j m)) good)
 
   -- booking ahead starts and ends nobody
-  same-ahead :
+  pub same-ahead :
       (i : ℕ)
       → Task n i
       → (at (k₁ .standings) i ≡ at (k .standings) i) ⊎ ((at (k .standings) i ≤ activated) × (at (k₁ .standings) i ≤ activated))
@@ -92,24 +92,24 @@ module _ (n : ℕ) (par : ℕ → ℕ) (order : List ℕ) (valid : Valid n par o
       ⊎-elim (λ w. inr (omega arith, activated-ahead .waited i t w)) (λ d. inl (activated-ahead .kept i t d))
       (same-or-not (at (k .standings) i) waiting)
 
-  running-ahead : count n (at (k₁ .standings)) running ≡ count n (at (k .standings)) running
+  pub running-ahead : count n (at (k₁ .standings)) running ≡ count n (at (k .standings)) running
   unfolding count
   running-ahead =
       count-cong (λ i. eqb (at (k₁ .standings) i) running) (λ i. eqb (at (k .standings) i) running) n
       (λ i t. eqb-above _ _ activated running (omega arith) (same-ahead i t))
 
-  may-start : Startable n par (k₁ .standings) l
+  pub may-start : Startable n par (k₁ .standings) l
   may-start = rw begun (starts-startable n par execution inside (free n processors (k₁ .standings)) (k₁ .standings))
 
   sized-ahead : length (k₁ .standings) ≡ suc n
   sized-ahead = activated-ahead .good .sized .standings
 
-  kind : (i : ℕ) → (at (start l (k₁ .standings)) i ≡ at (k₁ .standings) i)
+  pub kind : (i : ℕ) → (at (start l (k₁ .standings)) i ≡ at (k₁ .standings) i)
       ⊎ ((at (k₁ .standings) i ≡ activated) × (at (start l (k₁ .standings)) i ≡ running))
   kind = start-kind n par l (k₁ .standings) sized-ahead may-start
 
   -- so many run then
-  running-then : count n (at (start l (k₁ .standings))) running ≡ count n (at (k .standings)) running + length l
+  pub running-then : count n (at (start l (k₁ .standings))) running ≡ count n (at (k .standings)) running + length l
   running-then =
       start-count n par l (k₁ .standings) sized-ahead may-start ∙ ap (λ (v : ℕ). v + length l) running-ahead
 
@@ -121,16 +121,16 @@ module _ (n : ℕ) (par : ℕ → ℕ) (order : List ℕ) (valid : Valid n par o
       omega arith
 
   -- starting ends nobody
-  same-ended : (c : ℕ) → Task n c → eqb (at (start l (k₁ .standings)) c) finished ≡ eqb (at (k₁ .standings) c) finished
+  pub same-ended : (c : ℕ) → Task n c → eqb (at (start l (k₁ .standings)) c) finished ≡ eqb (at (k₁ .standings) c) finished
   same-ended c _ =
       eqb-above _ _ running finished (omega arith)
       (⊎-elim inl (λ h. inr (omega (arith, h .0), omega (arith, h .1))) (kind c))
 
   -- who waits afterwards waited after booking ahead, and the other way round
-  waits-before : (i : ℕ) → at (start l (k₁ .standings)) i ≡ waiting → at (k₁ .standings) i ≡ waiting
+  pub waits-before : (i : ℕ) → at (start l (k₁ .standings)) i ≡ waiting → at (k₁ .standings) i ≡ waiting
   waits-before i w = ⊎-elim (λ e. sym e ∙ w) (λ h. absurd (omega (arith, h .1))) (kind i)
 
-  waits-after : (i : ℕ) → at (k₁ .standings) i ≡ waiting → at (start l (k₁ .standings)) i ≡ waiting
+  pub waits-after : (i : ℕ) → at (k₁ .standings) i ≡ waiting → at (start l (k₁ .standings)) i ≡ waiting
   waits-after i w = ⊎-elim (λ e. e ∙ w) (λ h. absurd (omega (arith, h .0))) (kind i)
 
   settles :
