@@ -141,7 +141,7 @@ fn late(n: usize, parents: &[u16], places: &[u16; ENTRIES]) -> usize
 }
 
 // The number of the first ground against the order and the parents, or 0.
-pub(crate) fn ground(n: usize, parents: &[u16], activation: &[u16]) -> u8
+pub(crate) fn ground<'a>(n: usize, parents: &'a [u16], activation: &'a [u16]) -> u8
     requires { ⌜ within n maxTasks ≡ true ⌝ }
     requires { ⌜ n < length (now parents) ⌝ }
     requires { ⌜ n ≤ length (now activation) ⌝ }

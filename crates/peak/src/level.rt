@@ -14,7 +14,7 @@ ghost use Rattle.rules.specs.Desk.{deskGround};
 ghost use Rattle.peak.specs.Checks.{isStray};
 
 // Adds the out of each task to the entry of its parent.
-pub(crate) fn feed(n: usize, parents: &[u16], outs: &[u32], fed: &mut [u64; ENTRIES])
+pub(crate) fn feed<'a>(n: usize, parents: &'a [u16], outs: &'a [u32], fed: &mut [u64; ENTRIES])
     requires { ⌜ n ≤ maxTasks ⌝ }
     requires { ⌜ n < length (now parents) ⌝ }
     requires { ⌜ n < length (now outs) ⌝ }
@@ -46,12 +46,12 @@ fn kept(parent: u16, out: u64) -> u64
 }
 
 // The peak of an order against which there is no ground.
-pub(crate) fn highest(
+pub(crate) fn highest<'a>(
     n: usize,
-    parents: &[u16],
-    works: &[u32],
-    outs: &[u32],
-    activation: &[u16],
+    parents: &'a [u16],
+    works: &'a [u32],
+    outs: &'a [u32],
+    activation: &'a [u16],
     fed: &[u64; ENTRIES],
 ) -> u64
     requires { ⌜ n < length (now parents) ⌝ }

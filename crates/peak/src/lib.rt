@@ -21,12 +21,12 @@ pub struct Surveyed {
 // The first ground against n tasks with these parents and this order, and the order's peak where
 // there is none. Entry i of a column belongs to task i; the order is the first n entries of
 // `activation`.
-pub fn survey(
+pub fn survey<'a>(
     n: usize,
-    parents: &[u16],
-    works: &[u32],
-    outs: &[u32],
-    activation: &[u16],
+    parents: &'a [u16],
+    works: &'a [u32],
+    outs: &'a [u32],
+    activation: &'a [u16],
 ) -> Surveyed
     ensures { λ r. ⌜ surveyed n (now (parents .entry)) (now (works .entry)) (now (outs .entry)) (now (activation .entry))
         ≡ record { number = r .number; peak = r .peak } ⌝ }
