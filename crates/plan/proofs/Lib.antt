@@ -3,6 +3,7 @@
 pub mod Front
 pub mod Entries
 pub mod Placing
+pub mod Meant
 -- what a task needs and holds, and who is ready
 pub mod Weighing
 pub mod Held
@@ -10,6 +11,9 @@ pub mod Unended
 pub mod ReadyIn
 pub mod Using
 pub mod Idle
+-- questions
+pub mod Counting
+pub mod Asked
 -- sharing out, booking ahead and ending, one turn after the other
 pub mod Way
 pub mod Turning
@@ -21,3 +25,12 @@ pub mod Picks
 pub mod Begun
 pub mod Chosen
 pub mod Advancing
+pub mod Refusing
+pub mod Proceeding
+pub mod Reporting
+-- a plan as it is built
+pub mod Obeying
+pub mod Blank
+pub mod Opening
+pub mod Adding
+pub mod Ordering

@@ -10,7 +10,7 @@ use Rattle.rules.specs.Sums.{Task, only, sumTo}
 use Rattle.rules.specs.Need.{childrenOut, need, resident, inUse}
 use Rattle.rules.specs.Standing.{waiting, activated, running, finished}
 use Rattle.rules.proofs.Tests.{same-or-not, eqb-sym}
-use Rattle.rules.proofs.Sums.{sum-cong, sum-add, sum-change, sum-single, sum-zero, only-true, only-false, only-add, only-swap, only-zero}
+use Rattle.rules.proofs.Sums.{sum-cong, term-le, sum-add, sum-change, sum-single, sum-zero, only-true, only-false, only-add, only-swap, only-zero}
 use Rattle.rules.proofs.Children.{children, children-out, children-cong, children-change, resident-by-parent}
 use Rattle.rules.proofs.Shape.{Moved}
 use Rattle.rules.proofs.Usage.{hasEnded, hasBegun}
@@ -34,6 +34,20 @@ module _ (n : ℕ) (par work out : ℕ → ℕ) (within : (i : ℕ) → Task n i
       sum-add (λ i. only (hasBegun st i && not (hasEnded st i)) (need n par work out i))
       (λ i. only (not (hasBegun st i)) (children n par (λ c. only (hasEnded st c) (out c)) i)) n
       in
+      omega arith
+
+  -- a running task's need is in use
+  pub used-holds : (st : ℕ → ℕ) (j : ℕ) → Task n j → st j ≡ running → need n par work out j ≤ usedBy n par work out st
+  unfolding charge
+  used-holds st j t runs =
+      let begun : hasBegun st j ≡ true = le-leb running (st j) (omega arith) in
+      let unended : hasEnded st j ≡ false = ne-eqb (st j) finished (λ q. omega arith) in
+      let mine =
+          only-true (hasBegun st j && not (hasEnded st j)) (need n par work out j)
+          (ap₂ (λ (a b : Bool). a && not b) begun unended)
+      in
+      let part = term-le (charge n par work out st) n j t in
+      let all = used-is st in
       omega arith
 
   -- a booked task whose children have ended starts

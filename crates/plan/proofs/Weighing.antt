@@ -111,7 +111,7 @@ pub record Bounded (parents works outs needs unfed : List ℕ) (i : ℕ) : Type 
   pub children : at unfed (at parents i) + 1 < 2 ^ 16
 
 -- a column of zeros
-zeros : (m a : ℕ) → at (replicate m 0) a ≡ 0
+pub zeros : (m a : ℕ) → at (replicate m 0) a ≡ 0
 zeros zero zero = refl
 zeros zero (suc a) = refl
 zeros (suc m) zero = refl

@@ -1,7 +1,13 @@
 -- What the code keeps, and what it means.
 pub mod Kept
+pub mod Meaning
+pub mod Sound
+pub mod Led
+pub mod InDay
+pub mod Blank
 -- what each part asks and promises
 pub mod Place
+pub mod Order
 pub mod Weigh
 pub mod Ahead
 pub mod Climb

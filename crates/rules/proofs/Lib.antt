@@ -34,6 +34,7 @@ pub mod Waiting
 pub mod Starts
 pub mod Sharing
 -- the list of commands
+pub mod Judging
 pub mod Log
 pub mod Formed
 pub mod Course

@@ -30,7 +30,7 @@ use Rattle.rules.proofs.Formed.{Accepted, demand-none}
 use Rattle.rules.proofs.InDay.{InDay, Closing, open-day, closed, booksOf, tree, needs-roomy, proceeds, proceed-in-day}
 
 -- one fewer runs
-one-fewer :
+pub one-fewer :
     (n : ℕ) (st : List ℕ) (j : ℕ)
     → length st ≡ suc n
     → Task n j
