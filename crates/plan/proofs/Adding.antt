@@ -146,6 +146,7 @@ filled-sound p parent work out sound steps w o =
             unopened = λ e. absurd (omega (arith, phase .named));
             in-steps = λ e. (omega arith, let d = phase .more e in below (p .rows) (p .size) (row .1) d);
             whole = λ h. let e = phase .last h in omega arith;
+            some = λ h. omega (arith, row .0, row .1);
           };
       activation = sound .activation;
       execution = sound .execution;

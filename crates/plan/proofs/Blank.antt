@@ -45,6 +45,7 @@ blank-sound =
             unopened = λ _. refl;
             in-steps = λ e. absurd (omega arith);
             whole = λ h. absurd (omega arith);
+            some = λ h. absurd (omega arith);
           };
       activation = record { few = omega arith; noted = λ e h. absurd (omega arith) };
       execution = record { few = omega arith; noted = λ e h. absurd (omega arith) };

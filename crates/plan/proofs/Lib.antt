@@ -28,6 +28,7 @@ pub mod Advancing
 pub mod Refusing
 pub mod Proceeding
 pub mod Reporting
+pub mod Beginning
 -- a plan as it is built
 pub mod Obeying
 pub mod Blank

@@ -83,6 +83,7 @@ opening-sound n processors bound tasks staff fits =
             unopened = λ e. absurd (omega arith);
             in-steps = λ _. (omega arith, low);
             whole = λ h. absurd (omega arith);
+            some = λ h. absurd (omega arith);
           };
       activation = record { few = omega arith; noted = λ e h. absurd (omega arith) };
       execution = record { few = omega arith; noted = λ e h. absurd (omega arith) };

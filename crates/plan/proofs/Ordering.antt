@@ -218,7 +218,7 @@ ranking-sound p i sound allow =
       parents = sound .parents;
       works = sound .works;
       outs = sound .outs;
-      given = record { unopened = given .unopened; in-steps = given .in-steps; whole = given .whole };
+      given = record { unopened = given .unopened; in-steps = given .in-steps; whole = given .whole; some = given .some };
       activation =
           order-more (p .phase) (p .size) (p .ranked) i (p .activation) (p .ranks) (sound .small) (long .activation)
           (long .ranks) (sound .activation) allow;
@@ -254,7 +254,7 @@ placing-sound p i sound allow =
       parents = sound .parents;
       works = sound .works;
       outs = sound .outs;
-      given = record { unopened = given .unopened; in-steps = given .in-steps; whole = given .whole };
+      given = record { unopened = given .unopened; in-steps = given .in-steps; whole = given .whole; some = given .some };
       activation = sound .activation;
       execution =
           order-more (p .phase) (p .size) (p .placed) i (p .execution) (p .places) (sound .small) (long .execution)

@@ -153,6 +153,7 @@ module _ {p : Plan} (whole : Whole p)
                 unopened = λ e. absurd (omega arith);
                 in-steps = λ e. absurd (omega arith);
                 whole = λ _. s .given .whole (whole .given);
+                some = λ _. s .given .some (whole .given);
               };
           activation = s .activation;
           execution = s .execution;

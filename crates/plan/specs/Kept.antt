@@ -94,6 +94,10 @@ pub record Placed (n : ℕ) (execution : List ℕ) (place : ℕ → ℕ) : Type 
   pub whole : length execution ≡ n
   pub placed : (e : ℕ) → e < n → place (at execution e) ≡ e
 
+-- the numbers of a day on which nothing has happened
+abbrev pub unmoved : Numbers
+unmoved = record { next = 0; running = 0; finished = 0; booked = 0; used = 0 }
+
 -- the books in the arrays of a plan of n
 abbrev pub booksIn : ℕ → List ℕ → List ℕ → Books
 booksIn n standings booked = record { standings = front n standings; booked = front n booked }

@@ -33,6 +33,7 @@ pub record Given (p : Plan) : Type 0 where
   pub unopened : p .phase ≡ Phase.empty → p .rows ≡ 0
   pub in-steps : p .phase ≡ Phase.steps → (1 ≤ p .rows) × (p .rows ≤ p .size)
   pub whole : Phase.orders ≤ p .phase → p .rows ≡ suc (p .size)
+  pub some : Phase.orders ≤ p .phase → 1 ≤ p .size
 
 -- an order as far as it is given, with the places of its tasks
 pub record Noted (size count : ℕ) (order places : List ℕ) : Type 0 where

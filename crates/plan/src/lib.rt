@@ -2,6 +2,7 @@
 mod advance;
 mod ahead;
 pub mod answer;
+mod begin;
 mod climb;
 mod finish;
 mod numbers;

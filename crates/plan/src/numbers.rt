@@ -1,4 +1,7 @@
 // The numbers of a day.
+ghost use mathlib.Core.Path.{_≡_};
+ghost use Rattle.plan.specs.Kept.{unmoved};
+
 pub struct Numbers {
     // how far booking ahead has come in the activation order
     pub next: usize,
@@ -12,7 +15,9 @@ pub struct Numbers {
 
 impl Numbers {
     // Of a day on which nothing has happened.
-    pub(crate) fn new() -> Self {
+    pub(crate) fn new() -> Self
+        ensures { λ r. ⌜ r ≡ unmoved ⌝ }
+    {
         Numbers {
             next: 0,
             running: 0,
