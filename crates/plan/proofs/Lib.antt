@@ -29,6 +29,7 @@ pub mod Refusing
 pub mod Proceeding
 pub mod Reporting
 pub mod Beginning
+pub mod Responding
 -- a plan as it is built
 pub mod Obeying
 pub mod Blank

@@ -4,6 +4,7 @@ mod ahead;
 pub mod answer;
 mod begin;
 mod climb;
+mod command;
 mod finish;
 mod numbers;
 mod open;

@@ -42,7 +42,7 @@ not-read :
 unfolding respond refuse
 not-read s k list e = ap (λ (t : Bool). cond t (refuse 10 s list) (refuse k s list) .state) e
 
-is-read :
+pub is-read :
     (s : State) (c : Command) (used : ℕ) (list : List ℕ)
     → ltb (length list) leastStarts ≡ false
     → respond s (read c used) list ≡ judge s c used list
