@@ -14,8 +14,8 @@ use Rattle.rules.specs.State.{State, none}
 use Rattle.rules.specs.Command.{Command, plan, task, activation, execution, begin, done}
 use Rattle.rules.specs.Grounds.{inTurn, inLimits, within, demand, ownGround, ground}
 use Rattle.rules.specs.Obey.{opened, withTask, withOrders, withBooks, proceed, obey}
-use Rattle.rules.proofs.Tests.{and-true, and-both}
-use Rattle.rules.proofs.Orders.{every-append, distinct-snoc}
+use Rattle.rules.proofs.Tests.{and-true}
+use Rattle.rules.proofs.Orders.{every-snoc, distinct-snoc}
 
 -- no ground is left where a test holds and none of those behind it
 pub demand-none : (t : Bool) (k rest : ℕ) → (k ≡ 0 → ⊥) → demand t k rest ≡ 0 → (t ≡ true) × (rest ≡ 0)
@@ -66,17 +66,6 @@ at-snoc [] x limit h b zero = b
 at-snoc [] x limit h b (suc i) = omega arith
 at-snoc (y ∷ l) x limit h b zero = h 0
 at-snoc (y ∷ l) x limit h b (suc i) = at-snoc l x limit (λ k. h (suc k)) b i
-
--- one entry more in an order
-order-more :
-    (n : ℕ) (l : List ℕ) (x : ℕ)
-    → every (λ i. within i n) l ≡ true
-    → within x n ≡ true
-    → every (λ i. within i n) (l ++ (x ∷ [])) ≡ true
-unfolding every
-order-more n l x h w =
-    every-append (λ i. within i n) l (x ∷ [])
-    ∙ and-both (every (λ i. within i n) l) (within x n && true) h (and-both (within x n) true w refl)
 
 -- the entry is not in that order yet
 new-entry : (x : ℕ) (l : List ℕ) → demand (not (mem x l)) 5 0 ≡ 0 → mem x l ≡ false
@@ -129,7 +118,7 @@ obey-formed s (task parent work out) a h =
 obey-formed s (activation i) a h =
     record {
       parents = h .parents;
-      activation-inside = order-more (s .size) (s .activation) i (h .activation-inside) (a .limits);
+      activation-inside = every-snoc (λ k. within k (s .size)) (s .activation) i (h .activation-inside) (a .limits);
       activation-once = distinct-snoc (s .activation) i (h .activation-once) (new-entry i (s .activation) (a .own));
       execution-inside = h .execution-inside;
       execution-once = h .execution-once;
@@ -140,7 +129,7 @@ obey-formed s (execution i) a h =
       parents = h .parents;
       activation-inside = h .activation-inside;
       activation-once = h .activation-once;
-      execution-inside = order-more (s .size) (s .execution) i (h .execution-inside) (a .limits);
+      execution-inside = every-snoc (λ k. within k (s .size)) (s .execution) i (h .execution-inside) (a .limits);
       execution-once = distinct-snoc (s .execution) i (h .execution-once) (new-entry i (s .execution) (a .own));
       staffed = h .staffed;
     }

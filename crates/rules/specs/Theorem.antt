@@ -12,7 +12,7 @@ use Rattle.rules.specs.Phase
 use Rattle.rules.specs.State.{State, none, needs}
 use Rattle.rules.specs.Answer.{Asking}
 use Rattle.rules.specs.Question
-use Rattle.rules.specs.Day.{Event, started, starts, ends, log, after, opensDay, nextPlan}
+use Rattle.rules.specs.Day.{Event, started, ended, starts, ends, log, after, opensDay, nextPlan}
 
 -- a task has started and not ended, by what happened
 unfoldable pub runs : List Event → ℕ → Bool
@@ -28,6 +28,9 @@ usedBy s happened =
 -- what is promised of a day: s is the plan as it stands, and `happened` the day's starts and ends so far, in order. The day's
 -- reports that were accepted are its ends
 pub record DayHolds (s : State) (happened : List Event) : Type 0 where
+  -- what starts and what ends is a step of the plan
+  pub starting : (i : ℕ) → mem i (starts happened) ≡ true → Task (s .size) i
+  pub ending : (i : ℕ) → mem i (ends happened) ≡ true → Task (s .size) i
   -- "no step has started twice"
   pub once :
       (earlier later : List Event) (i : ℕ) → happened ≡ earlier ++ started i ∷ later → mem i (starts earlier) ≡ false
@@ -39,14 +42,21 @@ pub record DayHolds (s : State) (happened : List Event) : Type 0 where
       → Task (s .size) c
       → at (s .parents) c ≡ i
       → mem c (ends earlier) ≡ true
+  -- a step "runs in between": what ends has started, and has not ended before
+  pub ran :
+      (earlier later : List Event) (i : ℕ) → happened ≡ earlier ++ ended i ∷ later → runs earlier i ≡ true
+  -- no more than n reports are accepted
+  pub most : length (ends happened) ≤ s .size
   -- "some step is running exactly while fewer than n of the day's reports were accepted"
   pub going : ((i : ℕ) × Task (s .size) i × (runs happened i ≡ true)) ↔ (length (ends happened) < s .size)
-  -- "at the n-th each has started and ended"; the phase is over then and only then
+  -- "at the n-th each has started and ended"
   pub complete :
       length (ends happened) ≡ s .size
       → (i : ℕ)
       → Task (s .size) i
       → (mem i (starts happened) ≡ true) × (mem i (ends happened) ≡ true)
+  -- the phase is running until then, and over from then on
+  pub running : (s .phase ≡ Phase.running) ↔ (length (ends happened) < s .size)
   pub over : (s .phase ≡ Phase.over) ↔ (length (ends happened) ≡ s .size)
   -- what the plan answers for trays in use is what the starts and ends give
   pub used : Question.inUse s ≡ usedBy s happened
