@@ -12,7 +12,7 @@ use Rattle.rules.specs.Phase
 use Rattle.rules.specs.State.{State, none, needs}
 use Rattle.rules.specs.Answer.{Asking}
 use Rattle.rules.specs.Question
-use Rattle.rules.specs.Day.{Event, started, ended, starts, ends, log, after, opensDay, nextPlan}
+use Rattle.rules.specs.Day.{Event, started, ended, starts, ends, log, after, acceptedOnly, opensDay, nextPlan}
 
 -- a task has started and not ended, by what happened
 unfoldable pub runs : List Event → ℕ → Bool
@@ -67,11 +67,37 @@ pub record DayHolds (s : State) (happened : List Event) : Type 0 where
   pub staffed : countTo (runs happened) (s .size) ≤ s .processors
   pub exact : (i : ℕ) → Task (s .size) i → runs happened i ≡ true → at (s .memory .booked) i ≡ needs s i
 
+-- the plan itself is the same: its steps, its stations and its orders
+pub record SamePlan (s s′ : State) : Type 0 where
+  pub size : s′ .size ≡ s .size
+  pub processors : s′ .processors ≡ s .processors
+  pub parents : s′ .parents ≡ s .parents
+  pub works : s′ .memory .works ≡ s .memory .works
+  pub outs : s′ .memory .outs ≡ s .memory .outs
+  pub activation : s′ .activation ≡ s .activation
+  pub execution : s′ .execution ≡ s .execution
+
 -- For every list of askings, refused ones included: a BEGIN that is accepted after some of them opens a day, and after each
--- command of the day, as long as no next plan is opened, all this holds.
-abbrev pub EveryDayHolds : Type 0
-EveryDayHolds =
+-- command of the day, as long as no next plan is opened, a claim holds of the plan that BEGIN found, of the plan as it stands and
+-- of what happened in the day.
+abbrev pub EveryDay : (State → State → List Event → Type 0) → Type 0
+EveryDay claim =
     (earlier : List Asking) (opening : Asking) (later : List Asking)
     → opensDay (after none earlier) opening ≡ true
     → nextPlan (after none earlier) (opening ∷ later) ≡ false
-    → DayHolds (after none (earlier ++ opening ∷ later)) (log (after none earlier) (opening ∷ later))
+    → claim (after none earlier) (after none (earlier ++ opening ∷ later)) (log (after none earlier) (opening ∷ later))
+
+-- all that is promised of a day holds of every day
+abbrev pub EveryDayHolds : Type 0
+EveryDayHolds = EveryDay (λ _ s happened. DayHolds s happened)
+
+-- the theorem: what holds of every list of askings, day by day and as a whole
+pub record Theorem : Type 0 where
+  pub days : EveryDayHolds
+  -- in a day the plan stays as BEGIN found it
+  pub plans : EveryDay (λ found s _. SamePlan found s)
+  -- and so do the places of the cold room
+  pub places : EveryDay (λ found s _. s .memory .bound ≡ found .memory .bound)
+  -- "from the accepted commands alone": without those that are refused the plan is the same, and so is what happened
+  pub refusals : (s : State) (asks : List Asking) → after s asks ≡ after s (acceptedOnly s asks)
+  pub silent : (s : State) (asks : List Asking) → log s asks ≡ log s (acceptedOnly s asks)
