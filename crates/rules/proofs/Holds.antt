@@ -1,6 +1,6 @@
 -- What is promised of a day follows from what is kept of it.
-use mathlib.Core.Path.{_≡_, sym, ap₂, _∙_}
-use mathlib.Core.Bool.{Bool, true, not, _&&_}
+use mathlib.Core.Path.{_≡_, sym, ap, ap₂, _∙_}
+use mathlib.Core.Bool.{Bool, true, not, _&&_, _||_}
 use mathlib.Core.Logic.{_↔_, ⊎-elim}
 use mathlib.Core.List.{List}
 use Prim.Native.Nat.{ℕ, _+_, _≤_, _<_}
@@ -12,14 +12,14 @@ use Rattle.rules.specs.Sums.{only, countTo}
 use Rattle.rules.specs.Lists.{at, mem, every}
 use Rattle.rules.specs.Need
 use Rattle.rules.specs.Phase
-use Rattle.rules.specs.Standing.{activated, running, finished, count}
+use Rattle.rules.specs.Standing.{activated, running, finished, count, counts}
 use Rattle.rules.specs.State.{State, needs}
 use Rattle.rules.specs.Grounds.{within, peakOf}
 use Rattle.rules.specs.Booking.{total, lacks, allows, ready, fed}
 use Rattle.rules.specs.Question
 use Rattle.rules.specs.Day.{Event, starts, ends}
 use Rattle.rules.specs.Theorem.{runs, usedBy, DayHolds}
-use Rattle.rules.proofs.Tests.{clash, same-or-not, and-both}
+use Rattle.rules.proofs.Tests.{clash, same-or-not, or-left, or-right, and-both}
 use Rattle.rules.proofs.Sums.{Task, sum-cong, sum-zero, counted, none-counted, count-le, count-all, only-le, only-mono, only-true, only-false}
 use Rattle.rules.proofs.Counts.{count-full, count-cong}
 use Rattle.rules.proofs.Orders.{within-task, every-mem, sum-members, sum-length}
@@ -206,8 +206,40 @@ module _ (s : State) (happened : List Event) (day : InDay s happened) where
           only-false (eqb (s .phase) Phase.running) _ (ne-eqb (s .phase) Phase.running (λ q. omega arith))
           ∙ (let u = used-is in let w = in-use-booked in let z = nothing-booked h in omega arith)
 
+  -- what is answered for booked trays is their sum: at the end there are none
+  summed : Question.booked s ≡ total (s .size) (at (s .memory .booked))
+  unfolding Question.booked Question.isRunning
+  summed = by-closing (day .closing)
+    where
+      by-closing : Closing s → Question.booked s ≡ total (s .size) (at (s .memory .booked))
+      by-closing (open-day p h) = only-true (eqb (s .phase) Phase.running) _ (eq-eqb (s .phase) Phase.running p)
+      by-closing (closed p h) =
+          only-false (eqb (s .phase) Phase.running) _ (ne-eqb (s .phase) Phase.running (λ q. omega arith))
+          ∙ sym (nothing-booked h)
+
+  -- in a day the four counts are answered
+  standing-is : Question.standing s ≡ counts (s .size) (at (s .standings))
+  unfolding Question.standing Question.isRunning
+  standing-is = answered (in-day (day .closing))
+    where
+      answered :
+          (eqb (s .phase) Phase.running || eqb (s .phase) Phase.over) ≡ true
+          → Question.standing s ≡ counts (s .size) (at (s .standings))
+      answered e = rw e
+
+      in-day : Closing s → (eqb (s .phase) Phase.running || eqb (s .phase) Phase.over) ≡ true
+      in-day (open-day p h) =
+          or-left (eqb (s .phase) Phase.running) (eqb (s .phase) Phase.over) (eq-eqb (s .phase) Phase.running p)
+      in-day (closed p h) =
+          or-right (eqb (s .phase) Phase.running) (eqb (s .phase) Phase.over) (eq-eqb (s .phase) Phase.over p)
+
+  -- as many run by what happened
+  runners : countTo (runs happened) (s .size) ≡ count (s .size) (at (s .standings)) running
+  unfolding count
+  runners = count-cong (runs happened) (λ i. eqb (at (s .standings) i) running) (s .size) runs-is
+
   pub day-holds : DayHolds s happened
-  unfolding Question.inUse Question.booked count
+  unfolding Question.inUse Question.booked counts
   day-holds =
       record {
         starting = listed (starts happened) (day .logged .begun-inside);
@@ -226,15 +258,15 @@ module _ (s : State) (happened : List Event) (day : InDay s happened) where
         running = until-over;
         over = over;
         used = used;
+        summed = summed;
+        countRunning = ap (λ (l : List ℕ). at l running) standing-is ∙ sym runners;
+        countEnded = ap (λ (l : List ℕ). at l finished) standing-is ∙ sym reports;
         covered = only-mono (Question.isRunning s) _ (total (s .size) (at (s .memory .booked))) (λ _. in-use-booked);
         within =
             (let o = only-le (Question.isRunning s) (total (s .size) (at (s .memory .booked))) in
             let w = day .settled .good .within in
             omega arith);
-        staffed =
-            (let same = count-cong (runs happened) (λ i. eqb (at (s .standings) i) running) (s .size) runs-is in
-            let few = day .settled .staffed in
-            omega arith);
+        staffed = (let same = runners in let few = day .settled .staffed in omega arith);
         exact =
             λ i t r.
             running-holds-need (s .size) (at (s .parents)) (rankIn (s .activation)) (tree s (day .planned)) (needs s)

@@ -44,6 +44,7 @@ pub mod Holds
 pub mod Staying
 pub mod Steps
 pub mod Refusals
+pub mod Askings
 pub mod Theorem
 pub mod Reaching
 -- a worked day

@@ -36,6 +36,7 @@ use Rattle.rules.proofs.Reporting.{done-in-day}
 use Rattle.rules.proofs.Holds.{day-holds}
 use Rattle.rules.proofs.Staying.{DayOf, itself, books-stay}
 use Rattle.rules.proofs.Steps.{Step, is-refused, is-obeyed, step}
+use Rattle.rules.proofs.Askings.{asking-holds}
 use Rattle.rules.proofs.Refusals.{nothing-happens, after-accepted, log-accepted}
 
 -- every asking leaves a plan that commands can lead to
@@ -166,6 +167,7 @@ theorem =
       days = every-day-holds;
       plans = λ earlier opening later opens next. every-day earlier opening later opens next .stays .plan;
       places = λ earlier opening later opens next. every-day earlier opening later opens next .stays .places;
+      askings = λ earlier a. asking-holds (after none earlier) a (after-formed earlier none none-formed);
       refusals = λ s asks. after-accepted asks s;
       silent = λ s asks. log-accepted asks s;
     }

@@ -4,15 +4,18 @@ use mathlib.Core.Bool.{Bool, true, false, not, _&&_}
 use mathlib.Core.Logic.{_↔_}
 use mathlib.Core.List.{List, _∷_, _++_}
 use Prim.Native.Nat.{ℕ, _≤_, _<_}
-use lib.ListN.{length}
+use lib.ListN.{length, drop}
+use Rattle.rules.specs.Limits.{leastStarts}
 use Rattle.rules.specs.Sums.{Task, countTo}
 use Rattle.rules.specs.Lists.{at, mem}
 use Rattle.rules.specs.Need
 use Rattle.rules.specs.Phase
+use Rattle.rules.specs.Standing
 use Rattle.rules.specs.State.{State, none, needs}
-use Rattle.rules.specs.Answer.{Asking}
+use Rattle.rules.specs.Booking.{total}
+use Rattle.rules.specs.Answer.{Asking, refuse, command}
 use Rattle.rules.specs.Question
-use Rattle.rules.specs.Day.{Event, started, ended, starts, ends, log, after, acceptedOnly, opensDay, nextPlan}
+use Rattle.rules.specs.Day.{Event, started, ended, starts, ends, log, after, accepted, acceptedOnly, opensDay, nextPlan}
 
 -- a task has started and not ended, by what happened
 unfoldable pub runs : List Event → ℕ → Bool
@@ -58,8 +61,12 @@ pub record DayHolds (s : State) (happened : List Event) : Type 0 where
   -- the phase is running until then, and over from then on
   pub running : (s .phase ≡ Phase.running) ↔ (length (ends happened) < s .size)
   pub over : (s .phase ≡ Phase.over) ↔ (length (ends happened) ≡ s .size)
-  -- what the plan answers for trays in use is what the starts and ends give
+  -- what the plan answers for trays in use is what the starts and ends give, and for trays booked "the sum of all booked trays"
   pub used : Question.inUse s ≡ usedBy s happened
+  pub summed : Question.booked s ≡ total (s .size) (at (s .memory .booked))
+  -- what it answers for running and for ended steps is what the starts and ends give
+  pub countRunning : at (Question.standing s) Standing.running ≡ countTo (runs happened) (s .size)
+  pub countEnded : at (Question.standing s) Standing.finished ≡ length (ends happened)
   -- "trays in use never exceed trays booked, nor booked trays the cold room's places"
   pub covered : Question.inUse s ≤ Question.booked s
   pub within : Question.booked s ≤ s .memory .bound
@@ -76,6 +83,17 @@ pub record SamePlan (s s′ : State) : Type 0 where
   pub outs : s′ .memory .outs ≡ s .memory .outs
   pub activation : s′ .activation ≡ s .activation
   pub execution : s′ .execution ≡ s .execution
+
+-- what is promised of one asking: s is the plan that it finds
+pub record AskingHolds (s : State) (a : Asking) : Type 0 where
+  -- a refusal answers its number alone, "and the plan, the phase and the start list remain what they were"
+  pub refusal : accepted s a ≡ false → command s a ≡ refuse (command s a .answer .number) s (a .list)
+  -- no more tasks start than there are processors, nor than a start list has entries
+  pub few : command s a .answer .starts ≤ s .processors
+  pub fitting : command s a .answer .starts ≤ leastStarts
+  -- the start list is as long as it was, and an accepted command "touches no later entry"
+  pub long : length (command s a .list) ≡ length (a .list)
+  pub behind : drop (command s a .answer .starts) (command s a .list) ≡ drop (command s a .answer .starts) (a .list)
 
 -- For every list of askings, refused ones included: a BEGIN that is accepted after some of them opens a day, and after each
 -- command of the day, as long as no next plan is opened, a claim holds of the plan that BEGIN found, of the plan as it stands and
@@ -98,6 +116,8 @@ pub record Theorem : Type 0 where
   pub plans : EveryDay (λ found s _. SamePlan found s)
   -- and so do the places of the cold room
   pub places : EveryDay (λ found s _. s .memory .bound ≡ found .memory .bound)
+  -- all that is promised of an asking holds of each of the list
+  pub askings : (earlier : List Asking) (a : Asking) → AskingHolds (after none earlier) a
   -- "from the accepted commands alone": without those that are refused the plan is the same, and so is what happened
   pub refusals : (s : State) (asks : List Asking) → after s asks ≡ after s (acceptedOnly s asks)
   pub silent : (s : State) (asks : List Asking) → log s asks ≡ log s (acceptedOnly s asks)
