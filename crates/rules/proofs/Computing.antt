@@ -44,7 +44,7 @@ use Rattle.rules.specs.Obey.{
 }
 use Rattle.rules.specs.Answer.{refuse, front, accept, judge, respond, command}
 use Rattle.rules.specs.Question.{isRunning, booked, inUse, fullnessOf, fullness}
-use Rattle.rules.specs.Day.{after, answers, accepted, isPlan, isBegin, reported, events, log, opensDay, opensPlan, nextPlan}
+use Rattle.rules.specs.Day.{after, answers, accepted, acceptedOnly, isPlan, isBegin, reported, events, log, opensDay, opensPlan, nextPlan}
 use Rattle.rules.specs.Day
 use Rattle.rules.specs.Theorem.{runs, usedBy}
 use Rattle.rules.specs.Text.{
@@ -132,6 +132,7 @@ unfolding
     after
     answers
     accepted
+    acceptedOnly
     isPlan
     isBegin
     reported

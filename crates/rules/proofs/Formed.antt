@@ -1,10 +1,10 @@
--- What holds of every plan that commands led to: parents and orders are in their limits, and no step stands twice.
-use mathlib.Core.Path.{_≡_, refl, _∙_}
+-- What holds of every plan that commands led to: parents, orders and processors are in their limits, and no step stands twice.
+use mathlib.Core.Path.{_≡_, refl}
 use mathlib.Core.Bool.{Bool, true, false, not, _&&_}
 use mathlib.Core.List.{List, [], _∷_, _++_}
 use Prim.Native.Nat.{ℕ, zero, suc, _≤_}
 use native.Mathlib.Omega.{arith}
-use lib.Dec.{eqb, leb}
+use lib.Dec.{eqb}
 use lib.ListN.{length}
 use borrow.Author.Tests.{eqb-true, leb-true, not-true}
 use Rattle.rules.specs.Limits.{maxTasks, maxProcessors}
@@ -14,8 +14,8 @@ use Rattle.rules.specs.State.{State, none}
 use Rattle.rules.specs.Command.{Command, plan, task, activation, execution, begin, done}
 use Rattle.rules.specs.Grounds.{inTurn, inLimits, within, demand, ownGround, ground}
 use Rattle.rules.specs.Obey.{opened, withTask, withOrders, withBooks, proceed, obey}
-use Rattle.rules.proofs.Tests.{and-true, and-both}
-use Rattle.rules.proofs.Orders.{every-append, distinct-snoc}
+use Rattle.rules.proofs.Tests.{and-true}
+use Rattle.rules.proofs.Orders.{within-task, every-snoc, distinct-snoc}
 
 -- no ground is left where a test holds and none of those behind it
 pub demand-none : (t : Bool) (k rest : ℕ) → (k ≡ 0 → ⊥) → demand t k rest ≡ 0 → (t ≡ true) × (rest ≡ 0)
@@ -42,6 +42,7 @@ pub record Formed (s : State) : Type 0 where
   pub execution-inside : every (λ i. within i (s .size)) (s .execution) ≡ true
   pub execution-once : distinct (s .execution) ≡ true
   pub staffed : (s .phase ≡ Phase.empty → ⊥) → 1 ≤ s .processors
+  pub limited : s .processors ≤ maxProcessors
 
 -- the empty plan
 pub none-formed : Formed none
@@ -54,6 +55,7 @@ none-formed =
       execution-inside = refl;
       execution-once = refl;
       staffed = λ d. absurd (d refl);
+      limited = omega arith;
     }
   where
     nothing : (i : ℕ) → at [] i ≤ 0
@@ -66,17 +68,6 @@ at-snoc [] x limit h b zero = b
 at-snoc [] x limit h b (suc i) = omega arith
 at-snoc (y ∷ l) x limit h b zero = h 0
 at-snoc (y ∷ l) x limit h b (suc i) = at-snoc l x limit (λ k. h (suc k)) b i
-
--- one entry more in an order
-order-more :
-    (n : ℕ) (l : List ℕ) (x : ℕ)
-    → every (λ i. within i n) l ≡ true
-    → within x n ≡ true
-    → every (λ i. within i n) (l ++ (x ∷ [])) ≡ true
-unfolding every
-order-more n l x h w =
-    every-append (λ i. within i n) l (x ∷ [])
-    ∙ and-both (every (λ i. within i n) l) (within x n && true) h (and-both (within x n) true w refl)
 
 -- the entry is not in that order yet
 new-entry : (x : ℕ) (l : List ℕ) → demand (not (mem x l)) 5 0 ≡ 0 → mem x l ≡ false
@@ -93,6 +84,7 @@ with-books-formed s phase st b p h =
       execution-inside = h .execution-inside;
       execution-once = h .execution-once;
       staffed = λ _. p;
+      limited = h .limited;
     }
 
 -- in a phase other than empty
@@ -104,14 +96,15 @@ pub obey-formed : (s : State) (c : Command) → Accepted s c → Formed s → Fo
 unfolding obey opened withTask withOrders inTurn inLimits ownGround every distinct proceed
 obey-formed s (plan n p bound) a h =
     let both = and-true (within n maxTasks) (within p maxProcessors) (a .limits) in
-    let low = leb-true 1 p (and-true (leb 1 p) (leb p maxProcessors) (both .1) .0) in
+    let between = within-task maxProcessors p (both .1) in
     record {
       parents = λ i. nothing i;
       activation-inside = refl;
       activation-once = refl;
       execution-inside = refl;
       execution-once = refl;
-      staffed = λ _. low;
+      staffed = λ _. between .low;
+      limited = between .high;
     }
   where
     nothing : (i : ℕ) → at (0 ∷ []) i ≤ n
@@ -125,24 +118,27 @@ obey-formed s (task parent work out) a h =
       execution-inside = h .execution-inside;
       execution-once = h .execution-once;
       staffed = λ _. h .staffed (not-empty (s .phase) Phase.steps (omega arith) (a .turn));
+      limited = h .limited;
     }
 obey-formed s (activation i) a h =
     record {
       parents = h .parents;
-      activation-inside = order-more (s .size) (s .activation) i (h .activation-inside) (a .limits);
+      activation-inside = every-snoc (λ k. within k (s .size)) (s .activation) i (h .activation-inside) (a .limits);
       activation-once = distinct-snoc (s .activation) i (h .activation-once) (new-entry i (s .activation) (a .own));
       execution-inside = h .execution-inside;
       execution-once = h .execution-once;
       staffed = h .staffed;
+      limited = h .limited;
     }
 obey-formed s (execution i) a h =
     record {
       parents = h .parents;
       activation-inside = h .activation-inside;
       activation-once = h .activation-once;
-      execution-inside = order-more (s .size) (s .execution) i (h .execution-inside) (a .limits);
+      execution-inside = every-snoc (λ k. within k (s .size)) (s .execution) i (h .execution-inside) (a .limits);
       execution-once = distinct-snoc (s .execution) i (h .execution-once) (new-entry i (s .execution) (a .own));
       staffed = h .staffed;
+      limited = h .limited;
     }
 obey-formed s begin a h =
     let ph = and-true (eqb (s .phase) Phase.orders && eqb (length (s .activation)) (s .size)) (eqb (length (s .execution)) (s .size)) (a .turn) in

@@ -1,28 +1,28 @@
 -- What is promised of a day follows from what is kept of it.
-use mathlib.Core.Path.{_≡_, sym, ap₂, _∙_}
-use mathlib.Core.Bool.{Bool, true, not, _&&_}
+use mathlib.Core.Path.{_≡_, sym, ap, ap₂, _∙_}
+use mathlib.Core.Bool.{Bool, true, not, _&&_, _||_}
 use mathlib.Core.Logic.{_↔_, ⊎-elim}
 use mathlib.Core.List.{List}
 use Prim.Native.Nat.{ℕ, _+_, _≤_, _<_}
 use native.Mathlib.Omega.{arith}
-use lib.Dec.{eqb, leb}
+use lib.Dec.{eqb}
 use lib.ListN.{length}
-use borrow.Author.Tests.{eqb-true, eq-eqb, ne-eqb, le-leb, lt-leb}
+use borrow.Author.Tests.{eqb-true, eq-eqb, ne-eqb, le-leb}
 use Rattle.rules.specs.Sums.{only, countTo}
-use Rattle.rules.specs.Lists.{at, mem}
+use Rattle.rules.specs.Lists.{at, mem, every}
 use Rattle.rules.specs.Need
 use Rattle.rules.specs.Phase
-use Rattle.rules.specs.Standing.{activated, running, finished, count}
+use Rattle.rules.specs.Standing.{activated, running, finished, count, counts}
 use Rattle.rules.specs.State.{State, needs}
-use Rattle.rules.specs.Grounds.{peakOf}
+use Rattle.rules.specs.Grounds.{within, peakOf}
 use Rattle.rules.specs.Booking.{total, lacks, allows, ready, fed}
 use Rattle.rules.specs.Question
 use Rattle.rules.specs.Day.{Event, starts, ends}
 use Rattle.rules.specs.Theorem.{runs, usedBy, DayHolds}
-use Rattle.rules.proofs.Tests.{clash, same-or-not, and-both}
+use Rattle.rules.proofs.Tests.{clash, same-or-not, or-left, or-right, and-both}
 use Rattle.rules.proofs.Sums.{Task, sum-cong, sum-zero, counted, none-counted, count-le, count-all, only-le, only-mono, only-true, only-false}
 use Rattle.rules.proofs.Counts.{count-full, count-cong}
-use Rattle.rules.proofs.Orders.{sum-members, sum-length}
+use Rattle.rules.proofs.Orders.{within-task, every-mem, sum-members, sum-length}
 use Rattle.rules.proofs.Peaks.{resident-cong}
 use Rattle.rules.proofs.Ranks.{rankIn, stands}
 use Rattle.rules.proofs.Tree.{parent-task}
@@ -32,17 +32,8 @@ use Rattle.rules.proofs.Usage.{hasEnded, hasBegun, in-use-within}
 use Rattle.rules.proofs.Progress.{Stuck, waits-or-ended}
 use Rattle.rules.proofs.Waiting.{Found, first-waiting, found-first, found-fits}
 use Rattle.rules.proofs.Starts.{children-fed}
+use Rattle.rules.proofs.Log.{logged-runs}
 use Rattle.rules.proofs.InDay.{Closing, open-day, closed, InDay, needs-roomy, tree}
-
--- begun and not ended is running
-between : (v : ℕ) → v ≤ finished → (leb running v && not (eqb v finished)) ≡ eqb v running
-between v h =
-    ⊎-elim (λ (e : v ≡ running). rw e)
-    (λ d.
-    ⊎-elim (λ (e : v ≡ finished). rw e)
-    (λ c. rw (lt-leb running v (omega arith), ne-eqb v running d))
-    (same-or-not v finished))
-    (same-or-not v running)
 
 module _ (s : State) (happened : List Event) (day : InDay s happened) where
   -- the reports are those that have ended
@@ -55,10 +46,8 @@ module _ (s : State) (happened : List Event) (day : InDay s happened) where
 
   -- a task runs by what happened just where its standing says so
   runs-is : (i : ℕ) → Task (s .size) i → runs happened i ≡ eqb (at (s .standings) i) running
-  unfolding runs
   runs-is i t =
-      ap₂ (λ (a b : Bool). a && not b) (day .logged .begun i t) (day .logged .done i t)
-      ∙ between (at (s .standings) i) (day .settled .good .shape .four i t)
+      logged-runs (s .size) (at (s .standings)) happened (day .logged) i t (day .settled .good .shape .four i t)
 
   -- where nobody runs, nobody can start: processors are free
   stuck : count (s .size) (at (s .standings)) running ≡ 0 → Stuck (s .size) (at (s .parents)) (at (s .standings))
@@ -115,14 +104,21 @@ module _ (s : State) (happened : List Event) (day : InDay s happened) where
   ended-all h =
       reports ∙ count-all (λ k. eqb (at (s .standings) k) finished) (s .size) (λ i t. eq-eqb (at (s .standings) i) finished (h i t))
 
+  -- who stands in a list of tasks is one
+  listed : (l : List ℕ) → every (λ i. within i (s .size)) l ≡ true → (i : ℕ) → mem i l ≡ true → Task (s .size) i
+  listed l inside i m = within-task (s .size) i (every-mem (λ k. within k (s .size)) l i inside m)
+
+  -- no more than n reports are accepted
+  most : length (ends happened) ≤ s .size
+  unfolding count
+  most = let c = count-le (λ i. eqb (at (s .standings) i) finished) (s .size) in let r = reports in omega arith
+
   -- "some step is running exactly while fewer than n of the day's reports were accepted"
   going : ((i : ℕ) × Task (s .size) i × (runs happened i ≡ true)) ↔ (length (ends happened) < s .size)
   unfolding count
   going = (
     (λ k.
-        let most : length (ends happened) ≤ s .size =
-        (let c = count-le (λ i. eqb (at (s .standings) i) finished) (s .size) in let r = reports in omega arith)
-        in
+        let few = most in
         let not-all : length (ends happened) ≡ s .size → ⊥ =
         λ e.
         let over = all-ended e (k .0) (k .1) in
@@ -142,7 +138,7 @@ module _ (s : State) (happened : List Event) (day : InDay s happened) where
         (k .0, k .1, runs-is (k .0) (k .1) ∙ k .2)),
   )
 
-  -- "the phase is over then and only then"
+  -- the phase is over at the n-th report, and running until then
   over : (s .phase ≡ Phase.over) ↔ (length (ends happened) ≡ s .size)
   over = by-closing (day .closing)
     where
@@ -154,6 +150,19 @@ module _ (s : State) (happened : List Event) (day : InDay s happened) where
             absurd (h (r .0) (r .1) (r .2) (all-ended e (r .0) (r .1)))),
       )
       by-closing (closed p h) = ((λ _. ended-all h), (λ _. p))
+
+  until-over : (s .phase ≡ Phase.running) ↔ (length (ends happened) < s .size)
+  until-over = by-closing (day .closing)
+    where
+      by-closing : Closing s → (s .phase ≡ Phase.running) ↔ (length (ends happened) < s .size)
+      by-closing (open-day p h) = (
+        (λ _.
+            let all = over .1 in
+            let few = most in
+            ⊎-elim (λ e. let q = all e in absurd (omega arith)) (λ d. omega arith) (same-or-not (length (ends happened)) (s .size))),
+        (λ _. p),
+      )
+      by-closing (closed p h) = ((λ q. absurd (omega arith)), (λ few. let e = ended-all h in absurd (omega arith)))
 
   -- in use, by what happened and by the standings
   used-is :
@@ -197,12 +206,48 @@ module _ (s : State) (happened : List Event) (day : InDay s happened) where
           only-false (eqb (s .phase) Phase.running) _ (ne-eqb (s .phase) Phase.running (λ q. omega arith))
           ∙ (let u = used-is in let w = in-use-booked in let z = nothing-booked h in omega arith)
 
+  -- what is answered for booked trays is their sum: at the end there are none
+  summed : Question.booked s ≡ total (s .size) (at (s .memory .booked))
+  unfolding Question.booked Question.isRunning
+  summed = by-closing (day .closing)
+    where
+      by-closing : Closing s → Question.booked s ≡ total (s .size) (at (s .memory .booked))
+      by-closing (open-day p h) = only-true (eqb (s .phase) Phase.running) _ (eq-eqb (s .phase) Phase.running p)
+      by-closing (closed p h) =
+          only-false (eqb (s .phase) Phase.running) _ (ne-eqb (s .phase) Phase.running (λ q. omega arith))
+          ∙ sym (nothing-booked h)
+
+  -- in a day the four counts are answered
+  standing-is : Question.standing s ≡ counts (s .size) (at (s .standings))
+  unfolding Question.standing Question.isRunning
+  standing-is = answered (in-day (day .closing))
+    where
+      answered :
+          (eqb (s .phase) Phase.running || eqb (s .phase) Phase.over) ≡ true
+          → Question.standing s ≡ counts (s .size) (at (s .standings))
+      answered e = rw e
+
+      in-day : Closing s → (eqb (s .phase) Phase.running || eqb (s .phase) Phase.over) ≡ true
+      in-day (open-day p h) =
+          or-left (eqb (s .phase) Phase.running) (eqb (s .phase) Phase.over) (eq-eqb (s .phase) Phase.running p)
+      in-day (closed p h) =
+          or-right (eqb (s .phase) Phase.running) (eqb (s .phase) Phase.over) (eq-eqb (s .phase) Phase.over p)
+
+  -- as many run by what happened
+  runners : countTo (runs happened) (s .size) ≡ count (s .size) (at (s .standings)) running
+  unfolding count
+  runners = count-cong (runs happened) (λ i. eqb (at (s .standings) i) running) (s .size) runs-is
+
   pub day-holds : DayHolds s happened
-  unfolding Question.inUse Question.booked count
+  unfolding Question.inUse Question.booked counts
   day-holds =
       record {
+        starting = listed (starts happened) (day .logged .begun-inside);
+        ending = listed (ends happened) (day .logged .inside);
         once = day .order .once;
         fed = day .order .fed;
+        ran = day .order .ran;
+        most = most;
         going = going;
         complete =
             λ e i t.
@@ -210,17 +255,18 @@ module _ (s : State) (happened : List Event) (day : InDay s happened) where
               day .logged .begun i t ∙ le-leb running (at (s .standings) i) (omega arith),
               day .logged .done i t ∙ eq-eqb (at (s .standings) i) finished over,
             );
+        running = until-over;
         over = over;
         used = used;
+        summed = summed;
+        countRunning = ap (λ (l : List ℕ). at l running) standing-is ∙ sym runners;
+        countEnded = ap (λ (l : List ℕ). at l finished) standing-is ∙ sym reports;
         covered = only-mono (Question.isRunning s) _ (total (s .size) (at (s .memory .booked))) (λ _. in-use-booked);
         within =
             (let o = only-le (Question.isRunning s) (total (s .size) (at (s .memory .booked))) in
             let w = day .settled .good .within in
             omega arith);
-        staffed =
-            (let same = count-cong (runs happened) (λ i. eqb (at (s .standings) i) running) (s .size) runs-is in
-            let few = day .settled .staffed in
-            omega arith);
+        staffed = (let same = runners in let few = day .settled .staffed in omega arith);
         exact =
             λ i t r.
             running-holds-need (s .size) (at (s .parents)) (rankIn (s .activation)) (tree s (day .planned)) (needs s)

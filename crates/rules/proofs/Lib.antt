@@ -42,7 +42,10 @@ pub mod InDay
 pub mod Opening
 pub mod Reporting
 pub mod Holds
+pub mod Staying
 pub mod Steps
+pub mod Refusals
+pub mod Askings
 pub mod Theorem
 pub mod Reaching
 -- a worked day

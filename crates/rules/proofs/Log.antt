@@ -1,6 +1,6 @@
 -- Laws of what happens in a day: starts and ends in order, and how they agree with the standings.
-use mathlib.Core.Path.{_≡_, refl, sym, ap, subst, _∙_}
-use mathlib.Core.Bool.{Bool, true, false, _||_}
+use mathlib.Core.Path.{_≡_, refl, sym, ap, ap₂, subst, _∙_}
+use mathlib.Core.Bool.{Bool, true, false, not, _&&_, _||_}
 use mathlib.Core.Logic.{_⊎_, ⊎-elim}
 use mathlib.Core.List.{List, [], _∷_, _++_, map, append-nil, append-assoc}
 use Prim.Native.Nat.{ℕ, suc, _≤_}
@@ -13,9 +13,10 @@ use Rattle.rules.specs.Grounds.{within}
 use Rattle.rules.specs.Standing.{activated, running, finished}
 use Rattle.rules.specs.Booking.{start}
 use Rattle.rules.specs.Day.{Event, started, ended, starts, ends}
-use Rattle.rules.proofs.Tests.{same-or-not, or-right, or-none, and-both, eqb-above}
+use Rattle.rules.specs.Theorem.{runs}
+use Rattle.rules.proofs.Tests.{same-or-not, or-right, or-none, eqb-above}
 use Rattle.rules.proofs.Sums.{Task}
-use Rattle.rules.proofs.Orders.{mem-append, mem-here, mem-later, mem-none, every-append, distinct-snoc, task-within}
+use Rattle.rules.proofs.Orders.{mem-append, mem-here, mem-later, mem-none, every-snoc, distinct-snoc, task-within}
 use Rattle.rules.proofs.Good.{at-set, at-other}
 use Rattle.rules.proofs.Starts.{Startable}
 
@@ -57,7 +58,7 @@ snoc-where (o ∷ old) new (y ∷ earlier) x later e =
     go h (last p q) = last (let r : y ∷ earlier ≡ o ∷ old = cc in r) q
     go h (before l p) = before l (let r : o ∷ old ≡ y ∷ (earlier ++ x ∷ l) = cc in r)
 
--- each start is the first of its task, and comes after the ends of all that feed it
+-- each start is the first of its task, and comes after the ends of all that feed it; and who ends was running
 pub record InOrder (n : ℕ) (par : ℕ → ℕ) (happened : List Event) : Type 0 where
   pub once :
       (earlier later : List Event) (i : ℕ) → happened ≡ earlier ++ started i ∷ later → mem i (starts earlier) ≡ false
@@ -68,26 +69,36 @@ pub record InOrder (n : ℕ) (par : ℕ → ℕ) (happened : List Event) : Type 
       → Task n c
       → par c ≡ i
       → mem c (ends earlier) ≡ true
+  pub ran :
+      (earlier later : List Event) (i : ℕ) → happened ≡ earlier ++ ended i ∷ later → runs earlier i ≡ true
 
 module _ (n : ℕ) (par : ℕ → ℕ) where
   pub nothing-in-order : InOrder n par []
-  nothing-in-order = record { once = λ e l i q. absurd (never e l i q); fed = λ e l i q. absurd (never e l i q) }
+  nothing-in-order =
+      record {
+        once = λ e l i q. absurd (never e l (started i) q);
+        fed = λ e l i q. absurd (never e l (started i) q);
+        ran = λ e l i q. absurd (never e l (ended i) q);
+      }
     where
-      never : (earlier later : List Event) (i : ℕ) → [] ≡ earlier ++ started i ∷ later → ⊥
-      never [] later i q = let z : _≡_ {A = ℕ} 0 1 = cc in omega arith
-      never (w ∷ l) later i q = let z : _≡_ {A = ℕ} 0 1 = cc in omega arith
+      never : (earlier later : List Event) (x : Event) → [] ≡ earlier ++ x ∷ later → ⊥
+      never [] later x q = let z : _≡_ {A = ℕ} 0 1 = cc in omega arith
+      never (w ∷ l) later x q = let z : _≡_ {A = ℕ} 0 1 = cc in omega arith
 
-  -- one event more: where it is a start, it is the first of its task and comes after those that feed it
+  -- one event more: where it is a start, it is the first of its task and comes after those that feed it; where it is an end, its
+  -- task was running
   one-more :
       (old : List Event) (new : Event)
       → InOrder n par old
       → ((i : ℕ) → started i ≡ new → mem i (starts old) ≡ false)
       → ((i : ℕ) → started i ≡ new → (c : ℕ) → Task n c → par c ≡ i → mem c (ends old) ≡ true)
+      → ((i : ℕ) → ended i ≡ new → runs old i ≡ true)
       → InOrder n par (old ++ (new ∷ []))
-  one-more old new h first fed =
+  one-more old new h first fed ran =
       record {
         once = λ e l i q. once-there e i (snoc-where old new e (started i) l q);
         fed = λ e l i q. fed-there e i (snoc-where old new e (started i) l q);
+        ran = λ e l i q. ran-there e i (snoc-where old new e (ended i) l q);
       }
     where
       once-there : (e : List Event) (i : ℕ) → Where old new e (started i) → mem i (starts e) ≡ false
@@ -104,10 +115,16 @@ module _ (n : ℕ) (par : ℕ → ℕ) where
       fed-there e i (last p q) c t r = ap (λ (v : List Event). mem c (ends v)) p ∙ fed i q c t r
       fed-there e i (before l p) c t r = h .fed e l i p c t r
 
-  -- an end may come at any time
-  pub ended-in-order : (old : List Event) (j : ℕ) → InOrder n par old → InOrder n par (old ++ (ended j ∷ []))
-  ended-in-order old j h =
+      ran-there : (e : List Event) (i : ℕ) → Where old new e (ended i) → runs e i ≡ true
+      ran-there e i (last p q) = ap (λ (v : List Event). runs v i) p ∙ ran i q
+      ran-there e i (before l p) = h .ran e l i p
+
+  -- the end of a running task
+  pub ended-in-order :
+      (old : List Event) (j : ℕ) → InOrder n par old → runs old j ≡ true → InOrder n par (old ++ (ended j ∷ []))
+  ended-in-order old j h running =
       one-more old (ended j) h (λ i q. absurd (never i q)) (λ i q. absurd (never i q))
+      (λ i q. let same : i ≡ j = cc in rw same running)
     where
       never : (i : ℕ) → started i ≡ ended j → ⊥
       never i q = let z : _≡_ {A = ℕ} 0 1 = cc in omega arith
@@ -121,15 +138,41 @@ module _ (n : ℕ) (par : ℕ → ℕ) where
       → InOrder n par (old ++ (started x ∷ []))
   started-in-order old x h new ready =
       one-more old (started x) h (λ i q. let same : i ≡ x = cc in rw same new)
-      (λ i q c t r. let same : i ≡ x = cc in ready c t (r ∙ same))
+      (λ i q c t r. let same : i ≡ x = cc in ready c t (r ∙ same)) (λ i q. absurd (never i q))
+    where
+      never : (i : ℕ) → ended i ≡ started x → ⊥
+      never i q = let z : _≡_ {A = ℕ} 0 1 = cc in omega arith
 
 -- what happened agrees with the standings
 pub record Logged (n : ℕ) (st : ℕ → ℕ) (happened : List Event) : Type 0 where
   pub begun : (i : ℕ) → Task n i → mem i (starts happened) ≡ leb running (st i)
   pub done : (i : ℕ) → Task n i → mem i (ends happened) ≡ eqb (st i) finished
-  -- ends are of tasks, each once
+  -- starts and ends are of tasks, each end once
+  pub begun-inside : every (λ i. within i n) (starts happened) ≡ true
   pub inside : every (λ i. within i n) (ends happened) ≡ true
   pub apart : distinct (ends happened) ≡ true
+
+-- begun and not ended is running
+between : (v : ℕ) → v ≤ finished → (leb running v && not (eqb v finished)) ≡ eqb v running
+between v h =
+    ⊎-elim (λ (e : v ≡ running). rw e)
+    (λ d.
+    ⊎-elim (λ (e : v ≡ finished). rw e)
+    (λ c. rw (lt-leb running v (omega arith), ne-eqb v running d))
+    (same-or-not v finished))
+    (same-or-not v running)
+
+-- so a task runs by what happened just where its standing says so
+pub logged-runs :
+    (n : ℕ) (st : ℕ → ℕ) (happened : List Event)
+    → Logged n st happened
+    → (i : ℕ)
+    → Task n i
+    → st i ≤ finished
+    → runs happened i ≡ eqb (st i) running
+unfolding runs
+logged-runs n st happened h i t four =
+    ap₂ (λ (a b : Bool). a && not b) (h .begun i t) (h .done i t) ∙ between (st i) four
 
 -- at first nobody has begun
 pub nothing-logged : (n : ℕ) (st : ℕ → ℕ) → ((i : ℕ) → Task n i → st i ≤ activated) → Logged n st []
@@ -138,6 +181,7 @@ nothing-logged n st idle =
     record {
       begun = λ i t. let h = idle i t in sym (lt-leb running (st i) (omega arith));
       done = λ i t. let h = idle i t in sym (ne-eqb (st i) finished (λ q. omega arith));
+      begun-inside = refl;
       inside = refl;
       apart = refl;
     }
@@ -156,6 +200,7 @@ logged-same n st st′ happened same h =
           ∙ ⊎-elim (λ e. ap (leb running) (sym e))
           (λ l. lt-leb running (st i) (omega (arith, l .0)) ∙ sym (lt-leb running (st′ i) (omega (arith, l .1)))) (same i t);
       done = λ i t. h .done i t ∙ sym (eqb-above (st′ i) (st i) activated finished (omega arith) (same i t));
+      begun-inside = h .begun-inside;
       inside = h .inside;
       apart = h .apart;
     }
@@ -203,11 +248,8 @@ module _ (n : ℕ) (st : List ℕ) (sized : length st ≡ suc n) (happened : Lis
             ap (mem i) e-is
             ∙ list-more n x (ends happened) (λ k. eqb (at st k) finished) (λ k. eqb (at (set st x finished) k) finished)
             (logged .done) (λ k d. ap (λ (v : ℕ). eqb v finished) (at-other st x finished k d)) (rw there) i t;
-        inside =
-            ap (every (λ i. within i n)) e-is
-            ∙ every-append (λ i. within i n) (ends happened) (x ∷ [])
-            ∙ and-both (every (λ i. within i n) (ends happened)) (every (λ i. within i n) (x ∷ [])) (logged .inside)
-            (and-both (within x n) true (task-within n x task) refl);
+        begun-inside = ap (every (λ i. within i n)) s-is ∙ logged .begun-inside;
+        inside = ap (every (λ i. within i n)) e-is ∙ every-snoc (λ i. within i n) (ends happened) x (logged .inside) (task-within n x task);
         apart = ap distinct e-is ∙ distinct-snoc (ends happened) x (logged .apart) new;
       }
 
@@ -234,6 +276,7 @@ module _ (n : ℕ) (st : List ℕ) (sized : length st ≡ suc n) (happened : Lis
             ap (mem i) e-is
             ∙ list-kept n x (ends happened) (λ k. eqb (at st k) finished) (λ k. eqb (at (set st x running) k) finished)
             (logged .done) (λ k d. ap (λ (v : ℕ). eqb v finished) (at-other st x running k d)) (rw (there, booked)) i t;
+        begun-inside = ap (every (λ i. within i n)) s-is ∙ every-snoc (λ i. within i n) (starts happened) x (logged .begun-inside) (task-within n x task);
         inside = ap (every (λ i. within i n)) e-is ∙ logged .inside;
         apart = ap distinct e-is ∙ logged .apart;
       }

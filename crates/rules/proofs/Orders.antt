@@ -12,7 +12,7 @@ use Rattle.rules.specs.Sums.{only, sumTo, countTo}
 use Rattle.rules.specs.Lists.{mem, every, distinct}
 use Rattle.rules.specs.Peak.{ordered}
 use Rattle.rules.specs.Grounds.{within}
-use Rattle.rules.proofs.Tests.{clash, fails, same-or-not, or-false, and-true}
+use Rattle.rules.proofs.Tests.{clash, fails, same-or-not, or-false, and-true, and-both}
 use Rattle.rules.proofs.Sums.{
   Task,
   sum-cong,
@@ -125,6 +125,13 @@ unfolding every
 every-append test [] m = refl
 every-append test (x ∷ l) m =
     rw (every-append test l m) (sym (and-assoc (test x) (every test l) (every test m)))
+
+-- one entry more, which passes
+pub every-snoc :
+    (test : ℕ → Bool) (l : List ℕ) (x : ℕ) → every test l ≡ true → test x ≡ true → every test (l ++ x ∷ []) ≡ true
+unfolding every
+every-snoc test l x h e =
+    every-append test l (x ∷ []) ∙ and-both (every test l) (test x && true) h (and-both (test x) true e refl)
 
 -- of a list with no entry twice: the first entry stands nowhere else
 pub record Fresh (x : ℕ) (l : List ℕ) : Type 0 where

@@ -1,6 +1,6 @@
 -- What holds of every plan that commands led to: it is formed, and from BEGIN on it is in its day.
-use mathlib.Core.Path.{_≡_, refl, sym, ap, subst, _∙_}
-use mathlib.Core.Bool.{Bool, true, false, cond, _&&_}
+use mathlib.Core.Path.{_≡_, sym, ap, subst, _∙_}
+use mathlib.Core.Bool.{Bool, true, false, cond}
 use mathlib.Core.Logic.{⊎-elim}
 use mathlib.Core.List.{List, [], _∷_, _++_, map}
 use Prim.Native.Nat.{ℕ, _≤_}
@@ -11,11 +11,11 @@ use borrow.Author.Tests.{eqb-true}
 use Rattle.rules.specs.Limits.{leastStarts}
 use Rattle.rules.specs.Phase
 use Rattle.rules.specs.State.{State, none}
-use Rattle.rules.specs.Command.{Command, plan, task, activation, execution, begin, done, Decoded, refused, read}
+use Rattle.rules.specs.Command.{Command, plan, task, activation, execution, begin, done, Decoded, refused, read, decode}
 use Rattle.rules.specs.Grounds.{inTurn, ground}
 use Rattle.rules.specs.Obey.{opened, withTask, withOrders, obey}
-use Rattle.rules.specs.Answer.{Answered, refuse, accept, judge, respond}
-use Rattle.rules.specs.Day.{Event, started, ended}
+use Rattle.rules.specs.Answer.{Asking, Answered, refuse, accept, judge, respond, command}
+use Rattle.rules.specs.Day.{Event, started, ended, after}
 use Rattle.rules.specs.Reachable.{Reachable, start, next}
 use Rattle.rules.proofs.Tests.{decide, and-true}
 use Rattle.rules.proofs.Formed.{Formed, Accepted, no-ground, none-formed, obey-formed}
@@ -79,6 +79,15 @@ response s d list =
         (λ (g : eqb (ground s c) 0 ≡ false).
         left-alone (ap (λ (a : Answered). a .state) (is-read s c used list e) ∙ denied s c used list g))
         (decide (eqb (ground s c) 0))
+
+-- the plan after any list of askings is one that commands led to
+pub after-reachable : (l : List Asking) {s : State} → Reachable s → Reachable (after s l)
+unfolding after command
+after-reachable [] r = r
+after-reachable (a ∷ l) r = after-reachable l (next (decode (a .stream) (a .place)) (a .list) r)
+
+pub reachable : (l : List Asking) → Reachable (after none l)
+reachable l = after-reachable l start
 
 -- formed, and from BEGIN on in its day
 pub record Lived (s : State) : Type 0 where

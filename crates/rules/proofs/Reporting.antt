@@ -25,7 +25,7 @@ use Rattle.rules.proofs.Ranks.{rankIn}
 use Rattle.rules.proofs.Roots.{root-last}
 use Rattle.rules.proofs.Good.{Good, at-set, at-other}
 use Rattle.rules.proofs.Sharing.{sharing-good}
-use Rattle.rules.proofs.Log.{Logged, ended-logged, ended-in-order}
+use Rattle.rules.proofs.Log.{Logged, InOrder, logged-runs, ended-logged, ended-in-order}
 use Rattle.rules.proofs.Formed.{Accepted, demand-none}
 use Rattle.rules.proofs.InDay.{InDay, Closing, open-day, closed, booksOf, tree, needs-roomy, proceeds, proceed-in-day}
 
@@ -117,6 +117,12 @@ module _ (s : State) (happened : List Event) (day : InDay s happened) (j : ℕ) 
   logged =
       ended-logged (s .size) (s .standings) (day .settled .good .sized .standings) happened j task (day .logged) runs
 
+  in-order : InOrder (s .size) (at (s .parents)) (happened ++ (ended j ∷ []))
+  in-order =
+      ended-in-order (s .size) (at (s .parents)) happened j (day .order)
+      (logged-runs (s .size) (at (s .standings)) happened (day .logged) j task (omega (arith, runs))
+      ∙ eq-eqb (at (s .standings) j) running runs)
+
   pub done-in-day :
       InDay (obey s (done j) .state) (happened ++ (ended j ∷ map started (obey s (done j) .started)))
   unfolding obey
@@ -125,5 +131,4 @@ module _ (s : State) (happened : List Event) (day : InDay s happened) (j : ℕ) 
       (append-assoc happened (ended j ∷ [])
       (map started (proceed s (phaseAfter s j) (Obey.ended s j) 0 (length (shared s j .offered)) .started)))
       (proceed-in-day s (day .planned) (phaseAfter s j) (Obey.ended s j) 0 (length (shared s j .offered)) good few
-      (happened ++ (ended j ∷ [])) logged (ended-in-order (s .size) (at (s .parents)) happened j (day .order))
-      (closes (length (shared s j .offered))))
+      (happened ++ (ended j ∷ [])) logged in-order (closes (length (shared s j .offered))))

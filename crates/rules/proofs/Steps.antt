@@ -1,14 +1,14 @@
 -- One asking: it is refused and changes nothing, or its command has no ground against it and is obeyed.
-use mathlib.Core.Path.{_≡_, refl, ap, _∙_}
+use mathlib.Core.Path.{_≡_, refl, sym, ap, _∙_}
 use mathlib.Core.Bool.{Bool, true, false, cond}
 use mathlib.Core.Logic.{⊎-elim}
 use mathlib.Core.List.{List, [], _++_, map}
-use Prim.Native.Nat.{ℕ, suc, _+_}
+use Prim.Native.Nat.{ℕ, suc, _+_, _≤_}
 use native.Mathlib.Omega.{arith}
 use lib.Dec.{eqb, leb, ltb}
 use lib.ListN.{length, take, drop}
 use lib.Seq.{take-append-seam}
-use borrow.Author.Tests.{eqb-true, eqb-false, ne-eqb}
+use borrow.Author.Tests.{eqb-true, eqb-false, ne-eqb, ltb-false}
 use Rattle.rules.specs.Limits.{leastStarts}
 use Rattle.rules.specs.Lists.{at}
 use Rattle.rules.specs.State.{State}
@@ -23,6 +23,7 @@ use Rattle.rules.proofs.Formed.{Accepted, no-ground}
 -- a refusal
 pub record Refused (s : State) (a : Asking) : Type 0 where
   pub not-accepted : accepted s a ≡ false
+  pub answered : command s a ≡ refuse (command s a .answer .number) s (a .list)
   pub unchanged : command s a .state ≡ s
 
 -- an acceptance
@@ -30,6 +31,8 @@ pub record Obeyed (s : State) (a : Asking) (c : Command) (used : ℕ) : Type 0 w
   pub decoded : decode (a .stream) (a .place) ≡ read c used
   pub granted : Accepted s c
   pub is-accepted : accepted s a ≡ true
+  pub listed : leastStarts ≤ length (a .list)
+  pub answered : command s a ≡ accept (obey s c) used (a .list)
   pub after : command s a .state ≡ obey s c .state
   pub happens : events s a ≡ map ended (reported (read c used)) ++ map started (obey s c .started)
 
@@ -72,24 +75,28 @@ refusing s a k d e =
     is-refused
     (record {
       not-accepted = ap (λ (r : Answered). eqb (r .answer .number) 0) e ∙ ne-eqb k 0 d;
+      answered = e ∙ ap (λ (v : ℕ). refuse v s (a .list)) (sym (ap (λ (r : Answered). r .answer .number) e));
       unchanged = ap (λ (r : Answered). r .state) e;
     })
 
 -- an answer that accepts
 accepting :
     (s : State) (a : Asking) (c : Command) (used : ℕ)
+    → ltb (length (a .list)) leastStarts ≡ false
     → decode (a .stream) (a .place) ≡ read c used
     → ground s c ≡ 0
     → command s a ≡ accept (obey s c) used (a .list)
     → Step s a
 unfolding accepted accept front events
-accepting s a c used d g e =
+accepting s a c used long d g e =
     let yes-accepted : accepted s a ≡ true = ap (λ (r : Answered). eqb (r .answer .number) 0) e in
     is-obeyed c used
     (record {
       decoded = d;
       granted = no-ground s c g;
       is-accepted = yes-accepted;
+      listed = ltb-false (length (a .list)) leastStarts long;
+      answered = e;
       after = ap (λ (r : Answered). r .state) e;
       happens =
           ap
@@ -156,7 +163,7 @@ step s a =
     by-decoded (read c used) d p e =
         ⊎-elim
         (λ (g : eqb (ground s c) 0 ≡ true).
-        accepting s a c used d (eqb-true (ground s c) 0 g) (judged s a c used e d ∙ judged-well s c used (a .list) g))
+        accepting s a c used e d (eqb-true (ground s c) 0 g) (judged s a c used e d ∙ judged-well s c used (a .list) g))
         (λ (g : eqb (ground s c) 0 ≡ false).
         refusing s a (ground s c) (eqb-false (ground s c) 0 g) (judged s a c used e d ∙ judged-ill s c used (a .list) g))
         (decide (eqb (ground s c) 0))

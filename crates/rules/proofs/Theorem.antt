@@ -10,7 +10,7 @@ use Rattle.rules.specs.Phase
 use Rattle.rules.specs.State.{State, none}
 use Rattle.rules.specs.Command.{Command, plan, task, activation, execution, begin, done, read, decode}
 use Rattle.rules.specs.Grounds.{inTurn}
-use Rattle.rules.specs.Obey.{obey}
+use Rattle.rules.specs.Obey.{proceed, obey}
 use Rattle.rules.specs.Answer.{Asking, command}
 use Rattle.rules.specs.Day.{
   Event,
@@ -27,14 +27,17 @@ use Rattle.rules.specs.Day.{
   opensPlan,
   nextPlan,
 }
-use Rattle.rules.specs.Theorem.{DayHolds, EveryDayHolds}
+use Rattle.rules.specs.Theorem.{EveryDay, EveryDayHolds, Theorem}
 use Rattle.rules.proofs.Tests.{clash, and-true, or-false}
 use Rattle.rules.proofs.Formed.{Formed, Accepted, none-formed, obey-formed}
-use Rattle.rules.proofs.InDay.{InDay, Closing, open-day, closed}
+use Rattle.rules.proofs.InDay.{Closing, open-day, closed}
 use Rattle.rules.proofs.Opening.{begin-in-day}
 use Rattle.rules.proofs.Reporting.{done-in-day}
 use Rattle.rules.proofs.Holds.{day-holds}
+use Rattle.rules.proofs.Staying.{DayOf, itself, books-stay}
 use Rattle.rules.proofs.Steps.{Step, is-refused, is-obeyed, step}
+use Rattle.rules.proofs.Askings.{asking-holds}
+use Rattle.rules.proofs.Refusals.{nothing-happens, after-accepted, log-accepted}
 
 -- every asking leaves a plan that commands can lead to
 command-formed : (s : State) (a : Asking) → Formed s → Formed (command s a .state)
@@ -49,11 +52,6 @@ unfolding after
 after-formed [] s h = h
 after-formed (a ∷ l) s h = after-formed l (command s a .state) (command-formed s a h)
 
--- nothing happens with a refused asking
-nothing-happens : (s : State) (a : Asking) → accepted s a ≡ false → events s a ≡ []
-unfolding events
-nothing-happens s a e = rw e
-
 -- the phase of a day
 day-phase : (s : State) → Closing s → (k : ℕ) → eqb (s .phase) k ≡ true → (k ≡ Phase.running → ⊥) → (k ≡ Phase.over → ⊥) → ⊥
 day-phase s (open-day p h) k e r o = r (sym (eqb-true (s .phase) k e) ∙ p)
@@ -61,57 +59,60 @@ day-phase s (closed p h) k e r o = o (sym (eqb-true (s .phase) k e) ∙ p)
 
 -- in a day only DONE is obeyed, as long as no plan is opened
 obeyed-in-day :
-    (s : State) (happened : List Event) (c : Command) (used : ℕ)
-    → InDay s happened
+    (found s : State) (happened : List Event) (c : Command) (used : ℕ)
+    → DayOf found s happened
     → Accepted s c
     → isPlan (read c used) ≡ false
-    → InDay (obey s c .state) (happened ++ (map ended (reported (read c used)) ++ map started (obey s c .started)))
-unfolding inTurn isPlan reported
-obeyed-in-day s happened (plan n p bound) used day a e = absurd (clash refl e)
-obeyed-in-day s happened (task parent work out) used day a e =
-    absurd (day-phase s (day .closing) Phase.steps (a .turn) (λ q. omega arith) (λ q. omega arith))
-obeyed-in-day s happened (activation i) used day a e =
-    absurd (day-phase s (day .closing) Phase.orders (and-true _ _ (a .turn) .0) (λ q. omega arith) (λ q. omega arith))
-obeyed-in-day s happened (execution i) used day a e =
-    absurd (day-phase s (day .closing) Phase.orders (and-true _ _ (a .turn) .0) (λ q. omega arith) (λ q. omega arith))
-obeyed-in-day s happened begin used day a e =
+    → DayOf found (obey s c .state) (happened ++ (map ended (reported (read c used)) ++ map started (obey s c .started)))
+unfolding inTurn isPlan reported obey proceed
+obeyed-in-day found s happened (plan n p bound) used day a e = absurd (clash refl e)
+obeyed-in-day found s happened (task parent work out) used day a e =
+    absurd (day-phase s (day .day .closing) Phase.steps (a .turn) (λ q. omega arith) (λ q. omega arith))
+obeyed-in-day found s happened (activation i) used day a e =
+    absurd (day-phase s (day .day .closing) Phase.orders (and-true _ _ (a .turn) .0) (λ q. omega arith) (λ q. omega arith))
+obeyed-in-day found s happened (execution i) used day a e =
+    absurd (day-phase s (day .day .closing) Phase.orders (and-true _ _ (a .turn) .0) (λ q. omega arith) (λ q. omega arith))
+obeyed-in-day found s happened begin used day a e =
     absurd
-    (day-phase s (day .closing) Phase.orders (and-true _ _ (and-true _ _ (a .turn) .0) .0) (λ q. omega arith) (λ q. omega arith))
-obeyed-in-day s happened (done j) used day a e = done-in-day s happened day j a
+    (day-phase s (day .day .closing) Phase.orders (and-true _ _ (and-true _ _ (a .turn) .0) .0) (λ q. omega arith) (λ q. omega arith))
+obeyed-in-day found s happened (done j) used day a e =
+    record { day = done-in-day s happened (day .day) j a; stays = books-stay found s _ _ _ (day .stays) }
 
 -- one asking of a day
 asked-in-day :
-    (s : State) (happened : List Event) (a : Asking)
-    → InDay s happened
+    (found s : State) (happened : List Event) (a : Asking)
+    → DayOf found s happened
     → opensPlan s a ≡ false
-    → InDay (command s a .state) (happened ++ events s a)
+    → DayOf found (command s a .state) (happened ++ events s a)
 unfolding opensPlan
-asked-in-day s happened a day e = go (step s a)
+asked-in-day found s happened a day e = go (step s a)
   where
-    go : Step s a → InDay (command s a .state) (happened ++ events s a)
+    go : Step s a → DayOf found (command s a .state) (happened ++ events s a)
     go (is-refused r) =
-        subst₂ (λ (t : State) (l : List Event). InDay t l) (sym (r .unchanged))
+        subst₂ (λ (t : State) (l : List Event). DayOf found t l) (sym (r .unchanged))
         (sym (ap (λ (l : List Event). happened ++ l) (nothing-happens s a (r .not-accepted)) ∙ append-nil happened)) day
     go (is-obeyed c used o) =
         let other : isPlan (read c used) ≡ false =
         ap isPlan (sym (o .decoded)) ∙ sym (ap (λ (t : Bool). t && isPlan (decode (a .stream) (a .place))) (o .is-accepted)) ∙ e
         in
-        subst₂ (λ (t : State) (l : List Event). InDay t l) (sym (o .after)) (ap (λ (l : List Event). happened ++ l) (sym (o .happens)))
-        (obeyed-in-day s happened c used day (o .granted) other)
+        subst₂ (λ (t : State) (l : List Event). DayOf found t l) (sym (o .after))
+        (ap (λ (l : List Event). happened ++ l) (sym (o .happens)))
+        (obeyed-in-day found s happened c used day (o .granted) other)
 
 -- a list of askings of a day
 asked-all :
-    (later : List Asking) (s : State) (happened : List Event)
-    → InDay s happened
+    (later : List Asking) (found s : State) (happened : List Event)
+    → DayOf found s happened
     → nextPlan s later ≡ false
-    → InDay (after s later) (happened ++ log s later)
+    → DayOf found (after s later) (happened ++ log s later)
 unfolding after log nextPlan
-asked-all [] s happened day e = subst (λ (l : List Event). InDay s l) (sym (append-nil happened)) day
-asked-all (a ∷ later) s happened day e =
+asked-all [] found s happened day e = subst (λ (l : List Event). DayOf found s l) (sym (append-nil happened)) day
+asked-all (a ∷ later) found s happened day e =
     let both = or-false (opensPlan s a) (nextPlan (command s a .state) later) e in
-    subst (λ (l : List Event). InDay (after (command s a .state) later) l)
+    subst (λ (l : List Event). DayOf found (after (command s a .state) later) l)
     (append-assoc happened (events s a) (log (command s a .state) later))
-    (asked-all later (command s a .state) (happened ++ events s a) (asked-in-day s happened a day (both .0)) (both .1))
+    (asked-all later found (command s a .state) (happened ++ events s a) (asked-in-day found s happened a day (both .0))
+    (both .1))
 
 -- the asking that opens a day
 begun-by :
@@ -119,24 +120,24 @@ begun-by :
     → Formed s
     → Accepted s c
     → isBegin (read c used) ≡ true
-    → InDay (obey s c .state) (map ended (reported (read c used)) ++ map started (obey s c .started))
-unfolding isBegin reported
+    → DayOf s (obey s c .state) (map ended (reported (read c used)) ++ map started (obey s c .started))
+unfolding isBegin reported obey proceed
 begun-by s (plan n p bound) used h a e = absurd (clash e refl)
 begun-by s (task parent work out) used h a e = absurd (clash e refl)
 begun-by s (activation i) used h a e = absurd (clash e refl)
 begun-by s (execution i) used h a e = absurd (clash e refl)
-begun-by s begin used h a e = begin-in-day s h a
+begun-by s begin used h a e = record { day = begin-in-day s h a; stays = books-stay s s _ _ _ (itself s) }
 begun-by s (done j) used h a e = absurd (clash e refl)
 
-opened-day : (s : State) (a : Asking) → Formed s → opensDay s a ≡ true → InDay (command s a .state) (events s a)
+opened-day : (s : State) (a : Asking) → Formed s → opensDay s a ≡ true → DayOf s (command s a .state) (events s a)
 unfolding opensDay
 opened-day s a h e = go (step s a)
   where
-    go : Step s a → InDay (command s a .state) (events s a)
+    go : Step s a → DayOf s (command s a .state) (events s a)
     go (is-refused r) =
         absurd (clash (and-true (accepted s a) (isBegin (decode (a .stream) (a .place))) e .0) (r .not-accepted))
     go (is-obeyed c used o) =
-        subst₂ (λ (t : State) (l : List Event). InDay t l) (sym (o .after)) (sym (o .happens))
+        subst₂ (λ (t : State) (l : List Event). DayOf s t l) (sym (o .after)) (sym (o .happens))
         (begun-by s c used h (o .granted)
         (ap isBegin (sym (o .decoded)) ∙ and-true (accepted s a) (isBegin (decode (a .stream) (a .place))) e .1))
 
@@ -146,14 +147,27 @@ unfolding after
 after-append [] m s = refl
 after-append (a ∷ l) m s = after-append l m (command s a .state)
 
-pub every-day-holds : EveryDayHolds
+-- every day is a day of the plan that BEGIN found
+every-day : EveryDay DayOf
 unfolding after log nextPlan
-every-day-holds earlier opening later opens next =
+every-day earlier opening later opens next =
     let formed : Formed (after none earlier) = after-formed earlier none none-formed in
     let both = or-false (opensPlan (after none earlier) opening) (nextPlan (command (after none earlier) opening .state) later) next in
-    let day =
-    asked-all later (command (after none earlier) opening .state) (events (after none earlier) opening)
-    (opened-day (after none earlier) opening formed opens) (both .1)
-    in
-    subst (λ (t : State). DayHolds t (log (after none earlier) (opening ∷ later)))
-    (sym (after-append earlier (opening ∷ later) none)) (day-holds _ _ day)
+    subst (λ (t : State). DayOf (after none earlier) t (log (after none earlier) (opening ∷ later)))
+    (sym (after-append earlier (opening ∷ later) none))
+    (asked-all later (after none earlier) (command (after none earlier) opening .state) (events (after none earlier) opening)
+    (opened-day (after none earlier) opening formed opens) (both .1))
+
+pub every-day-holds : EveryDayHolds
+every-day-holds earlier opening later opens next = day-holds _ _ (every-day earlier opening later opens next .day)
+
+pub theorem : Theorem
+theorem =
+    record {
+      days = every-day-holds;
+      plans = λ earlier opening later opens next. every-day earlier opening later opens next .stays .plan;
+      places = λ earlier opening later opens next. every-day earlier opening later opens next .stays .places;
+      askings = λ earlier a. asking-holds (after none earlier) a (after-formed earlier none none-formed);
+      refusals = λ s asks. after-accepted asks s;
+      silent = λ s asks. log-accepted asks s;
+    }

@@ -5,12 +5,12 @@ use mathlib.Core.List.{List, [], _∷_, _++_, map}
 use Prim.Native.Nat.{ℕ, _<_}
 use native.Mathlib.Omega.{arith}
 use Rattle.rules.specs.Sums.{countTo}
-use Rattle.rules.specs.State.{State, none}
+use Rattle.rules.specs.State.{none}
 use Rattle.rules.specs.Command.{plan, begin, done, bytes}
 use Rattle.rules.specs.Answer.{Asking}
 use Rattle.rules.specs.Question
-use Rattle.rules.specs.Day.{Event, started, ended, after, answers, log, opensDay, nextPlan}
-use Rattle.rules.specs.Theorem.{runs, DayHolds}
+use Rattle.rules.specs.Day.{started, ended, after, answers, acceptedOnly, log, opensDay, nextPlan}
+use Rattle.rules.specs.Theorem.{runs, DayHolds, EveryDay}
 use Rattle.rules.specs.Marked.{ask, asks, inOrder, tasksA, planA, planC, reading, short}
 use Rattle.rules.proofs.Computing.{computing}
 use Rattle.rules.proofs.Theorem.{every-day-holds}
@@ -58,6 +58,13 @@ pub worked-log :
 unfolding computing asks tasksA planA inOrder ask reading short morning whole
 worked-log = refl
 
+-- the four that are accepted
+pub worked-accepted :
+    acceptedOnly (after none (asks (planA 7))) (ask begin ∷ whole)
+    ≡ ask begin ∷ ask (done 1) ∷ ask (done 2) ∷ ask (done 3) ∷ []
+unfolding computing asks tasksA planA inOrder ask reading short morning whole
+worked-accepted = refl
+
 -- all that is promised of a day holds of it
 pub worked-holds :
     DayHolds (after none (asks (planA 7) ++ ask begin ∷ whole))
@@ -73,29 +80,17 @@ pub worked-second : opensDay (after none ((asks (planA 7) ++ ask begin ∷ whole
 unfolding computing asks tasksA planA planC inOrder ask reading short morning whole
 worked-second = refl
 
--- a claim about the plan and about what happened, made of every day
-abbrev Always : (State → List Event → Type 0) → Type 0
-Always claim =
-    (earlier : List Asking) (opening : Asking) (later : List Asking)
-    → opensDay (after none earlier) opening ≡ true
-    → nextPlan (after none earlier) (opening ∷ later) ≡ false
-    → claim (after none (earlier ++ opening ∷ later)) (log (after none earlier) (opening ∷ later))
-
--- what is proved is such a claim
-pub holds-always : Always DayHolds
-holds-always = every-day-holds
-
 -- wrong: "booked trays are fewer than the places"
 abbrev pub Below : Type 0
-Below = Always (λ s _. Question.booked s < s .memory .bound)
+Below = EveryDay (λ _ s _. Question.booked s < s .memory .bound)
 
 -- wrong: "fewer tasks run than there are processors"
 abbrev pub Spare : Type 0
-Spare = Always (λ s happened. countTo (runs happened) (s .size) < s .processors)
+Spare = EveryDay (λ _ s happened. countTo (runs happened) (s .size) < s .processors)
 
 -- wrong: "what is booked is in use"
 abbrev pub Tight : Type 0
-Tight = Always (λ s _. Question.inUse s ≡ Question.booked s)
+Tight = EveryDay (λ _ s _. Question.inUse s ≡ Question.booked s)
 
 -- after the morning all seven places are booked
 pub not-below : Below → ⊥

@@ -23,6 +23,11 @@ answers s (a ∷ later) = command s a ∷ answers (command s a .state) later
 unfoldable pub accepted : State → Asking → Bool
 accepted s a = eqb (command s a .answer .number) 0
 
+-- those of a list of askings that are accepted
+unfoldable pub acceptedOnly : State → List Asking → List Asking
+acceptedOnly s [] = []
+acceptedOnly s (a ∷ later) = cond (accepted s a) (a ∷ []) [] ++ acceptedOnly (command s a .state) later
+
 -- the kinds of commands that bound a day, and the task that a report names
 unfoldable pub isPlan : Decoded → Bool
 isPlan (refused k) = false

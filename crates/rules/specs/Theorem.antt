@@ -4,15 +4,18 @@ use mathlib.Core.Bool.{Bool, true, false, not, _&&_}
 use mathlib.Core.Logic.{_↔_}
 use mathlib.Core.List.{List, _∷_, _++_}
 use Prim.Native.Nat.{ℕ, _≤_, _<_}
-use lib.ListN.{length}
+use lib.ListN.{length, drop}
+use Rattle.rules.specs.Limits.{leastStarts}
 use Rattle.rules.specs.Sums.{Task, countTo}
 use Rattle.rules.specs.Lists.{at, mem}
 use Rattle.rules.specs.Need
 use Rattle.rules.specs.Phase
+use Rattle.rules.specs.Standing
 use Rattle.rules.specs.State.{State, none, needs}
-use Rattle.rules.specs.Answer.{Asking}
+use Rattle.rules.specs.Booking.{total}
+use Rattle.rules.specs.Answer.{Asking, refuse, command}
 use Rattle.rules.specs.Question
-use Rattle.rules.specs.Day.{Event, started, starts, ends, log, after, opensDay, nextPlan}
+use Rattle.rules.specs.Day.{Event, started, ended, starts, ends, log, after, accepted, acceptedOnly, opensDay, nextPlan}
 
 -- a task has started and not ended, by what happened
 unfoldable pub runs : List Event → ℕ → Bool
@@ -28,6 +31,9 @@ usedBy s happened =
 -- what is promised of a day: s is the plan as it stands, and `happened` the day's starts and ends so far, in order. The day's
 -- reports that were accepted are its ends
 pub record DayHolds (s : State) (happened : List Event) : Type 0 where
+  -- what starts and what ends is a step of the plan
+  pub starting : (i : ℕ) → mem i (starts happened) ≡ true → Task (s .size) i
+  pub ending : (i : ℕ) → mem i (ends happened) ≡ true → Task (s .size) i
   -- "no step has started twice"
   pub once :
       (earlier later : List Event) (i : ℕ) → happened ≡ earlier ++ started i ∷ later → mem i (starts earlier) ≡ false
@@ -39,17 +45,28 @@ pub record DayHolds (s : State) (happened : List Event) : Type 0 where
       → Task (s .size) c
       → at (s .parents) c ≡ i
       → mem c (ends earlier) ≡ true
+  -- a step "runs in between": what ends has started, and has not ended before
+  pub ran :
+      (earlier later : List Event) (i : ℕ) → happened ≡ earlier ++ ended i ∷ later → runs earlier i ≡ true
+  -- no more than n reports are accepted
+  pub most : length (ends happened) ≤ s .size
   -- "some step is running exactly while fewer than n of the day's reports were accepted"
   pub going : ((i : ℕ) × Task (s .size) i × (runs happened i ≡ true)) ↔ (length (ends happened) < s .size)
-  -- "at the n-th each has started and ended"; the phase is over then and only then
+  -- "at the n-th each has started and ended"
   pub complete :
       length (ends happened) ≡ s .size
       → (i : ℕ)
       → Task (s .size) i
       → (mem i (starts happened) ≡ true) × (mem i (ends happened) ≡ true)
+  -- the phase is running until then, and over from then on
+  pub running : (s .phase ≡ Phase.running) ↔ (length (ends happened) < s .size)
   pub over : (s .phase ≡ Phase.over) ↔ (length (ends happened) ≡ s .size)
-  -- what the plan answers for trays in use is what the starts and ends give
+  -- what the plan answers for trays in use is what the starts and ends give, and for trays booked "the sum of all booked trays"
   pub used : Question.inUse s ≡ usedBy s happened
+  pub summed : Question.booked s ≡ total (s .size) (at (s .memory .booked))
+  -- what it answers for running and for ended steps is what the starts and ends give
+  pub countRunning : at (Question.standing s) Standing.running ≡ countTo (runs happened) (s .size)
+  pub countEnded : at (Question.standing s) Standing.finished ≡ length (ends happened)
   -- "trays in use never exceed trays booked, nor booked trays the cold room's places"
   pub covered : Question.inUse s ≤ Question.booked s
   pub within : Question.booked s ≤ s .memory .bound
@@ -57,11 +74,50 @@ pub record DayHolds (s : State) (happened : List Event) : Type 0 where
   pub staffed : countTo (runs happened) (s .size) ≤ s .processors
   pub exact : (i : ℕ) → Task (s .size) i → runs happened i ≡ true → at (s .memory .booked) i ≡ needs s i
 
+-- the plan itself is the same: its steps, its stations and its orders
+pub record SamePlan (s s′ : State) : Type 0 where
+  pub size : s′ .size ≡ s .size
+  pub processors : s′ .processors ≡ s .processors
+  pub parents : s′ .parents ≡ s .parents
+  pub works : s′ .memory .works ≡ s .memory .works
+  pub outs : s′ .memory .outs ≡ s .memory .outs
+  pub activation : s′ .activation ≡ s .activation
+  pub execution : s′ .execution ≡ s .execution
+
+-- what is promised of one asking: s is the plan that it finds
+pub record AskingHolds (s : State) (a : Asking) : Type 0 where
+  -- a refusal answers its number alone, "and the plan, the phase and the start list remain what they were"
+  pub refusal : accepted s a ≡ false → command s a ≡ refuse (command s a .answer .number) s (a .list)
+  -- no more tasks start than there are processors, nor than a start list has entries
+  pub few : command s a .answer .starts ≤ s .processors
+  pub fitting : command s a .answer .starts ≤ leastStarts
+  -- the start list is as long as it was, and an accepted command "touches no later entry"
+  pub long : length (command s a .list) ≡ length (a .list)
+  pub behind : drop (command s a .answer .starts) (command s a .list) ≡ drop (command s a .answer .starts) (a .list)
+
 -- For every list of askings, refused ones included: a BEGIN that is accepted after some of them opens a day, and after each
--- command of the day, as long as no next plan is opened, all this holds.
-abbrev pub EveryDayHolds : Type 0
-EveryDayHolds =
+-- command of the day, as long as no next plan is opened, a claim holds of the plan that BEGIN found, of the plan as it stands and
+-- of what happened in the day.
+abbrev pub EveryDay : (State → State → List Event → Type 0) → Type 0
+EveryDay claim =
     (earlier : List Asking) (opening : Asking) (later : List Asking)
     → opensDay (after none earlier) opening ≡ true
     → nextPlan (after none earlier) (opening ∷ later) ≡ false
-    → DayHolds (after none (earlier ++ opening ∷ later)) (log (after none earlier) (opening ∷ later))
+    → claim (after none earlier) (after none (earlier ++ opening ∷ later)) (log (after none earlier) (opening ∷ later))
+
+-- all that is promised of a day holds of every day
+abbrev pub EveryDayHolds : Type 0
+EveryDayHolds = EveryDay (λ _ s happened. DayHolds s happened)
+
+-- the theorem: what holds of every list of askings, day by day and as a whole
+pub record Theorem : Type 0 where
+  pub days : EveryDayHolds
+  -- in a day the plan stays as BEGIN found it
+  pub plans : EveryDay (λ found s _. SamePlan found s)
+  -- and so do the places of the cold room
+  pub places : EveryDay (λ found s _. s .memory .bound ≡ found .memory .bound)
+  -- all that is promised of an asking holds of each of the list
+  pub askings : (earlier : List Asking) (a : Asking) → AskingHolds (after none earlier) a
+  -- "from the accepted commands alone": without those that are refused the plan is the same, and so is what happened
+  pub refusals : (s : State) (asks : List Asking) → after s asks ≡ after s (acceptedOnly s asks)
+  pub silent : (s : State) (asks : List Asking) → log s asks ≡ log s (acceptedOnly s asks)

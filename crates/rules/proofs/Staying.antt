@@ -1,0 +1,54 @@
+-- In a day the plan stays as BEGIN found it, but for its phase and its books.
+use mathlib.Core.Path.{_≡_, refl}
+use mathlib.Core.List.{List}
+use Prim.Native.Nat.{ℕ}
+use Rattle.rules.specs.State.{State}
+use Rattle.rules.specs.Obey.{withBooks}
+use Rattle.rules.specs.Day.{Event}
+use Rattle.rules.specs.Theorem.{SamePlan}
+use Rattle.rules.proofs.InDay.{InDay}
+
+-- the plan and the places of the cold room are those that BEGIN found
+pub record Stays (found s : State) : Type 0 where
+  pub plan : SamePlan found s
+  pub places : s .memory .bound ≡ found .memory .bound
+
+-- a day of the plan that BEGIN found
+pub record DayOf (found s : State) (happened : List Event) : Type 0 where
+  pub day : InDay s happened
+  pub stays : Stays found s
+
+pub itself : (s : State) → Stays s s
+itself s =
+    record {
+      plan =
+          record {
+            size = refl;
+            processors = refl;
+            parents = refl;
+            works = refl;
+            outs = refl;
+            activation = refl;
+            execution = refl;
+          };
+      places = refl;
+    }
+
+-- another phase and other books
+pub books-stay :
+    (found s : State) (phase : ℕ) (st b : List ℕ) → Stays found s → Stays found (withBooks s phase st b)
+unfolding withBooks
+books-stay found s phase st b h =
+    record {
+      plan =
+          record {
+            size = h .plan .size;
+            processors = h .plan .processors;
+            parents = h .plan .parents;
+            works = h .plan .works;
+            outs = h .plan .outs;
+            activation = h .plan .activation;
+            execution = h .plan .execution;
+          };
+      places = h .places;
+    }
