@@ -38,6 +38,12 @@ still-next stream place =
     let e : place + 0 ≡ place = omega arith in
     onward-decode stream place 0 ∙ ap (decode stream) e
 
+-- a reader that is set at a place reads what stands there
+pub at-decode : (stream : List ℕ) (place : ℕ) → decode stream (onward stream 0 place) ≡ decode stream place
+at-decode stream place =
+    let e : 0 + place ≡ place = omega arith in
+    onward-decode stream 0 place ∙ ap (decode stream) e
+
 -- a command that is read at a place ends no later than n; a refusal says nothing
 abbrev Within : ℕ → ℕ → Decoded → Type 0
 Within place n (refused k) = Unit {0}

@@ -40,7 +40,8 @@ impl<'a> Reader<'a> {
 
     // A reader that has come to a place of a stream.
     pub fn at(bytes: &'a [u8], place: usize) -> Reader<'a>
-        ensures { λ r. ⌜ (r .bytes ≡ bytes .entry) × (r .place ≡ onward (now (bytes .entry)) 0 place) ⌝ }
+        ensures { λ r. ⌜ (r .bytes ≡ bytes .entry)
+            × (r .place ≡ onward (now (bytes .entry)) 0 place) ⌝ }
     {
         Reader {
             bytes,
@@ -64,7 +65,8 @@ impl<'a> Reader<'a> {
 
     // "It moves on by the bytes used, so a refused command is still the next one."
     pub fn moved(self, used: usize) -> Reader<'a>
-        ensures { λ r. ⌜ (r .bytes ≡ self .entry .bytes) × (r .place ≡ onward (now (self .entry .bytes)) (self .entry .place) used) ⌝ }
+        ensures { λ r. ⌜ (r .bytes ≡ self .entry .bytes)
+            × (r .place ≡ onward (now (self .entry .bytes)) (self .entry .place) used) ⌝ }
     {
         Reader {
             bytes: self.bytes,
