@@ -18,7 +18,7 @@ use Rattle.rules.proofs.Orders.{within-task}
 use Rattle.peak.specs.Survey.{covered, surveyed}
 use Rattle.desk.specs.declared.TaskRecord.{TaskRecord}
 use Rattle.desk.specs.Records.{stepRecord, stepRecords}
-use Rattle.desk.specs.Weighed.{weighed}
+use Rattle.desk.specs.Assessed.{assessed}
 use Rattle.desk.proofs.Padding.{padded, length-padded, getD-padded}
 use Rattle.desk.proofs.Columns.{filled, filled-all}
 
@@ -49,23 +49,25 @@ module _ (records : List StepRecord) (activation : List ℕ) where
   abbrev n : ℕ
   n = length records
 
+  -- a column in its array
   abbrev array : (StepRecord → ℕ) → List ℕ
   array field = padded 1025 (column field records)
 
-  abbrev arrays : Type 0
-  arrays = weighed n (array (λ r. r .parent)) (array (λ r. r .work)) (array (λ r. r .out)) activation ≡ desk records activation
+  -- what is to be shown
+  abbrev Same : Type 0
+  Same = assessed n (array (λ r. r .parent)) (array (λ r. r .work)) (array (λ r. r .out)) activation ≡ desk records activation
 
-  arrays-unequal : eqb (length activation) n ≡ false → arrays
-  unfolding weighed desk
-  arrays-unequal e = rw (e, unequal n _ _ _ activation e)
+  same-unequal : eqb (length activation) n ≡ false → Same
+  unfolding assessed desk
+  same-unequal e = rw (e, unequal n _ _ _ activation e)
 
-  arrays-outside : eqb (length activation) n ≡ true → within n maxTasks ≡ false → arrays
-  unfolding weighed desk surveyed covered
-  arrays-outside e f = rw (e, f, outside n _ _ _ activation e f)
+  same-outside : eqb (length activation) n ≡ true → within n maxTasks ≡ false → Same
+  unfolding assessed desk surveyed covered
+  same-outside e f = rw (e, f, outside n _ _ _ activation e f)
 
-  arrays-inside : eqb (length activation) n ≡ true → within n maxTasks ≡ true → arrays
-  unfolding weighed desk surveyed covered
-  arrays-inside e t =
+  same-inside : eqb (length activation) n ≡ true → within n maxTasks ≡ true → Same
+  unfolding assessed desk surveyed covered
+  same-inside e t =
       let equal = eqb-true (length activation) n e in
       let fits = within-task maxTasks n t .high in
       rw (
@@ -82,9 +84,9 @@ module _ (records : List StepRecord) (activation : List ℕ) where
         at-column (λ r. r .out) records fits,
       )
 
-  answers-arrays : arrays
-  answers-arrays =
-      ⊎-elim (λ e. ⊎-elim (arrays-inside e) (arrays-outside e) (decide (within n maxTasks))) arrays-unequal
+  answers-padded : Same
+  answers-padded =
+      ⊎-elim (λ e. ⊎-elim (same-inside e) (same-outside e) (decide (within n maxTasks))) same-unequal
       (decide (eqb (length activation) n))
 
 length-steps : (records : List TaskRecord) → length (stepRecords records) ≡ length records
@@ -95,7 +97,7 @@ length-steps records = length-map records stepRecord
 pub answers :
     (records : List TaskRecord) (activation : List ℕ) (c : ℕ)
     → c ≡ min (length records) maxTasks
-    → weighed (length records) (filled (λ r. r .parent) records c) (filled (λ r. r .work) records c)
+    → assessed (length records) (filled (λ r. r .parent) records c) (filled (λ r. r .work) records c)
     (filled (λ r. r .out) records c) activation
     ≡ desk (stepRecords records) activation
 answers records activation c e =
@@ -104,5 +106,5 @@ answers records activation c e =
       filled-all (λ r. r .work) records c e,
       filled-all (λ r. r .out) records c e,
       ← (length-steps records),
-      answers-arrays (stepRecords records) activation,
+      answers-padded (stepRecords records) activation,
     )

@@ -2,4 +2,4 @@
 -- the caller's records as those of the rules
 pub mod Records
 -- what is answered for flat columns
-pub mod Weighed
+pub mod Assessed

@@ -5,7 +5,7 @@ ghost use Prim.Native.Nat.{min};
 ghost use Rattle.rules.specs.Limits.{maxTasks};
 ghost use Rattle.rules.specs.Desk.{desk};
 ghost use Rattle.desk.specs.Records.{stepRecords};
-ghost use Rattle.desk.specs.Weighed.{weighed};
+ghost use Rattle.desk.specs.Assessed.{assessed};
 
 // "A record is parent, work and out": one task (step).
 #[repr(C)]
@@ -34,14 +34,14 @@ fn copied(n: usize) -> usize
 }
 
 // What the desk is answered for n tasks in flat columns. Entry i of a column belongs to task i.
-fn weigh(
+fn assess(
     n: usize,
     parents: [u16; peak::ENTRIES],
     works: [u32; peak::ENTRIES],
     outs: [u32; peak::ENTRIES],
     activation: &[u16],
 ) -> DeskAnswer
-    ensures { λ r. ⌜ weighed n parents works outs (now (activation .entry)) ≡ record { number = r .number; peak = r .peak } ⌝ }
+    ensures { λ r. ⌜ assessed n parents works outs (now (activation .entry)) ≡ record { number = r .number; peak = r .peak } ⌝ }
 {
     if activation.len() != n {
         return DeskAnswer { number: 4, peak: 0 };
@@ -54,7 +54,8 @@ fn weigh(
 }
 
 // "The planners' desk may ask the peak of its own list of step records, one record a step, with an
-// activation list beside it. .. Both lists are only read."
+// activation list beside it. .. Both lists are only read." For C and Rust each list is a pointer and
+// a length.
 #[no_mangle]
 pub extern "C" fn desk_peak(records: &[TaskRecord], activation: &[u16]) -> DeskAnswer
     ensures { λ r. ⌜ desk (stepRecords (now (records .entry))) (now (activation .entry))
@@ -72,5 +73,5 @@ pub extern "C" fn desk_peak(records: &[TaskRecord], activation: &[u16]) -> DeskA
         works[i] = record.work as u32;
         outs[i] = record.out as u32;
     }
-    weigh(records.len(), parents, works, outs, activation)
+    assess(records.len(), parents, works, outs, activation)
 }

@@ -1,5 +1,5 @@
 -- `desk_peak` meets its contract: a walk of its MIR, by hand. The records are looked into once, before the loop, and the three
--- columns are filled in place. All that the walk knows of `copied` and of `weigh` is that each meets its contract.
+-- columns are filled in place. All that the walk knows of `copied` and of `assess` is that each meets its contract.
 mod Shape
 mod Leaving
 mod Turning
@@ -99,15 +99,15 @@ use Rattle.desk.proofs.copied as copied
 use Rattle.desk.proofs.copied.Symbol as copied-def
 use Rattle.desk.proofs.copied.Symbol.{name as #desk·copied}
 use Rattle.desk.proofs.copied.Met as copied-thm
-use Rattle.desk.proofs.weigh.Symbol as weigh-def
-use Rattle.desk.proofs.weigh.Symbol.{name as #desk·weigh}
-use Rattle.desk.proofs.weigh.Met as weigh-thm
+use Rattle.desk.proofs.assess.Symbol as assess-def
+use Rattle.desk.proofs.assess.Symbol.{name as #desk·assess}
+use Rattle.desk.proofs.assess.Met as assess-thm
 use Rattle.desk.proofs.desk_peak.Key.{name as #desk·desk-peak}
 use Rattle.desk.proofs.desk_peak as desk-peak
 use Rattle.desk.proofs.desk_peak.Statement as stated
 use Rattle.desk.proofs.desk_peak.Code as code
 use Rattle.desk.proofs.desk_peak.Proof.Shape as Shape
-use Rattle.desk.proofs.desk_peak.Proof.Shape.{R, stayed, parent, work, out, word, Copied, Weigh}
+use Rattle.desk.proofs.desk_peak.Proof.Shape.{R, stayed, parent, work, out, word, Copied, Assess}
 use Rattle.desk.proofs.desk_peak.Proof.Turning.{looped}
 
 module _ {M : Type 1} (𝓤 : URA M) (H : Heap 𝓤) (A : Atoms 𝓤) (W : Given 𝓤 H A) (mem : Memory → SProp 𝓤) (run : Routine → Fun 𝓤)
@@ -152,7 +152,7 @@ module _ {M : Type 1} (𝓤 : URA M) (H : Heap 𝓤) (A : Atoms 𝓤) (W : Given
       -- [what the order owns, twice; true; the borrow; what the records own; the order's token; true; the records' token]
       keep ! (3 ∷ 7 ∷ 4 ∷ 5 ∷ 0 ∷ 1 ∷ []) $ done !
 
-  -- the call of `copied`
+  -- the call of `copied`: what it is passed, what it asks, and what is known of its result
   abbrev to-copied : Copied 𝓤 H A mem run .Ghost
   to-copied = ((tt, tt, tt, (n, tt), (vint w64 n ∷ [], tt)), tt)
 
@@ -167,7 +167,8 @@ module _ {M : Type 1} (𝓤 : URA M) (H : Heap 𝓤) (A : Atoms 𝓤) (W : Given
   copied-said c = exE 𝓤 _ (λ ws. snd∗ 𝓤 (sem 𝓤 H A (lasts copied.ended tt (n, tt) ws)) (fact 𝓤 (c ≡ min n maxTasks)))
 
   module _ (𝓣 : Tables 𝓤 H) (fm : FmC 𝓤 H (W .laws) (𝓣 .C)) (known-copied : Triple 𝓤 (𝓣 .C #desk·copied) (Copied 𝓤 H A mem run))
-      (known-weigh : Triple 𝓤 (𝓣 .C #desk·weigh) (Weigh 𝓤 H A mem run)) where
+      (known-assess : Triple 𝓤 (𝓣 .C #desk·assess) (Assess 𝓤 H A mem run)) where
+    -- the body up to the loop
     walk :
         Is (ShrSlice (named 0) κ R) records (records-val ∷ [])
         → Is (ShrSlice (named 1) κ′ u16) order (order-val ∷ [])
@@ -205,11 +206,12 @@ module _ {M : Type 1} (𝓤 : URA M) (H : Heap 𝓤) (A : Atoms 𝓤) (W : Given
         keep ! (0 ∷ 5 ∷ 4 ∷ 3 ∷ 38 ∷ 40 ∷ 47 ∷ 36 ∷ 32 ∷ 30 ∷ 28 ∷ 26 ∷ 24 ∷ 22 ∷ 20 ∷ 18 ∷ 16 ∷ 14 ∷ 12 ∷ 1 ∷ 51 ∷ 52 ∷ 53 ∷ 54 ∷ 45 ∷ 34 ∷ 49 ∷ 10 ∷ 8 ∷ 6
         ∷ 50 ∷ 48 ∷ 46 ∷ 44 ∷ 43 ∷ 42 ∷ 41 ∷ 39 ∷ 37 ∷ 35 ∷ 33 ∷ 31 ∷ 29 ∷ 27 ∷ 25 ∷ 23 ∷ 21 ∷ 19 ∷ 17 ∷ 15 ∷ 13 ∷ 11 ∷ 9 ∷ 7 ∷ []) $
         looped 𝓤 H A W mem run κ κ′ q q₂ b o γ ys order l₀ l₁ l₂ l₃ l₄ l₅ l₆ l₇ l₈ l₉ l₁₀ l₁₁ l₁₂ l₁₃ l₁₄ l₁₅ l₁₆ l₁₇ l₁₈ l₁₉ l₂₀ l₂₁ l₂₂ l₂₃
-        𝓣 fm known-weigh q′ c (is-records .0 .1) all)))))))))))))))))))))))))))))
+        𝓣 fm known-assess q′ c (is-records .0 .1) all)))))))))))))))))))))))))))))
 
 module _ {M : Type 1} (𝓤 : URA M) (H : Heap 𝓤) (A : Atoms 𝓤) (W : Given 𝓤 H A) (mem : Memory → SProp 𝓤) (run : Routine → Fun 𝓤)
     (𝓣 : Tables 𝓤 H) (known-copied : Triple 𝓤 (𝓣 .C #desk·copied) (Copied 𝓤 H A mem run))
-    (known-weigh : Triple 𝓤 (𝓣 .C #desk·weigh) (Weigh 𝓤 H A mem run)) where
+    (known-assess : Triple 𝓤 (𝓣 .C #desk·assess) (Assess 𝓤 H A mem run)) where
+  -- the walk, at any lifetimes and any lists
   walks : Walks 𝓤 H A desk-peak.ended stayed (WpFn 𝓤 H (𝓣 .C) (𝓣 .Λ) code.function) (desk-peak.clauses 𝓤 H A mem run)
   walks =
       walked 𝓤 H A desk-peak.ended stayed (desk-peak.clauses 𝓤 H A mem run) (WpFn 𝓤 H (𝓣 .C) (𝓣 .Λ) code.function)
@@ -218,8 +220,9 @@ module _ {M : Type 1} (𝓤 : URA M) (H : Heap 𝓤) (A : Atoms 𝓤) (W : Given
       (via 𝓤 _
       (holds 𝓤 H A W mem run (κs .0) (κs .1 .0) (qs .0) (qs .1 .0) (a .0 .ptr .0) (a .0 .ptr .1) (a .0 .name) (a .0 .now) (a .1 .0))
       (walk 𝓤 H A W mem run (κs .0) (κs .1 .0) (qs .0) (qs .1 .0) (a .0 .ptr .0) (a .0 .ptr .1) (a .0 .name) (a .0 .now) (a .1 .0) 𝓣
-      (fmOf 𝓤 H (W .laws) 𝓣) known-copied known-weigh (are .0) (are .1 .0))))
+      (fmOf 𝓤 H (W .laws) 𝓣) known-copied known-assess (are .0) (are .1 .0))))
 
+  -- so the code meets the contract
   meets : Meets 𝓤 H A desk-peak.signature (WpFn 𝓤 H (𝓣 .C) (𝓣 .Λ) code.function) (desk-peak.spec 𝓤 H A mem run)
   meets =
       walk-meets 𝓤 H A desk-peak.ended stayed W (
@@ -235,4 +238,4 @@ desk-peak-spec 𝓤 H 𝓜 𝓖 𝓡 =
     (tables 𝓤 H 𝓜 𝓡 code.env .C) (tables 𝓤 H 𝓜 𝓡 code.env .Λ) #desk·desk-peak code.function (code.unfolded 𝓤 H 𝓜 𝓡)
     (meets 𝓤 H (𝓖 .A) (givenOf 𝓤 H 𝓜 𝓖) (𝓜 .mem) (𝓡 .run) (tablesOf 𝓤 H 𝓜 (tables 𝓤 H 𝓜 𝓡 code.env))
     (cited 𝓤 H (Copied 𝓤 H (𝓖 .A) (𝓜 .mem) (𝓡 .run)) 𝓜 𝓡 code.env #desk·copied copied-def.routine code.calls-desk·copied (copied-thm.met 𝓤 H 𝓜 𝓖 𝓡))
-    (cited 𝓤 H (Weigh 𝓤 H (𝓖 .A) (𝓜 .mem) (𝓡 .run)) 𝓜 𝓡 code.env #desk·weigh weigh-def.routine code.calls-desk·weigh (weigh-thm.met 𝓤 H 𝓜 𝓖 𝓡)))
+    (cited 𝓤 H (Assess 𝓤 H (𝓖 .A) (𝓜 .mem) (𝓡 .run)) 𝓜 𝓡 code.env #desk·assess assess-def.routine code.calls-desk·assess (assess-thm.met 𝓤 H 𝓜 𝓖 𝓡)))

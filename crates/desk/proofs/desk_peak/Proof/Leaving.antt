@@ -1,4 +1,4 @@
--- After the loop: the columns are whole again and are weighed, and the answer is returned.
+-- After the loop: the columns are whole again and are assessed, and the answer is returned.
 use mathlib.Core.Path.{_≡_, refl, sym, _∙_}
 use mathlib.Core.List.{List, [], _∷_}
 use Prim.Native.Nat.{ℕ, min}
@@ -83,18 +83,18 @@ use Rattle.rules.specs.Desk.{desk}
 use Rattle.desk.specs.declared.TaskRecord.{TaskRecord}
 use Rattle.desk.specs.declared.DeskAnswer.{DeskAnswer}
 use Rattle.desk.specs.Records.{stepRecords}
-use Rattle.desk.specs.Weighed.{weighed}
+use Rattle.desk.specs.Assessed.{assessed}
 use Rattle.desk.proofs.Columns.{filled, length-filled}
 use Rattle.desk.proofs.Answers.{answers}
 use Rattle.desk.proofs.Arrays.{wordsVal, words-whole}
 use Rattle.desk.proofs.DeskAnswer as D
 use Rattle.desk.proofs.DeskAnswer.Laws as D′
-use Rattle.desk.proofs.weigh as weigh
-use Rattle.desk.proofs.weigh.Symbol.{name as #desk·weigh}
+use Rattle.desk.proofs.assess as assess
+use Rattle.desk.proofs.assess.Symbol.{name as #desk·assess}
 use Rattle.desk.proofs.desk_peak as desk-peak
 use Rattle.desk.proofs.desk_peak.Code.Mir as code
 use Rattle.desk.proofs.desk_peak.Proof.Shape as Shape
-use Rattle.desk.proofs.desk_peak.Proof.Shape.{R, stayed, parent, work, out, halves, words, word, Weigh}
+use Rattle.desk.proofs.desk_peak.Proof.Shape.{R, stayed, parent, work, out, halves, words, word, Assess}
 
 module _ {M : Type 1} (𝓤 : URA M) (H : Heap 𝓤) (A : Atoms 𝓤) (W : Given 𝓤 H A) (mem : Memory → SProp 𝓤) (run : Routine → Fun 𝓤)
     (κ κ′ : Lft) (q q₂ : Share) (b o : ℕ) (γ : GName) (ys : List TaskRecord) (order : RefT (List ℕ)) where
@@ -113,6 +113,7 @@ module _ {M : Type 1} (𝓤 : URA M) (H : Heap 𝓤) (A : Atoms 𝓤) (W : Given
   abbrev Order : Fml
   Order = Shape.OrderOwn 𝓤 H A mem run κ κ′ q q₂ b o γ ys order
 
+  -- where the answer is the desk's, what is had at exit is what the contract promises
   exits :
       (r : DeskAnswer) (u : Val)
       → desk (stepRecords ys) (now order) ≡ record { number = r .number; peak = r .peak }
@@ -136,9 +137,9 @@ module _ {M : Type 1} (𝓤 : URA M) (H : Heap 𝓤) (A : Atoms 𝓤) (W : Given
     abbrev outs : List ℕ
     outs = filled out ys i
 
-    -- the call of `weigh`: what it is passed, what it asks, and what is known of its result
-    abbrev to-weigh : Weigh 𝓤 H A mem run .Ghost
-    to-weigh = (
+    -- the call of `assess`: what it is passed, what it asks, and what is known of its result
+    abbrev to-assess : Assess 𝓤 H A mem run .Ghost
+    to-assess = (
       (
         (κ′, tt),
         (q₂, tt),
@@ -151,21 +152,21 @@ module _ {M : Type 1} (𝓤 : URA M) (H : Heap 𝓤) (A : Atoms 𝓤) (W : Given
 
     abbrev passed : Fml
     passed =
-        owns (usize ∷ Array u16 1025 ∷ Array u32 1025 ∷ Array u32 1025 ∷ ShrSlice (named 0) κ′ u16 ∷ []) (to-weigh .0 .3) (to-weigh .0 .4)
+        owns (usize ∷ Array u16 1025 ∷ Array u32 1025 ∷ Array u32 1025 ∷ ShrSlice (named 0) κ′ u16 ∷ []) (to-assess .0 .3) (to-assess .0 .4)
 
-    asked : ent 𝓤 (⋆ 𝓤 H A ((‵ (flft κ′ q₂) ⊛ ‵ ftrue) ∷ ‵ passed ∷ [])) (Weigh 𝓤 H A mem run .pre to-weigh)
+    asked : ent 𝓤 (⋆ 𝓤 H A ((‵ (flft κ′ q₂) ⊛ ‵ ftrue) ∷ ‵ passed ∷ [])) (Assess 𝓤 H A mem run .pre to-assess)
     asked = qed W ((‵ (flft κ′ q₂) ⊛ ‵ ftrue) ∷ ‵ passed ∷ []) ∵ join ! $ frame ! $ done !
 
-    abbrev Weighed : DeskAnswer → Type 0
-    Weighed r = weighed n parents works outs (now order) ≡ record { number = r .number; peak = r .peak }
+    abbrev Assessed : DeskAnswer → Type 0
+    Assessed r = assessed n parents works outs (now order) ≡ record { number = r .number; peak = r .peak }
 
     said :
         (r : DeskAnswer)
-        → ent 𝓤 (ensured 𝓤 H A weigh.ended (weigh.clauses 𝓤 H A mem run) (κ′, tt) (to-weigh .0 .3) tt r) (fact 𝓤 (Weighed r))
-    said r = exE 𝓤 _ (λ ws. snd∗ 𝓤 (sem 𝓤 H A (lasts weigh.ended (κ′, tt) (to-weigh .0 .3) ws)) (fact 𝓤 (Weighed r)))
+        → ent 𝓤 (ensured 𝓤 H A assess.ended (assess.clauses 𝓤 H A mem run) (κ′, tt) (to-assess .0 .3) tt r) (fact 𝓤 (Assessed r))
+    said r = exE 𝓤 _ (λ ws. snd∗ 𝓤 (sem 𝓤 H A (lasts assess.ended (κ′, tt) (to-assess .0 .3) ws)) (fact 𝓤 (Assessed r)))
 
     module _ (l₀ l₁ l₂ l₃ l₄ l₅ l₆ l₇ l₈ l₉ l₁₀ l₁₁ l₁₂ l₁₃ l₁₄ l₁₅ l₁₆ l₁₇ l₁₈ l₁₉ l₂₀ l₂₁ l₂₂ l₂₃ : ℕ) (C : Calls 𝓤 H) (Λ : Loops 𝓤 H)
-        (fm : FmC 𝓤 H (W .laws) C) (known : Triple 𝓤 (C #desk·weigh) (Weigh 𝓤 H A mem run)) (q′ : Share) (c : ℕ) where
+        (fm : FmC 𝓤 H (W .laws) C) (known : Triple 𝓤 (C #desk·assess) (Assess 𝓤 H A mem run)) (q′ : Share) (c : ℕ) where
       abbrev En : Env 𝓤 H
       En =
           Shape.En 𝓤 H A mem run κ κ′ q q₂ b o γ ys order l₀ l₁ l₂ l₃ l₄ l₅ l₆ l₇ l₈ l₉ l₁₀ l₁₁ l₁₂ l₁₃ l₁₄ l₁₅ l₁₆ l₁₇ l₁₈ l₁₉ l₂₀ l₂₁ l₂₂ l₂₃
@@ -174,6 +175,7 @@ module _ {M : Type 1} (𝓤 : URA M) (H : Heap 𝓤) (A : Atoms 𝓤) (W : Given
       At =
           Shape.At 𝓤 H A mem run κ κ′ q q₂ b o γ ys order l₀ l₁ l₂ l₃ l₄ l₅ l₆ l₇ l₈ l₉ l₁₀ l₁₁ l₁₂ l₁₃ l₁₄ l₁₅ l₁₆ l₁₇ l₁₈ l₁₉ l₂₀ l₂₁ l₂₂ l₂₃ q′ c i
 
+      -- the rest of the body
       pub leaves : Room R n → i ≡ min n maxTasks → Sq W At (runs C Λ En code.t-8 (atRet En Post))
       leaves fits all =
           -- the borrow of the records is shut
@@ -189,16 +191,16 @@ module _ {M : Type 1} (𝓤 : URA M) (H : Heap 𝓤) (A : Atoms 𝓤) (W : Given
           assigns ! (of-opd ! (load ! (from ! (stop !)) (look ! 4 refl))) (from ! (stop !)) (init ! 29 refl typed-parents) $
           assigns ! (of-opd ! (load ! (from ! (stop !)) (look ! 2 refl))) (from ! (stop !)) (init ! 30 refl typed-works) $
           assigns ! (of-opd ! (load ! (from ! (stop !)) (look ! 0 refl))) (from ! (stop !)) (init ! 31 refl typed-outs) $
-          -- what `weigh` asks
+          -- what `assess` asks
           move ! (24 ∷ []) $ nothing ! $ move ! (1 ∷ 0 ∷ []) $ fjoin ! $ move ! (2 ∷ 0 ∷ []) $ fjoin ! $ move ! (3 ∷ 0 ∷ []) $ fjoin ! $ move ! (4 ∷ 0 ∷ []) $ fjoin ! $
           owned ! usize (Is usize) (uint-makes 𝓤 H A W w64) n (vint w64 n ∷ []) (refl, fits .0) $ fjoin ! $ nothing ! $ move ! (22 ∷ 0 ∷ []) $ join ! $
-          use2 W (raw (Weigh 𝓤 H A mem run .pre to-weigh)) asked $
-          calls-at ! fm (Weigh 𝓤 H A mem run) known to-weigh
+          use2 W (raw (Assess 𝓤 H A mem run .pre to-assess)) asked $
+          calls-at ! fm (Assess 𝓤 H A mem run) known to-assess
           (and-then ! (load ! (from ! (stop !)) (look ! 23 refl)) (and-then ! (load ! (from ! (stop !)) (look ! 25 refl)) (and-then ! (load ! (from ! (stop !)) (look ! 26 refl))
           (and-then ! (load ! (from ! (stop !)) (look ! 27 refl)) (and-then ! (load ! (from ! (stop !)) (look ! 22 refl)) (no-more !)))))) (λ u.
           use1 W (later (some (λ (r : DeskAnswer). ((‵ (flft κ′ q₂) ⊛ ‵ ftrue) ⊛ ‵ (D.the-row .own r (u ∷ [])))
-          ⊛ raw (ensured 𝓤 H A weigh.ended (weigh.clauses 𝓤 H A mem run) (κ′, tt) (to-weigh .0 .3) tt r)))) (id⊢ 𝓤 _) $ await ! tt $ pick ! (λ r.
-          split ! $ move ! (1 ∷ []) $ use1 W (raw (fact 𝓤 (Weighed r))) (said r) $ heard ! (Weighed r) (λ e. split ! $ move ! (1 ∷ []) $
+          ⊛ raw (ensured 𝓤 H A assess.ended (assess.clauses 𝓤 H A mem run) (κ′, tt) (to-assess .0 .3) tt r)))) (id⊢ 𝓤 _) $ await ! tt $ pick ! (λ r.
+          split ! $ move ! (1 ∷ []) $ use1 W (raw (fact 𝓤 (Assessed r))) (said r) $ heard ! (Assessed r) (λ e. split ! $ move ! (1 ∷ []) $
           -- [the answer; the order's token; _5; _4; _3; the records' token; _7; _6; _1; _8; _10 to _20; what the records own; what the order owns; _2; _9; room for _0; _21; _22; _23; …]
           peeks ! D.the-row (Is D.the-row) (shows 𝓤 H A D.the-row) r (u ∷ []) (λ is.
           land ! (from ! (stop !)) (init ! 25 refl (LL.lawful D.the-type D′.the-laws 𝓤 H A W .typed r _ is .0)) $

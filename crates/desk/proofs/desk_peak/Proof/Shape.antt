@@ -37,7 +37,7 @@ use Rattle.desk.proofs.TaskRecord as T
 use Rattle.desk.proofs.TaskRecord.Laws as T′
 use Rattle.desk.proofs.DeskAnswer.Laws as D′
 use Rattle.desk.proofs.copied as copied
-use Rattle.desk.proofs.weigh as weigh
+use Rattle.desk.proofs.assess as assess
 use Rattle.desk.proofs.desk_peak as desk
 
 abbrev pub R : RattleType
@@ -80,8 +80,8 @@ module _ {M : Type 1} (𝓤 : URA M) (H : Heap 𝓤) (A : Atoms 𝓤) (mem : Mem
   abbrev pub Copied : Contract 𝓤
   Copied = tripleOf 𝓤 H A copied.signature (copied.spec 𝓤 H A mem run)
 
-  abbrev pub Weigh : Contract 𝓤
-  Weigh = tripleOf 𝓤 H A weigh.signature (weigh.spec 𝓤 H A mem run)
+  abbrev pub Assess : Contract 𝓤
+  Assess = tripleOf 𝓤 H A assess.signature (assess.spec 𝓤 H A mem run)
 
   -- the records lie from (b, o) on
   module _ (κ κ′ : Lft) (q q₂ : Share) (b o : ℕ) (γ : GName) (ys : List TaskRecord) (order : RefT (List ℕ)) where

@@ -92,10 +92,10 @@ use Rattle.desk.proofs.Columns.{blank, filled, length-filled, filled-ne
 use Rattle.desk.proofs.Arrays.{word-put}
 use Rattle.desk.proofs.TaskRecord as T
 use Rattle.desk.proofs.TaskRecord.Laws as T′
-use Rattle.desk.proofs.weigh.Symbol.{name as #desk·weigh}
+use Rattle.desk.proofs.assess.Symbol.{name as #desk·assess}
 use Rattle.desk.proofs.desk_peak.Code.Mir as code
 use Rattle.desk.proofs.desk_peak.Proof.Shape as Shape
-use Rattle.desk.proofs.desk_peak.Proof.Shape.{R, parent, work, out, Weigh}
+use Rattle.desk.proofs.desk_peak.Proof.Shape.{R, parent, work, out, Assess}
 use Rattle.desk.proofs.desk_peak.Proof.Leaving.{leaves}
 
 -- a turn after its test, which the generated MIR has under no name
@@ -121,6 +121,7 @@ more =
     (seq (assign (place 20 []) (op2 offset (copy (place 19 [])) (copy (place 11 []))))
     (assign (place 20 (deref (tyInt w32) ∷ [])) (rvOpd (copy (place 16 [])))))))))))))))))))))
 
+-- a turn, written out: the generated MIR has it by the names of its types
 abbrev turn : Body
 turn =
     seq (assign (place 10 []) (op2 (lt unsigned) (copy (place 7 [])) (copy (place 6 []))))
@@ -133,7 +134,7 @@ turn-is = refl
 abbrev vals : TaskRecord → List Val
 vals r = T′.lowered r ∷ []
 
--- a number of a record fits its width, and the wider one
+-- the numbers of a record fit where they are stored
 record Fields (r : TaskRecord) : Type 0 where
   parent-fits : r .parent < 2 ^ 16
   work-fits : r .work < 2 ^ 32
@@ -149,7 +150,7 @@ fields r is =
 module _ {M : Type 1} (𝓤 : URA M) (H : Heap 𝓤) (A : Atoms 𝓤) (W : Given 𝓤 H A) (mem : Memory → SProp 𝓤) (run : Routine → Fun 𝓤)
     (κ κ′ : Lft) (q q₂ : Share) (b o : ℕ) (γ : GName) (ys : List TaskRecord) (order : RefT (List ℕ))
     (l₀ l₁ l₂ l₃ l₄ l₅ l₆ l₇ l₈ l₉ l₁₀ l₁₁ l₁₂ l₁₃ l₁₄ l₁₅ l₁₆ l₁₇ l₁₈ l₁₉ l₂₀ l₂₁ l₂₂ l₂₃ : ℕ) (𝓣 : Tables 𝓤 H)
-    (fm : FmC 𝓤 H (W .laws) (𝓣 .C)) (known : Triple 𝓤 (𝓣 .C #desk·weigh) (Weigh 𝓤 H A mem run)) (q′ : Share) (c : ℕ)
+    (fm : FmC 𝓤 H (W .laws) (𝓣 .C)) (known : Triple 𝓤 (𝓣 .C #desk·assess) (Assess 𝓤 H A mem run)) (q′ : Share) (c : ℕ)
     (room : Room R (length ys)) (all : c ≡ min (length ys) maxTasks) where
   abbrev Post : Val → SProp 𝓤
   Post = Shape.Post 𝓤 H A mem run κ κ′ q q₂ b o γ ys order
@@ -178,6 +179,7 @@ module _ {M : Type 1} (𝓤 : URA M) (H : Heap 𝓤) (A : Atoms 𝓤) (W : Given
       afterTurn 𝓤 H (Below 𝓤 H A Nearer At i)
       (afterBlock 𝓤 H (afterSeq 𝓤 H (Wp 𝓤 H (𝓣 .C) (𝓣 .Λ) En code.t-8 (atReturn 𝓤 H En Post)) (atReturn 𝓤 H En Post)))
 
+  -- the part of a turn after its test: one record more
   copies : (i : Upto) → i .0 < c → Sq W (At i) (runs (𝓣 .C) (𝓣 .Λ) En more (anyQ (Turned i)))
   unfolding afterTurn
   copies i less =
@@ -238,6 +240,7 @@ module _ {M : Type 1} (𝓤 : URA M) (H : Heap 𝓤) (A : Atoms 𝓤) (W : Given
       forget ! 14 refl $ forget ! 15 refl $ forget ! 16 refl $ forget ! 17 refl $ forget ! 18 refl $
       again ! Nearer At i (k + 1, add-one-le less) (add-one-dec c k less)))))
 
+  -- a turn: one record more, or the rest of the body once every record has been copied
   turns-by : (i : Upto) → Sq W (At i) (runs (𝓣 .C) (𝓣 .Λ) En turn (anyQ (Turned i)))
   unfolding afterTurn
   turns-by i =
@@ -254,5 +257,6 @@ module _ {M : Type 1} (𝓤 : URA M) (H : Heap 𝓤) (A : Atoms 𝓤) (W : Given
   turns : (i : Upto) → Sq W (At i) (runs (𝓣 .C) (𝓣 .Λ) En code.turn-1 (anyQ (Turned i)))
   turns i = subst (λ (body : Body). Sq W (At i) (runs (𝓣 .C) (𝓣 .Λ) En body (anyQ (Turned i)))) turn-is (turns-by i)
 
+  -- the loop and the rest of the body
   pub looped : Sq W (At (0, zero-le)) (runs (𝓣 .C) (𝓣 .Λ) En code.t-7 (atRet En Post))
   looped = first ! $ blocks ! $ loops ! 𝓣 Nearer Nearer-wf At turns (0, zero-le)

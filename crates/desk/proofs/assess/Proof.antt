@@ -1,13 +1,13 @@
--- `weigh` meets its contract.
+-- `assess` meets its contract.
 use mathlib.Core.Path.{_≡_, refl, sym, _∙_}
 use borrow.Author.Needs.{needs}
 use borrow.Author.Tests.{eq-eqb, ne-eqb}
-use Rattle.desk.specs.Weighed.{weighed}
-use Rattle.desk.proofs.weigh.Statement.{statement}
-use Rattle.desk.proofs.weigh.Tie as tie
+use Rattle.desk.specs.Assessed.{assessed}
+use Rattle.desk.proofs.assess.Statement.{statement}
+use Rattle.desk.proofs.assess.Tie as tie
 
 returns : tie.Need-returns
-unfolding weighed
+unfolding assessed
 returns c = rw (ne-eqb _ _ (c .if1 .taken))
 
 slice-aggregate-survey : tie.Need-slice-aggregate-survey
@@ -23,13 +23,13 @@ survey-requires : tie.Need-survey-requires
 survey-requires c κs = search needs
 
 returns-2 : tie.Need-returns-2
-unfolding weighed
+unfolding assessed
 returns-2 c =
     let equal = eq-eqb _ _ (c .before .before .before .before .if1 .left) in
     rw (equal, c .survey .ensures)
 
-pub weigh-spec : {M : Type 1} → statement M
-weigh-spec =
+pub assess-spec : {M : Type 1} → statement M
+assess-spec =
     tie.close
     (tie.spec
     returns

@@ -8,6 +8,6 @@ use Rattle.rules.specs.Desk.{DeskAnswer}
 use Rattle.peak.specs.Survey.{surveyed}
 
 -- "unequal lengths .. (4)", and else what a survey answers
-unfoldable pub weighed : (n : ℕ) (parents works outs activation : List ℕ) → DeskAnswer
-weighed n parents works outs activation =
+unfoldable pub assessed : (n : ℕ) (parents works outs activation : List ℕ) → DeskAnswer
+assessed n parents works outs activation =
     cond (eqb (length activation) n) (surveyed n parents works outs activation) (record { number = 4; peak = 0 })
