@@ -1,6 +1,6 @@
 SHELL := /bin/bash
 
-.PHONY: run test
+.PHONY: run test compare
 
 # Plan A of document 01.
 PLAN_A = \x01\x03\x00\x02\x07\x00\x00\x00\x02\x03\x00\x05\x00\x01\x00\x02\x03\x00\x05\x00\x01\x00\x02\x00\x00\x00\x00\x01\x00$\
@@ -14,3 +14,7 @@ run:
 # Every check: what .ci/run does.
 test:
 	./.ci/run
+
+# The desk's peak beside the peer's, on many lists.
+compare:
+	./compare/run

@@ -7,10 +7,10 @@ ghost use mathlib.Core.Path.{_≡_};
 ghost use Rattle.peak.specs.Survey.{surveyed};
 
 // The most tasks.
-const MAX_TASKS: usize = 1024;
+pub const MAX_TASKS: usize = 1024;
 
 // The entries of an array that has one for each task, and entry 0 for nobody.
-const ENTRIES: usize = MAX_TASKS + 1;
+pub const ENTRIES: usize = MAX_TASKS + 1;
 
 // What a survey answers: the number of a ground, and the peak where the number is 0.
 pub struct Surveyed {

@@ -1,0 +1,116 @@
+//! Records and an activation list, good ones and ones with a few flaws.
+
+use peer::generate::Random;
+use peer::Record;
+
+/// What the desk is asked.
+pub struct Lists {
+    pub records: Vec<Record>,
+    pub activation: Vec<u16>,
+}
+
+/// Lists of a random size, with no flaw in one case of three.
+pub fn lists(random: &mut Random) -> Lists {
+    let mut given = good(random);
+    if !random.chance(33) {
+        for _ in 0..random.between(1, 3) {
+            spoil(random, &mut given);
+        }
+    }
+    given
+}
+
+/// How many tasks: few, some, or about as many as a plan may have.
+fn size(random: &mut Random) -> usize {
+    let (low, high) = match random.between(0, 99) {
+        0..=79 => (1, 12),
+        80..=93 => (13, 80),
+        94..=97 => (1020, 1024),
+        _ => (1025, 1030),
+    };
+    random.between(low, high) as usize
+}
+
+/// A tree whose tasks stand before their parents.
+fn good(random: &mut Random) -> Lists {
+    let tasks = size(random);
+    let largest = random.pick(&[0, 3, 1000, 65_535]);
+    let mut activation: Vec<u16> = (1..=tasks as u16).collect();
+    random.shuffle(&mut activation);
+    let mut records = vec![Record::default(); tasks];
+    for place in 0..tasks {
+        let later = &activation[place + 1..];
+        let parent = if later.is_empty() {
+            0
+        } else {
+            later[random.below(later.len())]
+        };
+        records[usize::from(activation[place]) - 1] = Record {
+            parent,
+            work: random.between(0, largest) as u16,
+            out: random.between(0, largest) as u16,
+        };
+    }
+    Lists {
+        records,
+        activation,
+    }
+}
+
+/// One flaw, or something that looks like one.
+fn spoil(random: &mut Random, given: &mut Lists) {
+    let most = given.records.len() as u32 + 1;
+    match random.between(0, 8) {
+        0 => set_parent(random, given, most),
+        1 => set_parent(random, given, 0),
+        2 => set_entry(random, given, most),
+        3 => repeat_entry(random, given),
+        4 => swap_entries(random, given),
+        5 => {
+            given.records.pop();
+        }
+        6 => {
+            given.activation.pop();
+        }
+        7 => given.activation.push(random.between(0, most) as u16),
+        _ => given.records.push(Record {
+            parent: random.between(0, most) as u16,
+            work: 1,
+            out: 1,
+        }),
+    }
+}
+
+/// A record gets a parent from 0 to a number.
+fn set_parent(random: &mut Random, given: &mut Lists, most: u32) {
+    if !given.records.is_empty() {
+        let place = random.below(given.records.len());
+        given.records[place].parent = random.between(0, most) as u16;
+    }
+}
+
+/// An entry becomes one from 0 to a number.
+fn set_entry(random: &mut Random, given: &mut Lists, most: u32) {
+    if !given.activation.is_empty() {
+        let place = random.below(given.activation.len());
+        given.activation[place] = random.between(0, most) as u16;
+    }
+}
+
+/// An entry becomes the same as another.
+fn repeat_entry(random: &mut Random, given: &mut Lists) {
+    if !given.activation.is_empty() {
+        let from = random.below(given.activation.len());
+        let to = random.below(given.activation.len());
+        given.activation[to] = given.activation[from];
+    }
+}
+
+/// Two entries change places.
+fn swap_entries(random: &mut Random, given: &mut Lists) {
+    if !given.activation.is_empty() {
+        let one = random.below(given.activation.len());
+        let other = random.below(given.activation.len());
+        given.activation.swap(one, other);
+    }
+}
