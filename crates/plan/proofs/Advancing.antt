@@ -72,9 +72,9 @@ unfolding readyIn
 blocks-are n par place st unfed quiet counted q =
     count-cong (λ i. eqb (place i / blockSize) q && isReady st unfed i) (λ i. eqb (place i / blockSize) q && ready n par (front n st) i) n
     (λ i t.
-      ap (λ (b : Bool). eqb (place i / blockSize) q && b)
-      (is-ready n par st unfed i (counted i t ∙ ap (λ (f : ℕ → ℕ). unended n par f i) (front-is n st quiet))
-      ∙ sym (ready-front n par st i (t .high) (front-is n st quiet))))
+    ap (λ (b : Bool). eqb (place i / blockSize) q && b)
+    (is-ready n par st unfed i (counted i t ∙ ap (λ (f : ℕ → ℕ). unended n par f i) (front-is n st quiet))
+    ∙ sym (ready-front n par st i (t .high) (front-is n st quiet))))
 
 -- standings once tasks run: as long, and with nothing past the tasks
 pub start-long : (l st : List ℕ) → length (start l st) ≡ length st
@@ -204,11 +204,11 @@ module _ {n processors bound : ℕ}
     used-fits : h₁ .used + trays works outs begins ≤ bound
     used-fits =
         let w =
-            in-use-within n (at parents) (rankIn (take n activation)) tree (at works) (at outs)
-            (at (start begins (ahead .standings))) (at (ahead .booked)) (good-then .shape)
-            (subst
-            (λ (f : ℕ → ℕ). Balanced n (at parents) f (at outs) (at (start begins (ahead .standings))) (at (ahead .booked)))
-            same-need (good-then .books))
+        in-use-within n (at parents) (rankIn (take n activation)) tree (at works) (at outs)
+        (at (start begins (ahead .standings))) (at (ahead .booked)) (good-then .shape)
+        (subst
+        (λ (f : ℕ → ℕ). Balanced n (at parents) f (at outs) (at (start begins (ahead .standings))) (at (ahead .booked)))
+        same-need (good-then .books))
         in
         let u = used-then in
         let g = good-then .within in
@@ -263,8 +263,8 @@ module _ {n processors bound : ℕ}
       waits-same c _ =
           ⊎-elim (λ e. ap (λ (v : ℕ). eqb v waiting) e)
           (λ k.
-            ne-eqb (at (front n standings₂) c) waiting (λ q. omega (arith, k .1))
-            ∙ sym (ne-eqb (at (front n standings₁) c) waiting (λ q. omega (arith, k .0))))
+          ne-eqb (at (front n standings₂) c) waiting (λ q. omega (arith, k .1))
+          ∙ sym (ne-eqb (at (front n standings₁) c) waiting (λ q. omega (arith, k .0))))
           (kind c)
 
       counted-then : Counted n (at parents) (booksIn n standings₂ booked₁) unfed
@@ -307,8 +307,8 @@ module _ {n processors bound : ℕ}
       advanced =
           subst
           (λ (k : Books).
-            DidAdvance n (at parents) (at works) (at outs) (take n activation) (at places) k
-            (startsThen n processors (at parents) (take n execution) k) unfed list booked₁ figures₁ standings₂ blocks₂ h₂ list₂ count₂)
+          DidAdvance n (at parents) (at works) (at outs) (take n activation) (at places) k
+          (startsThen n processors (at parents) (take n execution) k) unfed list booked₁ figures₁ standings₂ blocks₂ h₂ list₂ count₂)
           (b .books)
           (record {
             sizes =

@@ -78,17 +78,17 @@ module _ (s : State) where
   begin-refused k g some =
       ⊎-elim
       (λ (r : eqb (roots (s .size) (at (s .parents))) 1 ≡ true).
-        ⊎-elim
-        (λ (o : ordered (at (s .parents)) (s .activation) ≡ true). absurd (some (sym g ∙ rw (r, o))))
-        (λ (o : ordered (at (s .parents)) (s .activation) ≡ false).
-          (let here : ownGround s begin ≡ 8 = rw (r, o) in
-          let there : treeGround (s .size) (at (s .parents)) (s .activation) ≡ 8 = rw (r, o) in
-          here ∙ sym there ∙ g))
-        (decide (ordered (at (s .parents)) (s .activation))))
+      ⊎-elim
+      (λ (o : ordered (at (s .parents)) (s .activation) ≡ true). absurd (some (sym g ∙ rw (r, o))))
+      (λ (o : ordered (at (s .parents)) (s .activation) ≡ false).
+      (let here : ownGround s begin ≡ 8 = rw (r, o) in
+      let there : treeGround (s .size) (at (s .parents)) (s .activation) ≡ 8 = rw (r, o) in
+      here ∙ sym there ∙ g))
+      (decide (ordered (at (s .parents)) (s .activation))))
       (λ (r : eqb (roots (s .size) (at (s .parents))) 1 ≡ false).
-        (let here : ownGround s begin ≡ 7 = rw r in
-        let there : treeGround (s .size) (at (s .parents)) (s .activation) ≡ 7 = rw r in
-        here ∙ sym there ∙ g))
+      (let here : ownGround s begin ≡ 7 = rw r in
+      let there : treeGround (s .size) (at (s .parents)) (s .activation) ≡ 7 = rw r in
+      here ∙ sym there ∙ g))
       (decide (eqb (roots (s .size) (at (s .parents))) 1))
 
   pub begin-weighed :
@@ -98,13 +98,13 @@ module _ (s : State) where
   begin-weighed g =
       ⊎-elim
       (λ (r : eqb (roots (s .size) (at (s .parents))) 1 ≡ true).
-        ⊎-elim
-        (λ (o : ordered (at (s .parents)) (s .activation) ≡ true). rw (r, o))
-        (λ (o : ordered (at (s .parents)) (s .activation) ≡ false).
-          (let there : treeGround (s .size) (at (s .parents)) (s .activation) ≡ 8 = rw (r, o) in absurd (omega arith)))
-        (decide (ordered (at (s .parents)) (s .activation))))
+      ⊎-elim
+      (λ (o : ordered (at (s .parents)) (s .activation) ≡ true). rw (r, o))
+      (λ (o : ordered (at (s .parents)) (s .activation) ≡ false).
+      (let there : treeGround (s .size) (at (s .parents)) (s .activation) ≡ 8 = rw (r, o) in absurd (omega arith)))
+      (decide (ordered (at (s .parents)) (s .activation))))
       (λ (r : eqb (roots (s .size) (at (s .parents))) 1 ≡ false).
-        (let there : treeGround (s .size) (at (s .parents)) (s .activation) ≡ 7 = rw r in absurd (omega arith)))
+      (let there : treeGround (s .size) (at (s .parents)) (s .activation) ≡ 7 = rw r in absurd (omega arith)))
       (decide (eqb (roots (s .size) (at (s .parents))) 1))
 
 -- how many entries the two orders have
@@ -293,9 +293,9 @@ module _ (n : ℕ) (small : n ≤ maxTasks) where
   no-held par i =
       let own = none i in
       let others =
-          sum-zero
-          (λ c. only (eqb (par c) i && not (eqb (at (front n nothing) c) waiting)) (figure n par (at (front n nothing)) c)) n
-          (λ c _. rw (eq-eqb (at (front n nothing) c) waiting (none c), never (eqb (par c) i)))
+      sum-zero
+      (λ c. only (eqb (par c) i && not (eqb (at (front n nothing) c) waiting)) (figure n par (at (front n nothing)) c)) n
+      (λ c _. rw (eq-eqb (at (front n nothing) c) waiting (none c), never (eqb (par c) i)))
       in
       omega arith
 
@@ -307,7 +307,7 @@ module _ (n : ℕ) (small : n ≤ maxTasks) where
       let open-yet : (i : ℕ) → eqb (st i) finished ≡ false = λ i. let z = none i in ne-eqb (st i) finished (λ q. omega arith) in
       let one = sum-zero (λ i. only (hasBegun st i && not (hasEnded st i)) (need n par work out i)) n (λ i _. rw (idle i)) in
       let two =
-          sum-zero (λ i. only (hasEnded st i && not (eqb (par i) 0) && not (hasBegun st (par i))) (out i)) n (λ i _. rw (open-yet i))
+      sum-zero (λ i. only (hasEnded st i && not (eqb (par i) 0) && not (hasBegun st (par i))) (out i)) n (λ i _. rw (open-yet i))
       in
       omega arith
 

@@ -48,9 +48,9 @@ first-cong test test′ (x ∷ l) same =
     ⊎-elim
     (λ (e : test′ x ≡ true). first-here test x l (here ∙ e) ∙ sym (first-here test′ x l e))
     (λ (e : test′ x ≡ false).
-      first-later test x l (here ∙ e)
-      ∙ first-cong test test′ l (λ y m. same y (mem-more y x l m))
-      ∙ sym (first-later test′ x l e))
+    first-later test x l (here ∙ e)
+    ∙ first-cong test test′ l (λ y m. same y (mem-more y x l m))
+    ∙ sym (first-later test′ x l e))
     (decide (test′ x))
 
 module _ (n : ℕ) (par : ℕ → ℕ) (execution unfed : List ℕ) (inside : every (λ i. within i n) execution ≡ true) where
@@ -63,15 +63,15 @@ module _ (n : ℕ) (par : ℕ → ℕ) (execution unfed : List ℕ) (inside : ev
   still-unended st x a i =
       unended-same n par (at st) (at (set st x running)) i
       (λ c t.
-        ⊎-elim
-        (λ e.
-          let new : at (set st x running) c ≡ running =
-              ap (at (set st x running)) e ∙ getD-set-same st x running 0 (in-list st x (omega arith))
-          in
-          let old : at st c ≡ activated = ap (at st) e ∙ a in
-          ne-eqb (at (set st x running) c) finished (λ q. omega arith) ∙ sym (ne-eqb (at st c) finished (λ q. omega arith)))
-        (λ d. ap (λ (v : ℕ). eqb v finished) (getD-set-other st x c running 0 d))
-        (same-or-not c x))
+      ⊎-elim
+      (λ e.
+      let new : at (set st x running) c ≡ running =
+      ap (at (set st x running)) e ∙ getD-set-same st x running 0 (in-list st x (omega arith))
+      in
+      let old : at st c ≡ activated = ap (at st) e ∙ a in
+      ne-eqb (at (set st x running) c) finished (λ q. omega arith) ∙ sym (ne-eqb (at st c) finished (λ q. omega arith)))
+      (λ d. ap (λ (v : ℕ). eqb v finished) (getD-set-other st x c running 0 d))
+      (same-or-not c x))
 
   pub picks-are :
       (free : ℕ) (st : List ℕ)
@@ -112,7 +112,7 @@ module _ (n : ℕ) (par : ℕ → ℕ) (execution unfed : List ℕ) (inside : ev
       same =
           first-cong (ready n par (front n st)) (ready n par st) execution
           (λ x m.
-            ready-front n par st x (within-task n x (every-mem (λ i. within i n) execution x inside m) .high) (front-is n st quiet))
+          ready-front n par st x (within-task n x (every-mem (λ i. within i n) execution x inside m) .high) (front-is n st quiet))
 
       go :
           (found : ℕ)
@@ -125,7 +125,7 @@ module _ (n : ℕ) (par : ℕ → ℕ) (execution unfed : List ℕ) (inside : ev
           let high = within-task n (suc x) (every-mem (λ i. within i n) execution (suc x) inside m) .high in
           starts-one n par execution free (front n st) x (same ∙ e)
           ∙ ap (λ (l : List ℕ). suc x ∷ l)
-            (ap (starts n par execution free) (sym (front-set n st (suc x) running high)) ∙ later (suc x) high)
+          (ap (starts n par execution free) (sym (front-set n st (suc x) running high)) ∙ later (suc x) high)
           ∙ sym (starts-one n par execution free st x e)
 
 -- tasks that start one after the other bring their works and outs into use
@@ -141,8 +141,8 @@ used-all n par work out within [] st sized s = omega arith
 used-all n par work out within (x ∷ l) st sized s =
     let later = used-all n par work out within l (set st x running) (length-set st x running ∙ sized) (s .3) in
     let one =
-        used-started n par work out within (at st) (at (set st x running)) x (s .0) (s .1) (s .2)
-        (moved-by-set n st x running sized (s .0))
+    used-started n par work out within (at st) (at (set st x running)) x (s .0) (s .1) (s .2)
+    (moved-by-set n st x running sized (s .0))
     in
     omega arith
 

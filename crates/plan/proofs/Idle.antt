@@ -36,9 +36,9 @@ module _ (n : ℕ) (st st′ : ℕ → ℕ) (idle : Idle n st st′) where
   count-same which h =
       sum-cong (λ i. only (eqb (st′ i) which) 1) (λ i. only (eqb (st i) which) 1) n
       (λ i t.
-        ap (λ (b : Bool). only b 1)
-        (⊎-elim (λ e. ap (λ (v : ℕ). eqb v which) e)
-        (λ l. ne-eqb (st′ i) which (λ q. omega (arith, l .1)) ∙ sym (ne-eqb (st i) which (λ q. omega (arith, l .0)))) (idle i t)))
+      ap (λ (b : Bool). only b 1)
+      (⊎-elim (λ e. ap (λ (v : ℕ). eqb v which) e)
+      (λ l. ne-eqb (st′ i) which (λ q. omega (arith, l .1)) ∙ sym (ne-eqb (st i) which (λ q. omega (arith, l .0)))) (idle i t)))
 
   -- as much is in use
   pub used-same :

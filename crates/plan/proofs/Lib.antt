@@ -30,6 +30,8 @@ pub mod Proceeding
 pub mod Reporting
 pub mod Beginning
 pub mod Responding
+-- every list of calls
+pub mod Demand
 -- a plan as it is built
 pub mod Obeying
 pub mod Blank

@@ -55,15 +55,15 @@ module _ {p : Plan} (whole : Whole p)
       ap (begun (meaning p)) ahead-is
       ∙ ap
       (λ (f : ℕ → ℕ).
-        starts (p .size) f (meaning p .execution)
-        (free (p .size) (p .processors)
-        (bookedAhead (p .size) (at (p .parents)) (at column) (p .bound) (take (p .size) (p .activation)) k .standings))
-        (bookedAhead (p .size) (at (p .parents)) (at column) (p .bound) (take (p .size) (p .activation)) k .standings))
+      starts (p .size) f (meaning p .execution)
+      (free (p .size) (p .processors)
+      (bookedAhead (p .size) (at (p .parents)) (at column) (p .bound) (take (p .size) (p .activation)) k .standings))
+      (bookedAhead (p .size) (at (p .parents)) (at column) (p .bound) (take (p .size) (p .activation)) k .standings))
       (parents-meant p (whole .sound))
       ∙ ap
       (λ (c : ℕ).
-        startsThen (p .size) (p .processors) (at (p .parents)) (take c (p .execution))
-        (bookedAhead (p .size) (at (p .parents)) (at column) (p .bound) (take (p .size) (p .activation)) k))
+      startsThen (p .size) (p .processors) (at (p .parents)) (take c (p .execution))
+      (bookedAhead (p .size) (at (p .parents)) (at column) (p .bound) (take (p .size) (p .activation)) k))
       (whole .placed-all)
 
   module _ {booked₂ figures₂ standings₂ blocks₂ : List ℕ} {h₂ : Numbers} {list₂ : List ℕ} {count : ℕ}

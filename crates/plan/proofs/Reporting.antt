@@ -69,14 +69,14 @@ pub record Reported (p : Plan) (j : ℕ) : Type 0 where
 -- what ending the task leaves
 pub record Leaves (p : Plan) (j : ℕ) (booked₁ figures₁ standings₁ unfed₁ blocks₁ : List ℕ) (h₁ : Numbers) (offers : ℕ) : Type 0
   where
-  pub did :
-      DidFinish (p .size) (at (p .parents)) (at (p .places))
-      (sharedFrom (p .size) (at (p .parents)) (at (p .needs)) (at (p .outs)) (p .standings) (p .booked) j) j (p .standings) booked₁
-      figures₁ standings₁ unfed₁ blocks₁ offers (h₁ .booked)
-  pub same-next : h₁ .next ≡ p .next
-  pub one-run : h₁ .running + 1 ≡ p .running
-  pub one-ended : h₁ .finished ≡ p .finished + 1
-  pub less-used : h₁ .used ≡ p .used - at (p .needs) j + kept (at (p .parents) j) (at (p .outs) j)
+    pub did :
+        DidFinish (p .size) (at (p .parents)) (at (p .places))
+        (sharedFrom (p .size) (at (p .parents)) (at (p .needs)) (at (p .outs)) (p .standings) (p .booked) j) j (p .standings) booked₁
+        figures₁ standings₁ unfed₁ blocks₁ offers (h₁ .booked)
+    pub same-next : h₁ .next ≡ p .next
+    pub one-run : h₁ .running + 1 ≡ p .running
+    pub one-ended : h₁ .finished ≡ p .finished + 1
+    pub less-used : h₁ .used ≡ p .used - at (p .needs) j + kept (at (p .parents) j) (at (p .outs) j)
 
 pub leaves :
     {p : Plan} {j : ℕ} {booked₁ figures₁ standings₁ unfed₁ blocks₁ : List ℕ} {h₁ : Numbers} {offers : ℕ}
@@ -148,8 +148,8 @@ module _ {p : Plan} {j : ℕ} (reported : Reported p j) where
   used-within : p .used ≤ p .bound
   used-within =
       let w =
-          in-use-within n (at (p .parents)) (rankIn order) tree (at (p .works)) (at (p .outs)) (at st) (at b) (goes .good .shape)
-          (subst (λ (f : ℕ → ℕ). Balanced n (at (p .parents)) f (at (p .outs)) (at st) (at b)) same-need (goes .good .books))
+      in-use-within n (at (p .parents)) (rankIn order) tree (at (p .works)) (at (p .outs)) (at st) (at b) (goes .good .shape)
+      (subst (λ (f : ℕ → ℕ). Balanced n (at (p .parents)) f (at (p .outs)) (at st) (at b)) same-need (goes .good .books))
       in
       let u = hand .kept .uses in
       let g = goes .good .within in
@@ -353,7 +353,7 @@ module _ {p : Plan} {j : ℕ} (reported : Reported p j) where
     unfolding inTurn inLimits ownGround
     no-ground =
         let stands : at (meaning p .standings) j ≡ running =
-            ap (λ (l : List ℕ). at l j) (standings-front p (reported .led .sound) in-day) ∙ runs-front
+        ap (λ (l : List ℕ). at l j) (standings-front p (reported .led .sound) in-day) ∙ runs-front
         in
         ground-own (meaning p) (done j) (eq-eqb (p .phase) Phase.running (reported .now)) (reported .inside)
         ∙ ap (λ (t : Bool). demand t 6 0) (eq-eqb (at (meaning p .standings) j) running stands)

@@ -54,8 +54,8 @@ short-list p d list a led short e =
     (refuses p 10 list a e
     ∙ ap
     (λ (t : Bool).
-      cond t (rules.refuse 10 (meaning p) list)
-      (elim d [ refused k ↦ rules.refuse k (meaning p) list | read c used ↦ rules.judge (meaning p) c used list ]))
+    cond t (rules.refuse 10 (meaning p) list)
+    (elim d [ refused k ↦ rules.refuse k (meaning p) list | read c used ↦ rules.judge (meaning p) c used list ]))
     (sym (lt-ltb (length list) leastStarts short)))
     (led .sound) (λ _. refl)
 

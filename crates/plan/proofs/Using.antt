@@ -43,8 +43,8 @@ module _ (n : ℕ) (par work out : ℕ → ℕ) (within : (i : ℕ) → Task n i
       let begun : hasBegun st j ≡ true = le-leb running (st j) (omega arith) in
       let unended : hasEnded st j ≡ false = ne-eqb (st j) finished (λ q. omega arith) in
       let mine =
-          only-true (hasBegun st j && not (hasEnded st j)) (need n par work out j)
-          (ap₂ (λ (a b : Bool). a && not b) begun unended)
+      only-true (hasBegun st j && not (hasEnded st j)) (need n par work out j)
+      (ap₂ (λ (a b : Bool). a && not b) begun unended)
       in
       let part = term-le (charge n par work out st) n j t in
       let all = used-is st in

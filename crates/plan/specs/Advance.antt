@@ -14,13 +14,13 @@ use Rattle.plan.specs.Ahead.{Sizes}
 use Rattle.plan.specs.Finish.{Quiet}
 
 pub record MayAdvance (n processors bound : ℕ)
-  (parents works outs needs activation execution places unfed booked figures standings blocks : List ℕ) (h : Numbers)
-  (list : List ℕ) : Type 0 where
+    (parents works outs needs activation execution places unfed booked figures standings blocks : List ℕ) (h : Numbers)
+    (list : List ℕ) : Type 0 where
   pub sizes : Sizes booked figures standings blocks
   pub needed : (i : ℕ) → at needs i ≡ need n (at parents) (at works) (at outs) i
   pub going : Going n (at parents) (at needs) (at outs) (take n activation) bound (booksIn n standings booked)
   pub kept :
-    Kept n (at parents) (at works) (at outs) (take n activation) (at places) (booksIn n standings booked) figures unfed blocks h
+      Kept n (at parents) (at works) (at outs) (take n activation) (at places) (booksIn n standings booked) figures unfed blocks h
   pub placed : Placed n (take n execution) (at places)
   pub standings-quiet : Quiet n standings
   pub booked-quiet : Quiet n booked
@@ -37,7 +37,7 @@ startsThen n processors par execution k =
     starts n par execution (free n processors (k .standings)) (k .standings)
 
 pub record DidAdvance (n : ℕ) (par work out : ℕ → ℕ) (order : List ℕ) (place : ℕ → ℕ) (k₁ : Books) (l : List ℕ)
-  (unfed list booked figures standings blocks : List ℕ) (h : Numbers) (list′ : List ℕ) (count : ℕ) : Type 0 where
+    (unfed list booked figures standings blocks : List ℕ) (h : Numbers) (list′ : List ℕ) (count : ℕ) : Type 0 where
   pub sizes : Sizes booked figures standings blocks
   pub books : booksIn n standings booked ≡ record { standings = start l (k₁ .standings); booked = k₁ .booked }
   pub kept : Kept n par work out order place (booksIn n standings booked) figures unfed blocks h

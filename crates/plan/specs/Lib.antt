@@ -4,6 +4,8 @@ pub mod Meaning
 pub mod Sound
 pub mod Led
 pub mod InDay
+pub mod Calls
+pub mod Demand
 pub mod Blank
 -- what each part asks and promises
 pub mod Place

@@ -6,7 +6,8 @@ ghost use Rattle.plan.specs.Advance.{MayAdvance, DidAdvance, bookedAhead
 use crate::ahead::book_ahead;
 use crate::numbers::Numbers;
 use crate::plan::Plan;
-use crate::start::{Started, start_ready};
+use crate::start::Started;
+use crate::start::start_ready;
 
 pub(crate) fn advance<'a>(
     n: usize,
@@ -34,9 +35,30 @@ pub(crate) fn advance<'a>(
         (now (unfed .entry)) (now (starts .entry)) (now (booked .exit)) (now (figures .exit)) (now (standings .exit)) (now (blocks .exit)) (r .numbers) (now (starts .exit)) (r .count) ⌝ }
 {
     let ahead = book_ahead(
-        n, bound, parents, needs, activation, places, unfed, booked, figures, standings, blocks, numbers,
+        n,
+        bound,
+        parents,
+        needs,
+        activation,
+        places,
+        unfed,
+        booked,
+        figures,
+        standings,
+        blocks,
+        numbers,
     );
     start_ready(
-        n, processors, works, outs, execution, places, unfed, standings, blocks, ahead, starts,
+        n,
+        processors,
+        works,
+        outs,
+        execution,
+        places,
+        unfed,
+        standings,
+        blocks,
+        ahead,
+        starts,
     )
 }

@@ -4,9 +4,9 @@ mod ahead;
 pub mod answer;
 mod begin;
 mod climb;
-mod command;
 mod finish;
 mod numbers;
+mod obey;
 mod open;
 mod order;
 mod place;
@@ -18,4 +18,5 @@ mod start;
 mod thousandths;
 mod weigh;
 
+pub use obey::command;
 pub use thousandths::fullness;

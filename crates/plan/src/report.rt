@@ -9,7 +9,8 @@ ghost use Rattle.rules.specs.Command as rules;
 ghost use Rattle.rules.specs.Limits.{leastStarts};
 ghost use Rattle.plan.specs.Led.{Led, Started};
 use crate::advance::advance;
-use crate::answer::{Answer, Answered};
+use crate::answer::Answer;
+use crate::answer::Answered;
 use crate::finish::finish;
 use crate::numbers::Numbers;
 use crate::open::is_within;
@@ -19,7 +20,11 @@ use crate::plan::Plan;
 fn phase_after(parent: u16) -> u8
     ensures { λ r. ⌜ r ≡ cond (eqb parent 0) Phase.over Phase.running ⌝ }
 {
-    if parent == 0 { Plan::OVER } else { Plan::RUNNING }
+    if parent == 0 {
+        Plan::OVER
+    } else {
+        Plan::RUNNING
+    }
 }
 
 pub(crate) fn report(mut plan: Plan, task: u16, used: usize, starts: &mut [u16]) -> Answered
@@ -27,14 +32,23 @@ pub(crate) fn report(mut plan: Plan, task: u16, used: usize, starts: &mut [u16])
     ensures { λ r. ⌜ Started plan (rules.done task) used (now (starts .entry)) r (now (starts .exit)) ⌝ }
 {
     if plan.phase != Plan::RUNNING {
-        return Answered { answer: Answer::refused(3), plan };
+        return Answered {
+            answer: Answer::refused(3),
+            plan,
+        };
     }
     let j = task as usize;
     if !is_within(j, plan.size) {
-        return Answered { answer: Answer::refused(4), plan };
+        return Answered {
+            answer: Answer::refused(4),
+            plan,
+        };
     }
     if plan.standings[j] != 2 {
-        return Answered { answer: Answer::refused(6), plan };
+        return Answered {
+            answer: Answer::refused(6),
+            plan,
+        };
     }
     let mut booked = plan.booked;
     let mut figures = plan.figures;
@@ -92,7 +106,13 @@ pub(crate) fn report(mut plan: Plan, task: u16, used: usize, starts: &mut [u16])
     plan.total = begun.numbers.booked;
     plan.used = begun.numbers.used;
     Answered {
-        answer: Answer { number: 0, used, starts: begun.count, peak: 0, offers: ended.offers },
+        answer: Answer {
+            number: 0,
+            used,
+            starts: begun.count,
+            peak: 0,
+            offers: ended.offers,
+        },
         plan,
     }
 }

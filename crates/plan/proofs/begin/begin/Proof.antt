@@ -51,7 +51,7 @@ returns-2 c =
     let start = c .before .before .before .before in
     let p = start .args .t1 in
     let short : eqb (length (meaning p .activation)) (p .size) ≡ false =
-        ne-eqb (length (meaning p .activation)) (p .size) (λ e. c .before .if2 .taken (sym (ranked-length p (start .pre .0 .sound)) ∙ e))
+    ne-eqb (length (meaning p .activation)) (p .size) (λ e. c .before .if2 .taken (sym (ranked-length p (start .pre .0 .sound)) ∙ e))
     in
     refused-started p begin 3 (start .args .used) _ (c .refused2 .result) (start .pre .0 .sound) (c .refused2 .ensures)
     (ground-turn (meaning p) begin (rw (eq-eqb (p .phase) Phase.orders (c .before .before .if1 .left), short))) (λ e. omega arith)
@@ -67,10 +67,10 @@ returns-3 c =
     let p = start .args .t1 in
     let sound = start .pre .0 .sound in
     let long : eqb (length (meaning p .activation)) (p .size) ≡ true =
-        eq-eqb (length (meaning p .activation)) (p .size) (ranked-length p sound ∙ c .before .before .if2 .left)
+    eq-eqb (length (meaning p .activation)) (p .size) (ranked-length p sound ∙ c .before .before .if2 .left)
     in
     let short : eqb (length (meaning p .execution)) (p .size) ≡ false =
-        ne-eqb (length (meaning p .execution)) (p .size) (λ e. c .before .if3 .taken (sym (placed-length p sound) ∙ e))
+    ne-eqb (length (meaning p .execution)) (p .size) (λ e. c .before .if3 .taken (sym (placed-length p sound) ∙ e))
     in
     refused-started p begin 3 (start .args .used) _ (c .refused3 .result) sound (c .refused3 .ensures)
     (ground-turn (meaning p) begin (rw (eq-eqb (p .phase) Phase.orders (c .before .before .before .if1 .left), long, short)))

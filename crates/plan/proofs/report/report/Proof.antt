@@ -110,7 +110,7 @@ finish-requires c κs =
 advance-requires : tie.Need-advance-requires
 advance-requires c κs =
     let ended =
-        c .before .before .before .before .before .before .before .before .before .before .before .before .before .before
+    c .before .before .before .before .before .before .before .before .before .before .before .before .before .before
     in
     may-advance (reported (passed ended)) (leaves {p = start ended .args .t1} (ended .finish .ensures)) _ (start ended .pre .1)
 

@@ -1,9 +1,9 @@
--- `command::command` meets its contract: each arm gives what the rules give for the command that was decoded.
+-- `obey::command` meets its contract: each arm gives what the rules give for the command that was decoded.
 use borrow.Author.Needs.{needs}
 use Rattle.plan.proofs.Responding.{short-list, not-a-command, a-start, no-start, as-refused, as-read}
-use Rattle.plan.proofs.command.command.Statement.{statement}
-use Rattle.plan.proofs.command.command.Tie as tie
-use Rattle.plan.proofs.command.command.Lts as lts
+use Rattle.plan.proofs.obey.command.Statement.{statement}
+use Rattle.plan.proofs.obey.command.Tie as tie
+use Rattle.plan.proofs.obey.command.Lts as lts
 
 -- the start list is too short
 returns : tie.Need-returns
