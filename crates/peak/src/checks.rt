@@ -14,7 +14,7 @@ ghost use Rattle.peak.specs.Survey.{covered};
 ghost use Rattle.peak.specs.Checks.{isStray, isTask, spot, isRoot, lagging, isLate};
 
 // Whether x is a number from 1 to a limit.
-fn is_within(x: usize, limit: usize) -> bool
+pub fn is_within(x: usize, limit: usize) -> bool
     ensures { λ r. ⌜ r ≡ within x limit ⌝ }
 {
     if x < 1 {

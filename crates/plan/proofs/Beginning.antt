@@ -42,7 +42,7 @@ use Rattle.plan.specs.Finish.{Quiet}
 use Rattle.plan.specs.Advance.{MayAdvance, DidAdvance, bookedAhead, startsThen}
 use Rattle.plan.specs.Sound.{Sound, Unused}
 use Rattle.plan.specs.InDay.{inDay}
-use Rattle.plan.specs.Led.{Led, Started}
+use Rattle.plan.specs.Led.{Led, Judged}
 use Rattle.plan.proofs.Front.{at-front}
 use Rattle.plan.proofs.Weighing.{zeros, needs-are, unfed-counts}
 use Rattle.plan.proofs.Using.{usedBy}
@@ -417,7 +417,7 @@ module _ {p : Plan} (o : Ordered p) (accepted : ground (meaning p) begin ≡ 0) 
     pub begin-answered :
         (used high : ℕ)
         → high ≡ peakOf (meaning p)
-        → Started p begin used list
+        → Judged p begin used list
         (record {
           answer = record { number = 0; used = used; starts = count₂; peak = high; offers = 0 };
           plan = inDay p Phase.running column unfed booked₂ figures₂ standings₂ blocks₂ h₂;

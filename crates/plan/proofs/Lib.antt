@@ -25,7 +25,6 @@ pub mod Picks
 pub mod Begun
 pub mod Chosen
 pub mod Advancing
-pub mod Refusing
 pub mod Proceeding
 pub mod Reporting
 pub mod Beginning

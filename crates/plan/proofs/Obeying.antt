@@ -1,5 +1,5 @@
--- Laws of a whole command that starts nothing: a refusal leaves the very plan, and what is accepted leaves what the rules say.
-use mathlib.Core.Path.{_≡_, sym, ap, subst, _∙_}
+-- Laws of a whole command in code: a refusal leaves the very plan, and one that starts nothing leaves what the rules say.
+use mathlib.Core.Path.{_≡_, refl, sym, ap, subst, _∙_}
 use mathlib.Core.List.{List}
 use Prim.Native.Nat.{ℕ}
 use Rattle.rules.specs.Command as rules
@@ -7,52 +7,56 @@ use Rattle.rules.specs.Grounds.{ground}
 use Rattle.rules.specs.Obey.{Outcome, plain, obey}
 use Rattle.rules.specs.Answer as answers
 use Rattle.rules.proofs.Judging.{judge-refused, judge-accepted}
-use Rattle.plan.specs.Meaning.{Plan, Answer, Answered, meaning, answerOf}
+use Rattle.plan.specs.Meaning.{Plan, Answer, Answered, meaning, answerOf, answeredOf}
 use Rattle.plan.specs.Sound.{Sound}
-use Rattle.plan.specs.Led.{Obeyed}
+use Rattle.plan.specs.Led.{Judged, Obeyed}
 
--- a refusal with the ground of the rules
+-- the answer of a refusal, and of a command that starts nothing
+abbrev pub refused : ℕ → Answer
+refused k = record { number = k; used = 0; starts = 0; peak = 0; offers = 0 }
+
+abbrev pub accepted : ℕ → Answer
+accepted used = record { number = 0; used = used; starts = 0; peak = 0; offers = 0 }
+
+-- a refusal leaves the plan and the start list
+pub refuses :
+    (p : Plan) (k : ℕ) (list : List ℕ) (a : Answer)
+    → a ≡ refused k
+    → answeredOf (record { answer = a; plan = p }) list ≡ answers.refuse k (meaning p) list
+unfolding answers.refuse
+refuses p k list a e = ap (λ (b : Answer). answeredOf (record { answer = b; plan = p }) list) e
+
+-- by the ground of the rules
 pub refusal :
-    {p : Plan} {c : rules.Command} {used : ℕ} {r : Answered} (k : ℕ)
+    {p : Plan} {c : rules.Command} {used : ℕ} {a : Answer} (k : ℕ)
     → Sound p
-    → r .plan ≡ p
-    → r .answer ≡ record { number = k; used = 0; starts = 0; peak = 0; offers = 0 }
+    → a ≡ refused k
     → (k ≡ 0 → ⊥)
     → ground (meaning p) c ≡ k
-    → Obeyed p c used r
-unfolding answers.refuse
-refusal {p = p} {c = c} {used = used} {r = r} k sound left said some why =
+    → Obeyed p c used (record { answer = a; plan = p })
+refusal {p = p} {c = c} {used = used} {a = a} k sound said some why list =
     record {
-      same = λ list.
-          ap (λ (a : Answer). the-answer (answerOf a) (r .plan) list) said
-          ∙ ap (λ (q : Plan). the-answer (record { number = k; used = 0; starts = 0; peak = 0; offers = 0 }) q list) left
-          ∙ sym (judge-refused (meaning p) c k used list why some);
-      sound = subst (λ (q : Plan). Sound q) (sym left) sound;
-      refused = λ _. left;
+      same = refuses p k list a said ∙ sym (judge-refused (meaning p) c k used list why some);
+      sound = sound;
+      refused = λ _. refl;
     }
-  where
-    the-answer : answers.Answer → Plan → List ℕ → answers.Answered
-    the-answer a q list = record { answer = a; state = meaning q; list = list }
 
 -- a plain answer with the plan that the rules leave
 pub acceptance :
     {p : Plan} {c : rules.Command} {used : ℕ} {r : Answered}
     → ground (meaning p) c ≡ 0
-    → r .answer ≡ record { number = 0; used = used; starts = 0; peak = 0; offers = 0 }
+    → r .answer ≡ accepted used
     → obey (meaning p) c ≡ plain (meaning (r .plan))
     → Sound (r .plan)
     → Obeyed p c used r
 unfolding answers.accept answers.front
-acceptance {p = p} {c = c} {used = used} {r = r} none said left sound =
+acceptance {p = p} {c = c} {used = used} {r = r} none said left sound list =
     record {
-      same = λ list.
-          ap (λ (a : Answer). the-answer (answerOf a) list) said
+      same =
+          ap (λ (a : Answer). answeredOf (record { answer = a; plan = r .plan }) list) said
           ∙ sym
           (judge-accepted (meaning p) c used list none
           ∙ ap (λ (o : Outcome). answers.accept o used list) left);
       sound = sound;
       refused = λ d. absurd (d (ap (λ (a : Answer). a .number) said));
     }
-  where
-    the-answer : answers.Answer → List ℕ → answers.Answered
-    the-answer a list = record { answer = a; state = meaning (r .plan); list = list }

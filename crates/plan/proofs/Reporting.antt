@@ -38,7 +38,7 @@ use Rattle.plan.specs.Kept.{Numbers, front, booksIn, Reached, Kept, Goin
 use Rattle.plan.specs.Finish.{Quiet, kept, MayFinish, DidFinish, sharedFrom}
 use Rattle.plan.specs.Advance.{MayAdvance, DidAdvance, bookedAhead, startsThen}
 use Rattle.plan.specs.Sound.{InHand, Sound, numbersOf}
-use Rattle.plan.specs.Led.{Led, Started}
+use Rattle.plan.specs.Led.{Led, Judged}
 use Rattle.plan.specs.InDay.{inDay}
 use Rattle.plan.proofs.Front.{at-front, front-set, front-is, front-length, quiet-set}
 use Rattle.plan.proofs.Using.{usedBy, used-holds, used-ended}
@@ -383,7 +383,7 @@ module _ {p : Plan} {j : ℕ} (reported : Reported p j) where
       -- all that the caller of a report receives
       pub report-answered :
           (used : ℕ)
-          → Started p (done j) used list
+          → Judged p (done j) used list
           (record {
             answer = record { number = 0; used = used; starts = count; peak = 0; offers = offers };
             plan = inDay p phase (p .needs) unfed₁ booked₂ figures₂ standings₂ blocks₂ h₂;

@@ -18,8 +18,8 @@ use Rattle.codec.specs.declared.Decoded as codec
 use Rattle.codec.specs.declared.Decoded.the-variants.{Refused, Read}
 use Rattle.plan.specs.Meaning.{Plan, Answer, Answered, meaning, answeredOf}
 use Rattle.plan.specs.Sound.{Sound}
-use Rattle.plan.specs.Led.{Led, Obeyed, Started, Responded}
-use Rattle.plan.proofs.Refusing.{refusal, refuses}
+use Rattle.plan.specs.Led.{Led, Obeyed, Judged, Responded}
+use Rattle.plan.proofs.Obeying as obeying
 
 -- an answer of the rules that leaves a sound plan is all that is asked
 responded :
@@ -46,12 +46,12 @@ pub short-list :
     (p : Plan) (d : Decoded) (list : List ℕ) (a : Answer)
     → Led p
     → length list < leastStarts
-    → a ≡ refusal 10
+    → a ≡ obeying.refused 10
     → Responded p d list (record { answer = a; plan = p }) list
 unfolding rules.respond
 short-list p d list a led short e =
     responded p d list (record { answer = a; plan = p }) list led
-    (refuses p 10 list a e
+    (obeying.refuses p 10 list a e
     ∙ ap
     (λ (t : Bool).
     cond t (rules.refuse 10 (meaning p) list)
@@ -64,12 +64,12 @@ pub not-a-command :
     (p : Plan) (k : ℕ) (list : List ℕ) (a : Answer)
     → Led p
     → leastStarts ≤ length list
-    → a ≡ refusal k
+    → a ≡ obeying.refused k
     → Responded p (refused k) list (record { answer = a; plan = p }) list
 unfolding rules.respond
 not-a-command p k list a led room e =
     responded p (refused k) list (record { answer = a; plan = p }) list led
-    (refuses p k list a e
+    (obeying.refuses p k list a e
     ∙ ap (λ (t : Bool). cond t (rules.refuse 10 (meaning p) list) (rules.refuse k (meaning p) list))
     (sym (le-ltb (length list) leastStarts room)))
     (led .sound) (λ _. refl)
@@ -79,7 +79,7 @@ pub a-start :
     {p : Plan} {c : Command} {used : ℕ} {list list′ : List ℕ} {r : Answered}
     → Led p
     → leastStarts ≤ length list
-    → Started p c used list r list′
+    → Judged p c used list r list′
     → Responded p (read c used) list r list′
 a-start {p = p} {c = c} {used = used} {list = list} {list′ = list′} {r = r} led room s =
     responded p (read c used) list r list′ led
@@ -92,9 +92,7 @@ pub no-start :
     → leastStarts ≤ length list
     → Obeyed p c used r
     → Responded p (read c used) list r list
-no-start {p = p} {c = c} {used = used} {r = r} list led room o =
-    responded p (read c used) list r list led
-    (o .same list ∙ sym (is-read (meaning p) c used list (le-ltb (length list) leastStarts room))) (o .sound) (o .refused)
+no-start list led room o = a-start led room (o list)
 
 -- what was decoded, as the match on it found
 pub as-refused :

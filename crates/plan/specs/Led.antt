@@ -13,17 +13,15 @@ pub record Led (p : Plan) : Type 0 where
   pub reached : Reachable (meaning p)
   pub sound : Sound p
 
--- a whole command that starts nothing: the answer and the plan, whatever the start list, which stays
-pub record Obeyed (p : Plan) (c : rules.Command) (used : ℕ) (r : Answered) : Type 0 where
-  pub same : (list : List ℕ) → answeredOf r list ≡ judge (meaning p) c used list
-  pub sound : Sound (r .plan)
-  pub refused : (r .answer .number ≡ 0 → ⊥) → r .plan ≡ p
-
--- a whole command that may start tasks
-pub record Started (p : Plan) (c : rules.Command) (used : ℕ) (list : List ℕ) (r : Answered) (list′ : List ℕ) : Type 0 where
+-- a whole command: the answer, the plan and the start list are those of the rules, and a refused one returns the very plan
+pub record Judged (p : Plan) (c : rules.Command) (used : ℕ) (list : List ℕ) (r : Answered) (list′ : List ℕ) : Type 0 where
   pub same : answeredOf r list′ ≡ judge (meaning p) c used list
   pub sound : Sound (r .plan)
   pub refused : (r .answer .number ≡ 0 → ⊥) → r .plan ≡ p
+
+-- one that starts nothing: whatever the start list, it stays
+abbrev pub Obeyed : (p : Plan) (c : rules.Command) (used : ℕ) (r : Answered) → Type 0
+Obeyed p c used r = (list : List ℕ) → Judged p c used list r list
 
 -- any command: all that its caller receives
 pub record Responded (p : Plan) (d : rules.Decoded) (list : List ℕ) (r : Answered) (list′ : List ℕ) : Type 0 where

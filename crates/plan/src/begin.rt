@@ -3,7 +3,7 @@ ghost use Prim.Native.Nat.{_≤_};
 ghost use lib.ListN.{length};
 ghost use Rattle.rules.specs.Command as rules;
 ghost use Rattle.rules.specs.Limits.{leastStarts};
-ghost use Rattle.plan.specs.Led.{Led, Started};
+ghost use Rattle.plan.specs.Led.{Led, Judged};
 use crate::advance::advance;
 use crate::answer::Answer;
 use crate::answer::Answered;
@@ -14,7 +14,7 @@ use peak::survey;
 
 pub(crate) fn begin(mut plan: Plan, used: usize, starts: &mut [u16]) -> Answered
     requires { ⌜ Led plan × (leastStarts ≤ length (now starts)) ⌝ }
-    ensures { λ r. ⌜ Started plan rules.begin used (now (starts .entry)) r (now (starts .exit)) ⌝ }
+    ensures { λ r. ⌜ Judged plan rules.begin used (now (starts .entry)) r (now (starts .exit)) ⌝ }
 {
     if plan.phase != Plan::ORDERS {
         return Answered {

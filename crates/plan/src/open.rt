@@ -1,19 +1,11 @@
 // PLAN and STEP: a plan is opened, and its tasks are given.
-ghost use mathlib.Core.Path.{_≡_};
 ghost use Rattle.rules.specs.Command as rules;
-ghost use Rattle.rules.specs.Grounds.{within};
 ghost use Rattle.plan.specs.Sound.{Sound};
 ghost use Rattle.plan.specs.Led.{Obeyed};
 use crate::answer::Answer;
 use crate::answer::Answered;
 use crate::plan::Plan;
-
-// Whether x is a number from 1 to a limit.
-pub(crate) fn is_within(x: usize, limit: usize) -> bool
-    ensures { λ r. ⌜ r ≡ within x limit ⌝ }
-{
-    1 <= x && x <= limit
-}
+use peak::is_within;
 
 // "PLAN: drop the old plan, open a new one"
 pub(crate) fn open(plan: Plan, n: usize, processors: usize, bound: u32, used: usize) -> Answered

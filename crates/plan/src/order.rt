@@ -8,9 +8,9 @@ ghost use Rattle.plan.specs.Order.{nextGround};
 ghost use Rattle.plan.specs.Led.{Obeyed};
 use crate::answer::Answer;
 use crate::answer::Answered;
-use crate::open::is_within;
 use crate::place::contains;
 use crate::plan::Plan;
+use peak::is_within;
 
 // The ground against one task more in an order, the same for both orders; 0 is none.
 fn next_ground<'a>(

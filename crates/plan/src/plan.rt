@@ -41,7 +41,7 @@ pub struct Plan {
 
 impl Plan {
     // "Limits: n is 1 to 1,024; p is 1 to 64", and a start list of at least 64 entries
-    pub const MAX_TASKS: usize = 1024;
+    pub const MAX_TASKS: usize = peak::MAX_TASKS;
 
     pub const MAX_PROCESSORS: usize = 64;
 

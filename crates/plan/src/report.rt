@@ -7,14 +7,14 @@ ghost use Rattle.rules.specs.Phase;
 ghost use lib.ListN.{length};
 ghost use Rattle.rules.specs.Command as rules;
 ghost use Rattle.rules.specs.Limits.{leastStarts};
-ghost use Rattle.plan.specs.Led.{Led, Started};
+ghost use Rattle.plan.specs.Led.{Led, Judged};
 use crate::advance::advance;
 use crate::answer::Answer;
 use crate::answer::Answered;
 use crate::finish::finish;
 use crate::numbers::Numbers;
-use crate::open::is_within;
 use crate::plan::Plan;
+use peak::is_within;
 
 // "when the root ends the phase is over"
 fn phase_after(parent: u16) -> u8
@@ -29,7 +29,7 @@ fn phase_after(parent: u16) -> u8
 
 pub(crate) fn report(mut plan: Plan, task: u16, used: usize, starts: &mut [u16]) -> Answered
     requires { ⌜ Led plan × (leastStarts ≤ length (now starts)) ⌝ }
-    ensures { λ r. ⌜ Started plan (rules.done task) used (now (starts .entry)) r (now (starts .exit)) ⌝ }
+    ensures { λ r. ⌜ Judged plan (rules.done task) used (now (starts .entry)) r (now (starts .exit)) ⌝ }
 {
     if plan.phase != Plan::RUNNING {
         return Answered {

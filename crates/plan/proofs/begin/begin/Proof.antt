@@ -12,7 +12,7 @@ use Rattle.rules.specs.Command.{begin}
 use Rattle.rules.specs.Grounds.{inTurn, ground}
 use Rattle.rules.proofs.Judging.{ground-turn}
 use Rattle.plan.specs.Meaning.{meaning}
-use Rattle.plan.proofs.Refusing.{refused-started}
+use Rattle.plan.proofs.Obeying.{refusal}
 use Rattle.plan.proofs.Beginning.{
   Ordered,
   ranked-length,
@@ -38,8 +38,8 @@ unfolding inTurn
 returns c =
     let start = c .before .before .before in
     let p = start .args .t1 in
-    refused-started p begin 3 (start .args .used) _ (c .refused .result) (start .pre .0 .sound) (c .refused .ensures)
-    (ground-turn (meaning p) begin (rw (ne-eqb (p .phase) Phase.orders (c .before .if1 .taken)))) (λ e. omega arith)
+    refusal 3 (start .pre .0 .sound) (c .refused .ensures) (λ e. omega arith)
+    (ground-turn (meaning p) begin (rw (ne-eqb (p .phase) Phase.orders (c .before .if1 .taken)))) _
 
 refused-requires-2 : tie.Need-refused-requires-2
 refused-requires-2 c κs = tt
@@ -53,8 +53,8 @@ returns-2 c =
     let short : eqb (length (meaning p .activation)) (p .size) ≡ false =
     ne-eqb (length (meaning p .activation)) (p .size) (λ e. c .before .if2 .taken (sym (ranked-length p (start .pre .0 .sound)) ∙ e))
     in
-    refused-started p begin 3 (start .args .used) _ (c .refused2 .result) (start .pre .0 .sound) (c .refused2 .ensures)
-    (ground-turn (meaning p) begin (rw (eq-eqb (p .phase) Phase.orders (c .before .before .if1 .left), short))) (λ e. omega arith)
+    refusal 3 (start .pre .0 .sound) (c .refused2 .ensures) (λ e. omega arith)
+    (ground-turn (meaning p) begin (rw (eq-eqb (p .phase) Phase.orders (c .before .before .if1 .left), short))) _
 
 refused-requires-3 : tie.Need-refused-requires-3
 refused-requires-3 c κs = tt
@@ -72,9 +72,8 @@ returns-3 c =
     let short : eqb (length (meaning p .execution)) (p .size) ≡ false =
     ne-eqb (length (meaning p .execution)) (p .size) (λ e. c .before .if3 .taken (sym (placed-length p sound) ∙ e))
     in
-    refused-started p begin 3 (start .args .used) _ (c .refused3 .result) sound (c .refused3 .ensures)
-    (ground-turn (meaning p) begin (rw (eq-eqb (p .phase) Phase.orders (c .before .before .before .if1 .left), long, short)))
-    (λ e. omega arith)
+    refusal 3 sound (c .refused3 .ensures) (λ e. omega arith)
+    (ground-turn (meaning p) begin (rw (eq-eqb (p .phase) Phase.orders (c .before .before .before .if1 .left), long, short))) _
 
 -- BEGIN is in turn
 abbrev start : tie.Else3 → tie.Start
@@ -104,9 +103,8 @@ returns-4 : tie.Need-returns-4
 returns-4 c =
     let told = c .before .before .before in
     let turn = in-turn told in
-    refused-started (start turn .args .t1) begin (told .survey .result .number) (start turn .args .used) _ (c .refused4 .result)
-    (start turn .pre .0 .sound) (c .refused4 .ensures) (surveyed-refused (ordered turn) (told .survey .ensures) (c .before .if4 .taken))
-    (c .before .if4 .taken)
+    refusal (told .survey .result .number) (start turn .pre .0 .sound) (c .refused4 .ensures) (c .before .if4 .taken)
+    (surveyed-refused (ordered turn) (told .survey .ensures) (c .before .if4 .taken)) _
 
 cast-if5 : tie.Need-cast-if5
 cast-if5 c = search needs
@@ -119,9 +117,8 @@ returns-5 : tie.Need-returns-5
 returns-5 c =
     let told = c .before .before .before .before .before in
     let turn = in-turn told in
-    refused-started (start turn .args .t1) begin 9 (start turn .args .used) _ (c .refused5 .result) (start turn .pre .0 .sound)
-    (c .refused5 .ensures)
-    (too-high (ordered turn) (told .survey .ensures) (c .before .before .before .if4 .left) (c .before .if5 .taken)) (λ e. omega arith)
+    refusal 9 (start turn .pre .0 .sound) (c .refused5 .ensures) (λ e. omega arith)
+    (too-high (ordered turn) (told .survey .ensures) (c .before .before .before .if4 .left) (c .before .if5 .taken)) _
 
 -- the plan is surveyed, from where the day can begin
 abbrev told : tie.Else5 → tie.After-survey

@@ -26,13 +26,13 @@ use Rattle.plan.proofs.open.add_task.Tie as tie
 late : tie.Need-returns
 late c =
     let a = c .before .before .args in
-    refusal 3 (c .before .before .pre) refl (c .refused .ensures) (λ q. omega arith)
+    refusal 3 (c .before .before .pre) (c .refused .ensures) (λ q. omega arith)
     (add-late (a .t1) (a .parent) (a .work) (a .out) (c .before .if1 .taken))
 
 no-parent : tie.Need-returns-2
 no-parent c =
     let a = c .before .before .before .args in
-    refusal 4 (c .before .before .before .pre) refl (c .refused2 .ensures) (λ q. omega arith)
+    refusal 4 (c .before .before .before .pre) (c .refused2 .ensures) (λ q. omega arith)
     (add-parent (a .t1) (a .parent) (a .work) (a .out) (c .before .before .if1 .left) (c .before .if2 .taken))
 
 mul-plan : tie.Need-mul-plan

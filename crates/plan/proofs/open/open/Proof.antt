@@ -23,7 +23,7 @@ late : tie.Need-returns
 late c =
     let start = c .before .before .before in
     let a = start .args in
-    refusal 3 (start .pre) refl (c .refused .ensures) (λ q. omega arith)
+    refusal 3 (start .pre) (c .refused .ensures) (λ q. omega arith)
     (open-late (a .plan) (a .n) (a .processors) (a .bound) (c .before .if1 .taken))
 
 many-tasks : tie.Need-returns-2
@@ -31,7 +31,7 @@ many-tasks c =
     let test = c .before .before in
     let start = test .before .before .before in
     let a = start .args in
-    refusal 4 (start .pre) refl (c .refused2 .ensures) (λ q. omega arith)
+    refusal 4 (start .pre) (c .refused2 .ensures) (λ q. omega arith)
     (open-tasks (a .plan) (a .n) (a .processors) (a .bound) (test .before .if1 .left)
     (sym (test .is-within .ensures) ∙ not-true _ (c .before .if2 .taken)))
 
@@ -41,7 +41,7 @@ many-processors c =
     let first = test .before .before in
     let start = first .before .before .before in
     let a = start .args in
-    refusal 4 (start .pre) refl (c .refused3 .ensures) (λ q. omega arith)
+    refusal 4 (start .pre) (c .refused3 .ensures) (λ q. omega arith)
     (open-processors (a .plan) (a .n) (a .processors) (a .bound) (first .before .if1 .left)
     (sym (test .is-within2 .ensures) ∙ not-true _ (c .before .if3 .taken)))
 

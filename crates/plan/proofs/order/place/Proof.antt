@@ -27,7 +27,7 @@ refuses : tie.Need-returns
 refuses c =
     let called = c .before .before in
     let s = called .before .before .before .before in
-    refusal (called .next-ground .result) (s .pre) refl (c .refused .ensures) (c .before .if1 .taken)
+    refusal (called .next-ground .result) (s .pre) (c .refused .ensures) (c .before .if1 .taken)
     (execution-ground (s .args .t1) (s .args .task) (called .next-ground .result) (s .pre) (called .next-ground .ensures))
 
 mul-plan : tie.Need-mul-plan

@@ -15,7 +15,7 @@ use Rattle.rules.proofs.Orders.{within-task}
 use Rattle.rules.proofs.Judging.{ground-turn, ground-limits, ground-own}
 use Rattle.plan.specs.Meaning.{meaning}
 use Rattle.plan.proofs.Meant.{standings-meant}
-use Rattle.plan.proofs.Refusing.{refused-started}
+use Rattle.plan.proofs.Obeying.{refusal}
 use Rattle.plan.proofs.Reporting.{Reported, leaves, may-finish, may-advance, report-answered}
 use Rattle.plan.proofs.report.report.Statement.{statement}
 use Rattle.plan.proofs.report.report.Tie as tie
@@ -30,8 +30,8 @@ unfolding inTurn
 returns c =
     let start = c .before .before .before in
     let p = start .args .t1 in
-    refused-started p (done (start .args .task)) 3 (start .args .used) _ (c .refused .result) (start .pre .0 .sound) (c .refused .ensures)
-    (ground-turn (meaning p) (done (start .args .task)) (ne-eqb (p .phase) Phase.running (c .before .if1 .taken))) (λ e. omega arith)
+    refusal 3 (start .pre .0 .sound) (c .refused .ensures) (λ e. omega arith)
+    (ground-turn (meaning p) (done (start .args .task)) (ne-eqb (p .phase) Phase.running (c .before .if1 .taken))) _
 
 is-within-requires : tie.Need-is-within-requires
 is-within-requires c κs = tt
@@ -46,10 +46,9 @@ returns-2 c =
     let tested = c .before .before in
     let start = tested .before .before .before in
     let p = start .args .t1 in
-    refused-started p (done (start .args .task)) 4 (start .args .used) _ (c .refused2 .result) (start .pre .0 .sound)
-    (c .refused2 .ensures)
+    refusal 4 (start .pre .0 .sound) (c .refused2 .ensures) (λ e. omega arith)
     (ground-limits (meaning p) (done (start .args .task)) (eq-eqb (p .phase) Phase.running (tested .before .if1 .left))
-    (sym (tested .is-within .ensures) ∙ not-true _ (c .before .if2 .taken))) (λ e. omega arith)
+    (sym (tested .is-within .ensures) ∙ not-true _ (c .before .if2 .taken))) _
 
 -- the task that is reported is one of the plan's
 small : (c : tie.Else2) → c .before .before .before .before .args .task < 1025
@@ -76,11 +75,11 @@ returns-3 c =
     let sound = start .pre .0 .sound in
     let now = tested .before .if1 .left in
     let stands = ap (λ (f : ℕ → ℕ). f j) (standings-meant p sound (omega arith)) in
-    refused-started p (done j) 6 (start .args .used) _ (c .refused3 .result) sound (c .refused3 .ensures)
+    refusal 6 sound (c .refused3 .ensures) (λ e. omega arith)
     (ground-own (meaning p) (done j) (eq-eqb (p .phase) Phase.running now)
     (sym (tested .is-within .ensures) ∙ not-false _ (c .before .before .before .if2 .left))
     ∙ ap (λ (t : Bool). demand t 6 0)
-    (ne-eqb (at (meaning p .standings) j) running (λ e. c .before .if3 .taken (sym stands ∙ e)))) (λ e. omega arith)
+    (ne-eqb (at (meaning p .standings) j) running (λ e. c .before .if3 .taken (sym stands ∙ e)))) _
 
 -- the report is in order
 reported :
