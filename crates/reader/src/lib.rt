@@ -74,3 +74,11 @@ impl<'a> Reader<'a> {
         }
     }
 }
+
+// The command that stands at a place of a stream: a reader is set there and asked for the next. It
+// serves callers that keep the place as a number.
+pub fn next_at(stream: &[u8], place: usize) -> Decoded
+    ensures { λ r. ⌜ decoded r ≡ rules.decode (now (stream .entry)) place ⌝ }
+{
+    Reader::at(stream, place).next()
+}
