@@ -20,6 +20,7 @@ mod order;
 mod peak;
 mod phase;
 mod plan;
+pub mod plan_text;
 pub mod printer;
 mod ready;
 mod record;

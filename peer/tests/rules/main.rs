@@ -12,6 +12,8 @@ mod menu;
 mod naive;
 mod plan_a;
 mod plan_c;
+mod plan_text;
+mod plan_text_program;
 mod printer;
 mod table;
 mod watch;

@@ -3,7 +3,7 @@
 use crate::menu::{hex, plan_a};
 use peer::printer;
 
-const BYTES: &str = "
+pub const BYTES: &str = "
     01 03 00 02 07 00 00 00
     02 03 00 05 00 01 00
     02 03 00 05 00 01 00

@@ -1,0 +1,113 @@
+//! The program `plan-text`: its inputs, outputs, messages and statuses.
+
+use crate::menu::hex;
+use crate::plan_a;
+use std::fs;
+use std::io::Write;
+use std::path::PathBuf;
+use std::process::{Command, Stdio};
+
+const EXAMPLE: &str = concat!(env!("CARGO_MANIFEST_DIR"), "/../examples/plan-a.plan");
+
+/// Runs the program; answers standard output, standard error and the status.
+fn run(arguments: &[&str], input: &[u8]) -> (Vec<u8>, String, i32) {
+    let mut child = Command::new(env!("CARGO_BIN_EXE_plan-text"))
+        .args(arguments)
+        .stdin(Stdio::piped())
+        .stdout(Stdio::piped())
+        .stderr(Stdio::piped())
+        .spawn()
+        .unwrap();
+    // Where the program reads a file it may end before it takes the input.
+    let _ = child.stdin.take().unwrap().write_all(input);
+    let output = child.wait_with_output().unwrap();
+    let errors = String::from_utf8(output.stderr).unwrap();
+    (output.stdout, errors, output.status.code().unwrap())
+}
+
+/// A file of the tests' own, in the folder that cargo keeps for them.
+fn file(name: &str, bytes: &[u8]) -> String {
+    let path = PathBuf::from(env!("CARGO_TARGET_TMPDIR")).join(name);
+    fs::write(&path, bytes).unwrap();
+    path.into_os_string().into_string().unwrap()
+}
+
+fn fine(output: &[u8]) -> (Vec<u8>, String, i32) {
+    (output.to_vec(), String::new(), 0)
+}
+
+#[test]
+fn from_a_file_or_standard_input() {
+    let bytes = hex(plan_a::BYTES);
+    let text = fs::read(EXAMPLE).unwrap();
+    assert_eq!(run(&[EXAMPLE], b""), fine(&bytes));
+    assert_eq!(run(&[], &text), fine(&bytes));
+    assert_eq!(run(&["-"], &text), fine(&bytes));
+}
+
+#[test]
+fn back_from_a_file_or_standard_input() {
+    let bytes = hex("05 06 01 00");
+    let text = b"begin\ndone 1\n";
+    assert_eq!(
+        run(&["--back", &file("day.bytes", &bytes)], b""),
+        fine(text)
+    );
+    assert_eq!(run(&["--back"], &bytes), fine(text));
+    assert_eq!(run(&["--back", "-"], &bytes), fine(text));
+}
+
+#[test]
+fn a_wrong_line_writes_no_byte() {
+    let text = b"# Monday\n\nbegin\nstep parent 3 work x out 1\n";
+    let wrong = "4: 'work' wants a number from 0 to 65535, found 'x'\n";
+    let name = file("day.plan", text);
+    let message = format!("plan-text: {name}:{wrong}");
+    assert_eq!(run(&[&name], b""), (vec![], message, 1));
+    let message = format!("plan-text: standard input:{wrong}");
+    assert_eq!(run(&[], text), (vec![], message, 1));
+}
+
+#[test]
+fn wrong_bytes_come_after_the_text_before_them() {
+    let message = "plan-text: standard input: byte 1: 09 is no command\n";
+    let wanted = (b"begin\n".to_vec(), message.to_string(), 1);
+    assert_eq!(run(&["--back"], &hex("05 09 05")), wanted);
+    let name = file("cut.bytes", &hex("05 06 01"));
+    let message = format!("plan-text: {name}: byte 1: 'done' is cut short\n");
+    assert_eq!(
+        run(&["--back", &name], b""),
+        (b"begin\n".to_vec(), message, 1)
+    );
+}
+
+#[test]
+fn any_letters_in_comments() {
+    assert_eq!(run(&[], b"begin # pur\xe9e\n"), fine(&[0x05]));
+}
+
+#[test]
+fn a_file_that_is_not_there() {
+    let (output, errors, status) = run(&["no-such.plan"], b"");
+    assert!(errors.starts_with("plan-text: no-such.plan: "), "{errors}");
+    assert_eq!((output, status), (vec![], 1));
+}
+
+#[test]
+fn help_and_usage() {
+    let (help, errors, status) = run(&["--help"], b"");
+    let help = String::from_utf8(help).unwrap();
+    assert!(
+        help.contains("    plan steps N stations N places N\n"),
+        "{help}"
+    );
+    assert_eq!((errors, status), (String::new(), 0));
+    for arguments in [&["--forth"][..], &["a", "b"], &["--back", "a", "b"]] {
+        let (output, errors, status) = run(arguments, b"");
+        assert!(
+            help.starts_with(&errors) && errors.starts_with("usage: "),
+            "{errors}"
+        );
+        assert_eq!((output, status), (vec![], 2));
+    }
+}
