@@ -27,6 +27,7 @@ pub mod Chosen
 pub mod Advancing
 pub mod Proceeding
 pub mod Reporting
+pub mod Settling
 pub mod Beginning
 pub mod Responding
 -- every list of calls

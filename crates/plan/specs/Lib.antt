@@ -4,6 +4,7 @@ pub mod Meaning
 pub mod Sound
 pub mod Led
 pub mod InDay
+pub mod Together
 pub mod Calls
 pub mod Demand
 pub mod Blank
@@ -18,3 +19,4 @@ pub mod Starting
 pub mod Ready
 pub mod Start
 pub mod Advance
+pub mod Settle

@@ -14,6 +14,7 @@ pub mod plan;
 mod question;
 mod ready;
 mod report;
+mod settle;
 mod start;
 mod thousandths;
 mod weigh;

@@ -1,7 +1,7 @@
--- `report::phase_after` meets its contract.
+-- `settle::phase_after` meets its contract.
 use borrow.Author.Tests.{eq-eqb, ne-eqb}
-use Rattle.plan.proofs.report.phase_after.Statement.{statement}
-use Rattle.plan.proofs.report.phase_after.Tie as tie
+use Rattle.plan.proofs.settle.phase_after.Statement.{statement}
+use Rattle.plan.proofs.settle.phase_after.Tie as tie
 
 returns : tie.Need-returns
 returns c = rw (eq-eqb _ _ (c .if1 .taken))
