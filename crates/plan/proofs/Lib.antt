@@ -28,8 +28,10 @@ pub mod Advancing
 pub mod Proceeding
 pub mod Reporting
 pub mod Settling
+pub mod Parts
 pub mod Beginning
 pub mod Responding
+pub mod Successive
 -- every list of calls
 pub mod Demand
 -- a plan as it is built

@@ -20,3 +20,4 @@ pub mod Ready
 pub mod Start
 pub mod Advance
 pub mod Settle
+pub mod Reports

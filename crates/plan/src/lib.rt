@@ -14,6 +14,7 @@ pub mod plan;
 mod question;
 mod ready;
 mod report;
+pub mod reports;
 mod settle;
 mod start;
 mod thousandths;

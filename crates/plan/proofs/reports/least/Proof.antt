@@ -1,0 +1,13 @@
+-- `reports::least` meets its contract.
+use native.Mathlib.Omega.{arith}
+use Rattle.plan.proofs.reports.least.Statement.{statement}
+use Rattle.plan.proofs.reports.least.Tie as tie
+
+returns : tie.Need-returns
+returns c = let h = c .if1 .taken in omega arith
+
+returns-2 : tie.Need-returns-2
+returns-2 c = let h = c .if1 .left in omega arith
+
+pub least-spec : {M : Type 1} → statement M
+least-spec = tie.close (tie.spec returns returns-2)
