@@ -11,7 +11,7 @@ ghost use Rattle.lines.specs.Written.{Written};
 // where the count is larger.
 pub fn begin_line(
     buffer: &mut [u8],
-    peak: u32,
+    peak: u64,
     booked: u32,
     used: u32,
     full: u32,
@@ -21,7 +21,7 @@ pub fn begin_line(
     ensures { λ r. ⌜ Written (beginLine peak booked used full (take count (now (starts .entry)))) (now (buffer .entry)) (now (buffer .exit)) r ⌝ }
 {
     let next = put::text(buffer, 0, b"begin peak=");
-    let next = put::number(buffer, next, peak as u64);
+    let next = put::number(buffer, next, peak);
     tail::figures(buffer, next, booked, used, full, starts, count)
 }
 
@@ -29,7 +29,7 @@ pub fn begin_line(
 pub fn done_line(
     buffer: &mut [u8],
     task: u16,
-    offers: u32,
+    offers: usize,
     booked: u32,
     used: u32,
     full: u32,
