@@ -59,9 +59,8 @@ use Rattle.rules.specs.Text.{
   line,
   refusedLine,
   acceptedLine,
-  printFrom,
-  print,
 }
+use Rattle.rules.specs.Printer.{idle, said, answered, isAwaited, turn, printFrom, print}
 
 unfoldable pub computing : Unit {0}
 unfolding
@@ -158,6 +157,11 @@ unfolding
     line
     refusedLine
     acceptedLine
+    idle
+    said
+    answered
+    isAwaited
+    turn
     printFrom
     print
 computing = tt

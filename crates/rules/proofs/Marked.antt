@@ -3,7 +3,8 @@ use mathlib.Core.Path.{_≡_, refl}
 use mathlib.Core.Bool.{true}
 use mathlib.Core.List.{[], _∷_, _++_}
 use Rattle.rules.specs.Command.{begin}
-use Rattle.rules.specs.Text.{ascii, print}
+use Rattle.rules.specs.Text.{ascii}
+use Rattle.rules.specs.Printer.{print}
 use Rattle.rules.specs.Marked.{
   ask,
   asks,

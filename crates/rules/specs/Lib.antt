@@ -18,6 +18,7 @@ pub mod Answer
 pub mod Question
 pub mod Desk
 pub mod Text
+pub mod Printer
 pub mod Day
 pub mod Theorem
 pub mod Reachable

@@ -1,17 +1,14 @@
--- "The program reads commands from standard input and prints one line per accepted BEGIN or DONE, and on a refusal `refused K at
--- O` (number, byte offset of the command counted from 0), then stops."
+-- The lines of the day printer.
 use mathlib.Core.Bool.{true, false}
 use mathlib.Core.List.{List, [], _∷_, _++_}
 use Prim.Native.Nat.{ℕ, zero, suc, _+_, _/_, _%_}
 use Prim.Native.Char.{code}
 use Prim.Native.String
 use Prim.Native.String.{String}
-use lib.Dec.{eqb, leb, ltb}
-use lib.ListN.{length, take, replicate}
-use Rattle.rules.specs.Limits.{leastStarts}
-use Rattle.rules.specs.State.{State, none}
-use Rattle.rules.specs.Command.{Command, plan, task, activation, execution, begin, done, Decoded, refused, read, decode}
-use Rattle.rules.specs.Answer.{Answered, command}
+use lib.Dec.{ltb}
+use lib.ListN.{take}
+use Rattle.rules.specs.Command.{Command, plan, task, activation, execution, begin, done, Decoded, refused, read}
+use Rattle.rules.specs.Answer.{Answered}
 use Rattle.rules.specs.Question.{booked, inUse, fullness}
 
 -- the bytes of a text
@@ -78,23 +75,3 @@ line (done j) a =
 unfoldable pub acceptedLine : Decoded → Answered → List ℕ
 acceptedLine (refused k) a = []
 acceptedLine (read c used) a = line c a
-
--- all that is printed from a place of the stream on. "It stops without a line where the input ends between commands." A command
--- uses a byte at least, so that as many turns as the stream has bytes are enough
-unfoldable pub printFrom : ℕ → State → List ℕ → ℕ → List ℕ
-printFrom zero s stream place = []
-printFrom (suc turns) s stream place =
-    elim (leb (length stream) place) [
-      | true ↦ []
-      | false ↦
-          let a = command s (record { stream = stream; place = place; list = replicate leastStarts 0 }) in
-          elim (eqb (a .answer .number) 0) [
-            | true ↦
-                acceptedLine (decode stream place) a ++ printFrom turns (a .state) stream (place + a .answer .used)
-            | false ↦ refusedLine (a .answer .number) place
-          ]
-    ]
-
--- the day printer: standard input to standard output
-unfoldable pub print : List ℕ → List ℕ
-print stream = printFrom (length stream) none stream 0

@@ -1,0 +1,78 @@
+-- The day printer, turn by turn. "The program reads commands from standard input and prints one line per accepted BEGIN or DONE, and
+-- on a refusal `refused K at O` (number, byte offset of the command counted from 0), then stops."
+use mathlib.Core.Bool.{Bool, true, false, cond}
+use mathlib.Core.List.{List, [], _++_}
+use Prim.Native.Nat.{ℕ, zero, suc, _+_}
+use lib.Dec.{eqb, leb}
+use lib.ListN.{length, replicate}
+use Rattle.rules.specs.Limits.{leastStarts}
+use Rattle.rules.specs.State.{State, none}
+use Rattle.rules.specs.Command.{Decoded, refused, read, decode}
+use Rattle.rules.specs.Answer.{Answered, Asking, command}
+use Rattle.rules.specs.Text.{acceptedLine, refusedLine}
+
+-- what a turn decides: to go on with the next command, to wait for more input, or to stop
+abbrev pub goesOn : ℕ
+goesOn = 0
+
+abbrev pub waits : ℕ
+waits = 1
+
+abbrev pub stops : ℕ
+stops = 2
+
+-- its verdict, the bytes used, what it prints, and the plan and the start list afterwards
+pub record Turn : Type 0 where
+  pub verdict : ℕ
+  pub used : ℕ
+  pub text : List ℕ
+  pub state : State
+  pub list : List ℕ
+
+-- nothing is printed, and the plan and the start list remain what they were
+unfoldable pub idle : ℕ → State → List ℕ → Turn
+idle verdict s list = record { verdict = verdict; used = 0; text = []; state = s; list = list }
+
+-- "one line per accepted BEGIN or DONE, and on a refusal `refused K at O`"
+unfoldable pub said : Decoded → ℕ → Answered → List ℕ
+said d offset a = cond (eqb (a .answer .number) 0) (acceptedLine d a) (refusedLine (a .answer .number) offset)
+
+-- "then stops"
+unfoldable pub answered : Decoded → ℕ → Answered → Turn
+answered d offset a =
+    record {
+      verdict = cond (eqb (a .answer .number) 0) goesOn stops;
+      used = a .answer .used;
+      text = said d offset a;
+      state = a .state;
+      list = a .list;
+    }
+
+-- "no byte is left, or operands are cut short": they may still come, unless the input has ended
+unfoldable pub isAwaited : Bool → Decoded → Bool
+isAwaited isLast (refused k) = cond isLast false (eqb k 1)
+isAwaited isLast (read c used) = false
+
+-- one turn over the part of the input that has come so far. The command at the place in it stands `offset` bytes from the start of the
+-- input; `isLast` says that the input ends with this part. "It stops without a line where the input ends between commands."
+unfoldable pub turn : State → Asking → ℕ → Bool → Turn
+turn s a offset isLast =
+    cond (isAwaited isLast (decode (a .stream) (a .place))) (idle waits s (a .list))
+    (cond (leb (length (a .stream)) (a .place)) (idle stops s (a .list))
+    (answered (decode (a .stream) (a .place)) offset (command s a)))
+
+-- all that is printed from a place of the whole input on, turn after turn. A command uses a byte at least, so that as many turns as
+-- the input has bytes are enough
+unfoldable pub printFrom : ℕ → State → List ℕ → ℕ → List ℕ
+printFrom zero s stream place = []
+printFrom (suc turns) s stream place =
+    let t = turn s (record { stream = stream; place = place; list = replicate leastStarts 0 }) place true in
+    t .text
+    ++ elim (eqb (t .verdict) goesOn) [
+      | true ↦ printFrom turns (t .state) stream (place + t .used)
+      | false ↦ []
+    ]
+
+-- the day printer: standard input to standard output
+unfoldable pub print : List ℕ → List ℕ
+print stream = printFrom (length stream) none stream 0
