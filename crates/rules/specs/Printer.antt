@@ -50,8 +50,9 @@ answered d offset a =
 
 -- "no byte is left, or operands are cut short": they may still come, unless the input has ended
 unfoldable pub isAwaited : Bool → Decoded → Bool
-isAwaited isLast (refused k) = cond isLast false (eqb k 1)
-isAwaited isLast (read c used) = false
+isAwaited true d = false
+isAwaited false (refused k) = eqb k 1
+isAwaited false (read c used) = false
 
 -- one turn over the part of the input that has come so far. The command at the place in it stands `offset` bytes from the start of the
 -- input; `isLast` says that the input ends with this part. "It stops without a line where the input ends between commands."

@@ -1,0 +1,50 @@
+-- What is printed for an accepted command, case by case.
+use mathlib.Core.Path.{_≡_, sym, ap, subst, _∙_}
+use mathlib.Core.List.{List, []}
+use Prim.Native.Nat.{ℕ}
+use lib.ListN.{take}
+use Rattle.rules.specs.Answer as rules
+use Rattle.rules.specs.Text.{beginLine, doneLine, line, acceptedLine}
+use Rattle.rules.specs.Question.{booked, inUse, fullness}
+use Rattle.codec.specs.Meaning.{commandOf, decoded}
+use Rattle.codec.specs.declared.Command.{Command}
+use Rattle.codec.specs.declared.Command.the-variants.{Begin, Done}
+use Rattle.codec.specs.declared.Decoded.{Decoded}
+use Rattle.codec.specs.declared.Decoded.the-variants.{Refused, Read}
+use Rattle.lines.specs.Written.{Written}
+use Rattle.lines.proofs.Pieces.{nothing, whole}
+
+-- a text by another name
+pub as-text : {text text′ buffer buffer′ : List ℕ} {n : ℕ}
+    → text′ ≡ text
+    → Written text buffer buffer′ n
+    → Written text′ buffer buffer′ n
+as-text {buffer = buffer} {buffer′ = buffer′} {n = n} e w = subst (λ (t : List ℕ). Written t buffer buffer′ n) (sym e) w
+
+-- no text leaves the buffer as it was
+pub no-text : (buffer : List ℕ) → Written [] buffer buffer 0
+no-text buffer = whole (nothing 0 buffer)
+
+-- nothing was read
+pub of-refused : {asked : Decoded} {k : ℕ} (a : rules.Answered) → asked ≡ Refused k → acceptedLine (decoded asked) a ≡ []
+unfolding acceptedLine
+of-refused a e = ap (λ (d : Decoded). acceptedLine (decoded d) a) e
+
+-- the line of a command that was read
+pub of-read : {asked : Decoded} {c c′ : Command} {used : ℕ} (a : rules.Answered)
+    → asked ≡ Read c used
+    → c ≡ c′
+    → acceptedLine (decoded asked) a ≡ line (commandOf c′) a
+unfolding acceptedLine
+of-read a e e′ = ap (λ (d : Decoded). acceptedLine (decoded d) a) e ∙ ap (λ (k : Command). line (commandOf k) a) e′
+
+module _ (a : rules.Answered) {b u f : ℕ} (eb : b ≡ booked (a .state)) (eu : u ≡ inUse (a .state)) (ef : f ≡ fullness (a .state)) where
+  -- the lines of BEGIN and DONE with the figures that the questions answered
+  pub of-begin : line (commandOf Begin) a ≡ beginLine (a .answer .peak) b u f (take (a .answer .starts) (a .list))
+  unfolding line
+  of-begin = rw (eb, eu, ef)
+
+  pub of-done : (j : ℕ)
+      → line (commandOf (Done j)) a ≡ doneLine j (a .answer .offers) b u f (take (a .answer .starts) (a .list))
+  unfolding line
+  of-done j = rw (eb, eu, ef)
