@@ -1,3 +1,4 @@
 -- Laws that the proofs of this crate cite.
 pub mod Printed
 pub mod Taking
+pub mod Within

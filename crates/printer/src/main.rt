@@ -1,0 +1,4 @@
+// The day printer.
+fn main() {
+    pump::run();
+}
