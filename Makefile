@@ -2,19 +2,17 @@ SHELL := /bin/bash
 
 .PHONY: run test compare
 
-# Plan A of document 01.
-PLAN_A = \x01\x03\x00\x02\x07\x00\x00\x00\x02\x03\x00\x05\x00\x01\x00\x02\x03\x00\x05\x00\x01\x00\x02\x00\x00\x00\x00\x01\x00$\
-	\x03\x01\x00\x03\x02\x00\x03\x03\x00\x04\x01\x00\x04\x02\x00\x04\x03\x00\x05\x06\x01\x00\x06\x02\x00\x06\x03\x00
-
-# A day of plan A, printed by the peer.
+# A day of plan A of document 01, printed by the day printer.
 run:
-	@cargo build --quiet --release --offline --manifest-path peer/Cargo.toml
-	@printf '$(PLAN_A)' | peer/target/release/peer
+	@mkdir -p target
+	@rt check printer > target/run.log || { cat target/run.log; exit 1; }
+	@target/bin/printer < crates/printer/stdin
 
 # Every check: what .ci/run does.
 test:
 	./.ci/run
 
-# The desk's peak beside the peer's, on many lists.
+# The desk's peak and the day printer beside the peer's, on many lists and streams.
 compare:
 	./compare/run
+	./compare/printer

@@ -1,4 +1,4 @@
-//! Links the static library that `rt staticlib desk` writes.
+//! Links the static library that `rt staticlib desk` writes, to the program that calls it.
 
 use std::env;
 
@@ -6,6 +6,5 @@ fn main() {
     let here = env::var("CARGO_MANIFEST_DIR").expect("cargo names the folder");
     let library = format!("{here}/../target/staticlib");
     println!("cargo:rustc-link-search=native={library}");
-    println!("cargo:rustc-link-lib=static=desk");
     println!("cargo:rerun-if-changed={library}/libdesk.a");
 }

@@ -24,6 +24,7 @@ struct DeskAnswer {
     peak: u64,
 }
 
+#[link(name = "desk", kind = "static")]
 extern "C" {
     fn desk_peak(
         records: *const TaskRecord,
