@@ -1,0 +1,2 @@
+-- What the contracts of this crate say of a list of askings.
+pub mod Run

@@ -1,0 +1,105 @@
+// A list of askings, run one after another on an empty plan: for C and Rust callers, who hand over
+// plain lists of numbers and keep no plan.
+use plan::answer::Answered;
+use plan::plan::Plan;
+use service::serve;
+ghost use mathlib.Core.Path.{_≡_};
+ghost use mathlib.Core.List.{[]};
+ghost use Prim.Native.Nat.{_≤_, min};
+ghost use lib.ListN.{length, take, drop};
+ghost use Rattle.rules.specs.Answer.{front};
+ghost use Rattle.plan.specs.Led.{Led};
+ghost use Rattle.plan.specs.Meaning.{answeredOf};
+ghost use Rattle.host.specs.Run as specs;
+
+// How many numbers an asking is, and how many numbers are told after it.
+pub const ASKED: usize = 4;
+
+pub const TOLD: usize = 13;
+
+fn least(a: usize, b: usize) -> usize
+    ensures { λ r. ⌜ r ≡ min a b ⌝ }
+{
+    if a < b { a } else { b }
+}
+
+fn wide(x: u32) -> u64
+    ensures { λ r. ⌜ r ≡ x ⌝ }
+{
+    x as u64
+}
+
+// The bytes from a place up to another, as far as there are any.
+fn part(bytes: &[u8], from: usize, to: usize) -> &[u8]
+    ensures { λ r. ⌜ now r ≡ drop from (take to (now (bytes .entry))) ⌝ }
+{
+    let end = least(to, bytes.len());
+    let start = least(from, end);
+    &bytes[start..end]
+}
+
+// What is told after a command: its answer, and what its plan is asked then.
+fn row(told: Answered) -> [u64; TOLD]
+    requires { ⌜ Led (told .plan) ⌝ }
+    ensures { λ r. ⌜ r ≡ specs.row (answeredOf told []) ⌝ }
+{
+    let answer = told.answer;
+    let plan = told.plan;
+    let standing = plan.standing();
+    [
+        answer.number as u64,
+        answer.used as u64,
+        answer.starts as u64,
+        answer.peak,
+        answer.offers as u64,
+        plan.phase() as u64,
+        plan.booked() as u64,
+        plan.in_use() as u64,
+        plan.fullness() as u64,
+        wide(standing[0]),
+        wide(standing[1]),
+        wide(standing[2]),
+        wide(standing[3]),
+    ]
+}
+
+// Numbers to the front of a list that has room for them.
+fn put(list: &mut [u64], numbers: [u64; TOLD])
+    requires { ⌜ 13 ≤ length (now list) ⌝ }
+    ensures { λ _. ⌜ now (list .exit) ≡ front numbers (now (list .entry)) ⌝ }
+{
+    let mut i = 0;
+    while i < TOLD {
+        list[i] = numbers[i];
+        i += 1;
+    }
+}
+
+// Runs as many of the askings as there is room to tell of, and answers how many that was.
+#[no_mangle]
+pub extern "C" fn run_askings(
+    bytes: &[u8],
+    askings: &[usize],
+    starts: &mut [u16],
+    answers: &mut [u64],
+) -> usize
+    ensures { λ r. ⌜ specs.Ran (now (bytes .entry)) (now (askings .entry)) (now (starts .entry)) (now (answers .entry))
+        r (now (starts .exit)) (now (answers .exit)) ⌝ }
+{
+    let count = least(askings.len() / ASKED, answers.len() / TOLD);
+    let mut plan = Plan::new();
+    let mut at = 0;
+    let mut k = 0;
+    while k < count {
+        let first = k * ASKED;
+        let stream = part(bytes, askings[first], askings[first + 1]);
+        let end = at + least(askings[first + 3], starts.len() - at);
+        let told = serve(stream, askings[first + 2], plan, &mut starts[at..end]);
+        at = end;
+        let place = k * TOLD;
+        put(&mut answers[place..], row(told));
+        plan = told.plan;
+        k += 1;
+    }
+    count
+}
