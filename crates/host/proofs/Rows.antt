@@ -1,8 +1,9 @@
 -- What is told after a command has thirteen numbers.
-use mathlib.Core.Path.{_≡_, refl}
+use mathlib.Core.Path.{_≡_, refl, _∙_}
 use mathlib.Core.Bool.{Bool, true, false, cond, _||_}
 use mathlib.Core.List.{List, [], _∷_}
 use Prim.Native.Nat.{ℕ}
+use native.Mathlib.Omega.{arith}
 use lib.Dec.{eqb}
 use lib.ListN.{length}
 use Rattle.rules.specs.Lists.{at}
@@ -30,19 +31,26 @@ pub row-length : (a : Answered) → length (row a) ≡ 13
 unfolding row
 row-length a = rw (four (a .state))
 
--- what each question answers makes the row
-pub tells :
-    (a : Answered) {phase books uses full : ℕ} {l : List ℕ} {w x y z : ℕ}
-    → phase ≡ a .state .phase
-    → books ≡ booked (a .state)
-    → uses ≡ inUse (a .state)
-    → full ≡ fullness (a .state)
-    → l ≡ standing (a .state)
+-- a list of four, entry by entry
+pub in-order : (l : List ℕ) {w x y z : ℕ}
+    → length l ≡ 4
     → w ≡ at l 0
     → x ≡ at l 1
     → y ≡ at l 2
     → z ≡ at l 3
-    → a .answer .number
+    → w ∷ x ∷ y ∷ z ∷ [] ≡ l
+in-order [] e a b c d = absurd (omega arith)
+in-order (k ∷ []) e a b c d = absurd (omega arith)
+in-order (k ∷ l ∷ []) e a b c d = absurd (omega arith)
+in-order (k ∷ l ∷ m ∷ []) e a b c d = absurd (omega arith)
+in-order (k ∷ l ∷ m ∷ n ∷ []) e a b c d = rw (a, b, c, d)
+in-order (k ∷ l ∷ m ∷ n ∷ o ∷ p) e a b c d = absurd (omega arith)
+
+-- what is answered and asked makes the row
+pub tells :
+    (a : Answered) {numbers l : List ℕ} {phase books uses full : ℕ}
+    → numbers
+    ≡ a .answer .number
     ∷ a .answer .used
     ∷ a .answer .starts
     ∷ a .answer .peak
@@ -51,11 +59,12 @@ pub tells :
     ∷ books
     ∷ uses
     ∷ full
-    ∷ w
-    ∷ x
-    ∷ y
-    ∷ z
-    ∷ []
-    ≡ row a
+    ∷ l
+    → phase ≡ a .state .phase
+    → books ≡ booked (a .state)
+    → uses ≡ inUse (a .state)
+    → full ≡ fullness (a .state)
+    → l ≡ standing (a .state)
+    → numbers ≡ row a
 unfolding row
-tells a p b u f l w x y z = rw (four (a .state), w, x, y, z, l, p, b, u, f)
+tells a n p b u f l = n ∙ rw (p, b, u, f, l)

@@ -1,15 +1,13 @@
 // A list of askings, run one after another on an empty plan: for C and Rust callers, who hand over
 // plain lists of numbers and keep no plan.
-use plan::answer::Answered;
+use plan::answer::Answer;
 use plan::plan::Plan;
 use service::serve;
 ghost use mathlib.Core.Path.{_≡_};
-ghost use mathlib.Core.List.{[]};
+ghost use mathlib.Core.List.{_∷_};
 ghost use Prim.Native.Nat.{_≤_, min};
 ghost use lib.ListN.{length, take, drop};
 ghost use Rattle.rules.specs.Answer.{front};
-ghost use Rattle.plan.specs.Led.{Led};
-ghost use Rattle.plan.specs.Meaning.{answeredOf};
 ghost use Rattle.host.specs.Run as specs;
 
 // How many numbers an asking is, and how many numbers are told after it.
@@ -38,24 +36,28 @@ fn part(bytes: &[u8], from: usize, to: usize) -> &[u8]
     &bytes[start..end]
 }
 
-// What is told after a command: its answer, and what its plan is asked then.
-fn row(told: Answered) -> [u64; TOLD]
-    requires { ⌜ Led (told .plan) ⌝ }
-    ensures { λ r. ⌜ r ≡ specs.row (answeredOf told []) ⌝ }
+// An answer and what a plan is asked, in the order in which they are told.
+fn row(
+    answer: Answer,
+    phase: u8,
+    booked: u32,
+    used: u32,
+    full: u32,
+    standing: [u32; 4],
+) -> [u64; TOLD]
+    ensures { λ r. ⌜ r ≡ answer .number ∷ answer .used ∷ answer .starts ∷ answer .peak ∷ answer .offers
+        ∷ phase ∷ booked ∷ used ∷ full ∷ standing ⌝ }
 {
-    let answer = told.answer;
-    let plan = told.plan;
-    let standing = plan.standing();
     [
         answer.number as u64,
         answer.used as u64,
         answer.starts as u64,
         answer.peak,
         answer.offers as u64,
-        plan.phase() as u64,
-        plan.booked() as u64,
-        plan.in_use() as u64,
-        plan.fullness() as u64,
+        phase as u64,
+        booked as u64,
+        used as u64,
+        full as u64,
         wide(standing[0]),
         wide(standing[1]),
         wide(standing[2]),
@@ -95,10 +97,19 @@ pub extern "C" fn run_askings(
         let stream = part(bytes, askings[first], askings[first + 1]);
         let end = at + least(askings[first + 3], starts.len() - at);
         let told = serve(stream, askings[first + 2], plan, &mut starts[at..end]);
-        at = end;
-        let place = k * TOLD;
-        put(&mut answers[place..], row(told));
         plan = told.plan;
+        at = end;
+        let answer = told.answer;
+        let numbers = row(
+            answer,
+            plan.phase(),
+            plan.booked(),
+            plan.in_use(),
+            plan.fullness(),
+            plan.standing(),
+        );
+        let place = k * TOLD;
+        put(&mut answers[place..], numbers);
         k += 1;
     }
     count
