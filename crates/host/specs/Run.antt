@@ -7,27 +7,28 @@ use Rattle.rules.specs.Lists.{at}
 use Rattle.rules.specs.State.{none}
 use Rattle.rules.specs.Answer.{Asking, Answered, front}
 use Rattle.rules.specs.Question.{booked, inUse, fullness, standing}
-use Rattle.rules.specs.Day.{answers}
+use Rattle.rules.specs.Day as day
 
--- how many numbers an asking is, and how many numbers are told after it
-abbrev pub asked : ℕ
-asked = 4
+-- how many numbers an asking is, and how many are told after it
+abbrev pub askingSize : ℕ
+askingSize = 4
 
-abbrev pub told : ℕ
-told = 13
+abbrev pub rowSize : ℕ
+rowSize = 13
 
--- the start lists of the askings lie one after another: how many entries lie ahead of the k-th
+-- the start lists of the askings lie one after another: how many entries lie ahead of the k-th, counted from 0
 unfoldable pub ahead : List ℕ → ℕ → ℕ
 ahead askings zero = 0
-ahead askings (suc k) = ahead askings k + at askings (k * asked + 3)
+ahead askings (suc k) = ahead askings k + at askings (k * askingSize + 3)
 
--- the k-th asking: where its bytes begin and end, the place in them, and the length of its start list
+-- the k-th asking: where its bytes begin and end among all bytes, the place in them, and how long its start list is. Where there
+-- are fewer bytes or entries than that, it gets those that there are
 unfoldable pub asking : (bytes askings starts : List ℕ) → ℕ → Asking
 asking bytes askings starts k =
     record {
-      stream = drop (at askings (k * asked)) (take (at askings (k * asked + 1)) bytes);
-      place = at askings (k * asked + 2);
-      list = take (at askings (k * asked + 3)) (drop (ahead askings k) starts);
+      stream = drop (at askings (k * askingSize)) (take (at askings (k * askingSize + 1)) bytes);
+      place = at askings (k * askingSize + 2);
+      list = take (at askings (k * askingSize + 3)) (drop (ahead askings k) starts);
     }
 
 -- the first k of them
@@ -35,7 +36,15 @@ unfoldable pub first : (bytes askings starts : List ℕ) → ℕ → List Asking
 first bytes askings starts zero = []
 first bytes askings starts (suc k) = first bytes askings starts k ++ (asking bytes askings starts k ∷ [])
 
--- what is told after a command: its answer, and what its plan is asked then
+-- what they are answered, each on the plan as the one before left it
+abbrev pub answered : (bytes askings starts : List ℕ) → ℕ → List Answered
+answered bytes askings starts k = day.answers none (first bytes askings starts k)
+
+-- their start lists afterwards, one after another
+abbrev pub listsAfter : (bytes askings starts : List ℕ) → ℕ → List ℕ
+listsAfter bytes askings starts k = flatMap (λ a. a .list) (answered bytes askings starts k)
+
+-- what is told after a command: its answer, and what the plan that it leaves is asked
 unfoldable pub row : Answered → List ℕ
 row a =
     a .answer .number
@@ -49,14 +58,14 @@ row a =
     ∷ fullness (a .state)
     ∷ standing (a .state)
 
--- what the first k askings are answered
-abbrev pub answered : (bytes askings starts : List ℕ) → ℕ → List Answered
-answered bytes askings starts k = answers none (first bytes askings starts k)
+-- and after all of them, one after another
+abbrev pub rows : (bytes askings starts : List ℕ) → ℕ → List ℕ
+rows bytes askings starts k = flatMap row (answered bytes askings starts k)
 
--- the start lists and the numbers told, before and after, and how many askings were run
-pub record Ran (bytes askings starts rows : List ℕ) (count : ℕ) (starts′ rows′ : List ℕ) : Type 0 where
-  pub run : count ≡ min (length askings / asked) (length rows / told)
-  -- the start lists as the commands leave them, one after another, and the entries behind them as they were
-  pub lists : starts′ ≡ front (flatMap (λ a. a .list) (answered bytes askings starts count)) starts
-  -- the rows, one after another, and the entries behind them as they were
-  pub told : rows′ ≡ front (flatMap row (answered bytes askings starts count)) rows
+-- what a run of askings leaves of the caller's two lists, and how many were run
+pub record Ran (bytes askings starts answers : List ℕ) (count : ℕ) (starts′ answers′ : List ℕ) : Type 0 where
+  -- all of them, as far as there is room for their rows
+  pub counted : count ≡ min (length askings / askingSize) (length answers / rowSize)
+  -- the start lists and the rows stand at the front, and every later entry is as it was
+  pub lists : starts′ ≡ front (listsAfter bytes askings starts count) starts
+  pub told : answers′ ≡ front (rows bytes askings starts count) answers

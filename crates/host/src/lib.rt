@@ -1,19 +1,24 @@
 // A list of askings, run one after another on an empty plan: for C and Rust callers, who hand over
 // plain lists of numbers and keep no plan.
 use plan::answer::Answer;
+use plan::command;
 use plan::plan::Plan;
-use service::serve;
+use reader::next_at;
 ghost use mathlib.Core.Path.{_≡_};
 ghost use mathlib.Core.List.{_∷_};
 ghost use Prim.Native.Nat.{_≤_, min};
 ghost use lib.ListN.{length, take, drop};
 ghost use Rattle.rules.specs.Answer.{front};
-ghost use Rattle.host.specs.Run as specs;
+ghost use Rattle.host.specs.Run.{rowSize, Ran};
 
-// How many numbers an asking is, and how many numbers are told after it.
-pub const ASKED: usize = 4;
+// An asking is four numbers: where its bytes begin and end, the place in them, and how many entries
+// its start list has.
+pub const ASKING: usize = 4;
 
-pub const TOLD: usize = 13;
+// Thirteen numbers are told after it: number, bytes used, starts, peak, offers; then of the plan its
+// phase, booked trays, trays in use, fullness, and how many tasks wait, are activated, run and have
+// finished.
+pub const ROW: usize = 13;
 
 fn least(a: usize, b: usize) -> usize
     ensures { λ r. ⌜ r ≡ min a b ⌝ }
@@ -44,7 +49,7 @@ fn row(
     used: u32,
     full: u32,
     standing: [u32; 4],
-) -> [u64; TOLD]
+) -> [u64; ROW]
     ensures { λ r. ⌜ r ≡ answer .number ∷ answer .used ∷ answer .starts ∷ answer .peak ∷ answer .offers
         ∷ phase ∷ booked ∷ used ∷ full ∷ standing ⌝ }
 {
@@ -66,18 +71,20 @@ fn row(
 }
 
 // Numbers to the front of a list that has room for them.
-fn put(list: &mut [u64], numbers: [u64; TOLD])
-    requires { ⌜ 13 ≤ length (now list) ⌝ }
+fn put(list: &mut [u64], numbers: [u64; ROW])
+    requires { ⌜ rowSize ≤ length (now list) ⌝ }
     ensures { λ _. ⌜ now (list .exit) ≡ front numbers (now (list .entry)) ⌝ }
 {
     let mut i = 0;
-    while i < TOLD {
+    while i < ROW {
         list[i] = numbers[i];
         i += 1;
     }
 }
 
-// Runs as many of the askings as there is room to tell of, and answers how many that was.
+// Runs as many of the askings as there is room to tell of, and answers how many that was. Their start
+// lists lie one after another in `starts`, and their rows in `answers`. For C and Rust each list is a
+// pointer and a length.
 #[no_mangle]
 pub extern "C" fn run_askings(
     bytes: &[u8],
@@ -85,18 +92,19 @@ pub extern "C" fn run_askings(
     starts: &mut [u16],
     answers: &mut [u64],
 ) -> usize
-    ensures { λ r. ⌜ specs.Ran (now (bytes .entry)) (now (askings .entry)) (now (starts .entry)) (now (answers .entry))
+    ensures { λ r. ⌜ Ran (now (bytes .entry)) (now (askings .entry)) (now (starts .entry)) (now (answers .entry))
         r (now (starts .exit)) (now (answers .exit)) ⌝ }
 {
-    let count = least(askings.len() / ASKED, answers.len() / TOLD);
+    let count = least(askings.len() / ASKING, answers.len() / ROW);
     let mut plan = Plan::new();
     let mut at = 0;
     let mut k = 0;
     while k < count {
-        let first = k * ASKED;
+        let first = k * ASKING;
         let stream = part(bytes, askings[first], askings[first + 1]);
         let end = at + least(askings[first + 3], starts.len() - at);
-        let told = serve(stream, askings[first + 2], plan, &mut starts[at..end]);
+        let asked = next_at(stream, askings[first + 2]);
+        let told = command(plan, asked, &mut starts[at..end]);
         plan = told.plan;
         at = end;
         let answer = told.answer;
@@ -108,7 +116,7 @@ pub extern "C" fn run_askings(
             plan.fullness(),
             plan.standing(),
         );
-        let place = k * TOLD;
+        let place = k * ROW;
         put(&mut answers[place..], numbers);
         k += 1;
     }

@@ -3,9 +3,6 @@ use borrow.Author.Needs.{needs}
 use Rattle.host.proofs.Parts.{part-is}
 use Rattle.host.proofs.part.Statement.{statement}
 use Rattle.host.proofs.part.Tie as tie
-use Rattle.host.proofs.part.Reads as reads
-use Rattle.host.proofs.part.Lts as lts
-use Rattle.host.proofs.least.Reads as least-reads
 
 returns : tie.Need-returns
 returns c = part-is _ _ _ _ _ (c .before .before .least .ensures) (c .before .least2 .ensures)

@@ -8,8 +8,6 @@ use lib.ListN.{length, take, drop, getD, set, length-set}
 use Rattle.host.proofs.Parts.{grows, whole}
 use Rattle.host.proofs.put.Statement.{statement}
 use Rattle.host.proofs.put.Tie as tie
-use Rattle.host.proofs.put.Reads as reads
-use Rattle.host.proofs.put.Lts as lts
 
 abbrev Inv-loop : tie.InvT-loop
 Inv-loop list₀ numbers i₀ list i =

@@ -5,9 +5,6 @@ use borrow.Author.Needs.{needs}
 use Rattle.host.proofs.Rows.{in-order}
 use Rattle.host.proofs.row.Statement.{statement}
 use Rattle.host.proofs.row.Tie as tie
-use Rattle.host.proofs.row.Reads as reads
-use Rattle.host.proofs.row.Lts as lts
-use Rattle.host.proofs.wide.Reads as wide-reads
 
 returns : tie.Need-returns
 returns c =
