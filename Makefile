@@ -1,6 +1,6 @@
 SHELL := /bin/bash
 
-.PHONY: run test compare
+.PHONY: run test compare match
 
 # A day of plan A of document 01, printed by the day printer.
 run:
@@ -16,3 +16,7 @@ test:
 compare:
 	./compare/run
 	./compare/printer
+
+# The command function beside the peer's, on a million askings.
+match:
+	./compare/match

@@ -1,10 +1,10 @@
-//! Links the static library that `rt staticlib desk` writes, to the program that calls it.
+//! Says where the static libraries are that `rt staticlib` writes.
 
 use std::env;
 
 fn main() {
     let here = env::var("CARGO_MANIFEST_DIR").expect("cargo names the folder");
-    let library = format!("{here}/../target/staticlib");
-    println!("cargo:rustc-link-search=native={library}");
-    println!("cargo:rerun-if-changed={library}/libdesk.a");
+    let libraries = format!("{here}/../target/staticlib");
+    println!("cargo:rustc-link-search=native={libraries}");
+    println!("cargo:rerun-if-changed={libraries}");
 }

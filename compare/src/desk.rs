@@ -1,9 +1,7 @@
 //! The desk's peak beside the peer's: `desk [LISTS]`, 200,000 unless it says
 //! otherwise. Both get the same lists, and must answer the same number and peak.
 
-mod lists;
-
-use lists::{lists, Lists};
+use compare::lists::{lists, Lists};
 use peer::generate::Random;
 use peer::Record;
 use std::process::ExitCode;
@@ -68,7 +66,10 @@ fn difference(given: &Lists) -> Option<((u8, u64), (u8, u64))> {
     let (records_before, activation_before) = (records.clone(), given.activation.clone());
     let got = proved(&records, &given.activation);
     assert_eq!(records, records_before, "the records are only read");
-    assert_eq!(given.activation, activation_before, "the order is only read");
+    assert_eq!(
+        given.activation, activation_before,
+        "the order is only read"
+    );
     let wanted = expected(&given.records, &given.activation);
     (got != wanted).then_some((got, wanted))
 }

@@ -69,6 +69,24 @@ pub fn askings(seed: u64) -> Vec<Asking> {
     asker.askings
 }
 
+/// At least so many askings of one seed, for one plan that begins empty: one
+/// plan after another, often sent with flaws first and then as it should be,
+/// and each day to its end.
+pub fn many_askings(seed: u64, least: usize) -> Vec<Asking> {
+    let mut asker = Asker::new(seed);
+    while asker.askings.len() < least {
+        let draft = Draft::random(&mut asker.random);
+        for _ in 0..asker.random.pick(&[0, 1, 1, 2]) {
+            let mut flawed = draft.clone();
+            flaw::spoil(&mut asker.random, &mut flawed);
+            asker.send(&flawed);
+            asker.ask(&encode(Command::Begin), draft.tasks);
+        }
+        asker.send(&draft);
+    }
+    asker.askings
+}
+
 /// Whoever asks: keeps a plan of its own to know what is in turn.
 struct Asker {
     random: Random,
@@ -110,12 +128,23 @@ impl Asker {
         while self.random.chance(self.nuisances) {
             self.pester(command, n);
         }
+        if self.random.chance(2) {
+            self.ask_cuts(command);
+        }
         let starts_len = self.random.pick(&[64, 64, 64, 65, 100, 1024]);
         let asking = Asking::amid(&mut self.random, command, starts_len);
         let mut starts = vec![0; starts_len];
         let answer = self.plan.command(&asking.bytes, asking.place, &mut starts);
         self.running.extend(&starts[..answer.starts]);
         self.askings.push(asking);
+    }
+
+    /// Asks a command cut at each of its bytes.
+    fn ask_cuts(&mut self, command: &[u8]) {
+        for end in 0..command.len() {
+            let asking = Asking::at_end(&mut self.random, &command[..end], 64);
+            self.askings.push(asking);
+        }
     }
 
     /// Asks something that is refused where `command` would come next.

@@ -12,6 +12,7 @@ use crate::record::Record;
 
 /// Everything that PLAN, STEP, 03 and 04 will say. Valid as it is made; a
 /// flaw may change it later.
+#[derive(Clone)]
 pub(crate) struct Draft {
     pub tasks: u16,
     pub processors: u8,

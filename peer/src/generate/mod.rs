@@ -13,7 +13,7 @@ mod random;
 mod stream;
 mod tree;
 
-pub use askings::{askings, Asking};
+pub use askings::{askings, many_askings, Asking};
 pub use encode::encode;
 pub use random::Random;
 pub use stream::stream;

@@ -1,7 +1,7 @@
 //! The generator: the same bytes for the same seed, and every kind of input.
 
 use crate::menu::ask;
-use peer::generate::{askings, encode, stream, Random};
+use peer::generate::{askings, encode, many_askings, stream, Random};
 use peer::{decode, Command, Phase, Plan};
 use std::collections::BTreeSet;
 
@@ -10,6 +10,7 @@ fn the_same_seed_gives_the_same_bytes() {
     for seed in 0..20 {
         assert_eq!(stream(seed), stream(seed));
         assert_eq!(askings(seed), askings(seed));
+        assert_eq!(many_askings(seed, 500), many_askings(seed, 500));
     }
     assert_ne!(stream(1), stream(2));
 }

@@ -1,0 +1,52 @@
+//! `run_askings` and its answers, by the peer.
+
+use crate::flat::{part, ANSWER, ASKING};
+use peer::{Answer, Phase, Plan};
+
+/// Runs a list of askings on an empty plan and tells how many it ran.
+pub fn run_askings(
+    bytes: &[u8],
+    askings: &[usize],
+    starts: &mut [u16],
+    answers: &mut [u64],
+) -> usize {
+    let (askings, _) = askings.as_chunks::<ASKING>();
+    let (answers, _) = answers.as_chunks_mut::<ANSWER>();
+    let count = askings.len().min(answers.len());
+    let mut plan = Plan::new();
+    let mut rest = starts;
+    for (&[from, to, place, entries], answer) in askings.iter().zip(answers) {
+        let (list, behind) = rest.split_at_mut(entries.min(rest.len()));
+        let answered = plan.command(part(bytes, from, to), place, list);
+        *answer = numbers(answered, &plan);
+        rest = behind;
+    }
+    count
+}
+
+/// An answer, then what the plan answers after the command.
+fn numbers(answer: Answer, plan: &Plan) -> [u64; ANSWER] {
+    let phase = match plan.phase() {
+        Phase::Empty => 0,
+        Phase::Steps => 1,
+        Phase::Orders => 2,
+        Phase::Running => 3,
+        Phase::Over => 4,
+    };
+    let [waiting, activated, running, finished] = plan.standing().map(u64::from);
+    [
+        answer.number.into(),
+        answer.used as u64,
+        answer.starts as u64,
+        answer.peak.into(),
+        answer.offers as u64,
+        phase,
+        plan.booked().into(),
+        plan.in_use().into(),
+        plan.fullness().into(),
+        waiting,
+        activated,
+        running,
+        finished,
+    ]
+}
