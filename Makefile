@@ -1,6 +1,6 @@
 SHELL := /bin/bash
 
-.PHONY: run test compare match
+.PHONY: run test compare match bench
 
 # A day of plan A of document 01, printed by the day printer.
 run:
@@ -20,3 +20,7 @@ compare:
 # The command function beside the peer's, on a million askings.
 match:
 	./compare/match
+
+# Whole days timed, the command function beside the peer's.
+bench:
+	@./compare/bench

@@ -2,8 +2,11 @@
 //! difference is told. The static libraries are linked by the programs alone.
 
 pub mod by_peer;
+pub mod clock;
+pub mod day;
 pub mod flat;
 pub mod lists;
 pub mod outcome;
 pub mod seeds;
+pub mod table;
 pub mod tally;

@@ -17,3 +17,4 @@ pub use askings::{askings, many_askings, Asking};
 pub use encode::encode;
 pub use random::Random;
 pub use stream::stream;
+pub use tree::Shape;

@@ -2,8 +2,9 @@
 
 use super::random::Random;
 
+/// What a tree looks like.
 #[derive(Clone, Copy)]
-enum Shape {
+pub enum Shape {
     Random,
     Deep,
     Chain,
@@ -28,22 +29,24 @@ pub(crate) fn parents(random: &mut Random, n: usize) -> Vec<u16> {
     let numbers = numbers(random, n);
     let mut parents = vec![0; n];
     for node in 1..n {
-        let parent = parent(random, shape, node, n);
+        let parent = shape.parent(random, node, n);
         parents[usize::from(numbers[node]) - 1] = numbers[parent];
     }
     parents
 }
 
-/// The parent of a node; node 0 is the root and parents come first.
-fn parent(random: &mut Random, shape: Shape, node: usize, n: usize) -> usize {
-    match shape {
-        Shape::Random => random.below(node),
-        Shape::Deep => node - 1 - random.below(node.min(3)),
-        Shape::Chain => node - 1,
-        Shape::Star => 0,
-        Shape::Caterpillar => (node - 1) / 2 * 2,
-        Shape::Binary => (node - 1) / 2,
-        Shape::Broom => (node - 1).min(n / 2),
+impl Shape {
+    /// The parent of a node of n; node 0 is the root and parents come first.
+    pub fn parent(self, random: &mut Random, node: usize, n: usize) -> usize {
+        match self {
+            Shape::Random => random.below(node),
+            Shape::Deep => node - 1 - random.below(node.min(3)),
+            Shape::Chain => node - 1,
+            Shape::Star => 0,
+            Shape::Caterpillar => (node - 1) / 2 * 2,
+            Shape::Binary => (node - 1) / 2,
+            Shape::Broom => (node - 1).min(n / 2),
+        }
     }
 }
 

@@ -1,0 +1,74 @@
+//! Whole days timed, the proved command function beside the peer's, printed as
+//! Markdown. No figure fails anything.
+
+mod host;
+#[cfg(feature = "in-place")]
+mod in_place;
+
+use compare::by_peer;
+use compare::clock::{medians, SAMPLES};
+use compare::day::{runner, Day};
+use compare::outcome::Outcome;
+use compare::table::{cases, print_table, Pair};
+
+fn main() {
+    print_notes();
+    let all = cases(&[1, 4, 64], &[1, 2]);
+    print_table("BEGIN and DONE, the plan by value", &all, day);
+    let one_a_tree = cases(&[4], &[1]);
+    print_table(
+        "PLAN, STEP, 03 and 04, the plan by value",
+        &one_a_tree,
+        setup,
+    );
+    #[cfg(feature = "in-place")]
+    print_table(
+        "DONE, the arrays in place: a whole day less all up to BEGIN, divided by n",
+        &all,
+        in_place::reports,
+    );
+}
+
+/// How the figures come about.
+fn print_notes() {
+    println!(
+        "Nanoseconds per command, by the proved library and by the peer, which gets the same lists in the same process. Both \
+         are built for release.\n\
+         A figure is the median of {SAMPLES} samples after a warm-up; the two take turns. A sample repeats one list of commands, \
+         each time on an empty plan, for half a millisecond or once. It is the time for which the thread had a processor.\n\
+         The time of BEGIN and DONE is that of a whole day less that of its commands ahead of BEGIN, divided by n + 1.\n\
+         The lists lent for starts and answers are used again and not cleared.\n\
+         Parents have lower numbers than their children, the activation order falls and the execution order is mixed; works \
+         and outs are 0 to 20; any running step ends next.\n\
+         Growth is the figure at n = 1024 over the figure at n = 256."
+    );
+}
+
+/// A command of a day, from BEGIN on: the whole day less its setup.
+fn day(day: &Day) -> Pair {
+    check(day);
+    let (setup, all) = (day.setup, day.commands());
+    let [proved_setup, proved_all, peer_setup, peer_all] = medians([
+        &mut runner(host::run_askings, day, setup),
+        &mut runner(host::run_askings, day, all),
+        &mut runner(by_peer::run_askings, day, setup),
+        &mut runner(by_peer::run_askings, day, all),
+    ]);
+    [proved_all - proved_setup, peer_all - peer_setup].map(|time| time / (all - setup) as f64)
+}
+
+/// A command ahead of BEGIN.
+fn setup(day: &Day) -> Pair {
+    let times = medians([
+        &mut runner(host::run_askings, day, day.setup),
+        &mut runner(by_peer::run_askings, day, day.setup),
+    ]);
+    times.map(|time| time / day.setup as f64)
+}
+
+/// What is timed is the same day on both sides.
+fn check(day: &Day) {
+    let proved = Outcome::of(host::run_askings, &day.flat);
+    let peer = Outcome::of(by_peer::run_askings, &day.flat);
+    assert_eq!(proved.first_difference(&peer, &day.flat), None);
+}
