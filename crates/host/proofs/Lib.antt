@@ -2,3 +2,4 @@
 mod Parts
 mod Rows
 mod Running
+pub mod Reporting

@@ -71,17 +71,28 @@ module _ (done list list₀ : List ℕ) (a : ℕ) (e : list ≡ front done list�
       ap (λ (l : List ℕ). drop n l) left ∙ drop-drop n a list₀ ∙ ap (λ (k : ℕ). drop k list₀) (sym end) in
       rw (here, rest, append-assoc)
 
-  -- the same where the part is all that is left and its front is written
-  pub written : (new : List ℕ) (n : ℕ) (part : List ℕ)
-      → n ≡ length list - a
-      → length new ≤ n
-      → part ≡ front new (take n (drop a list))
-      → take a list ++ (part ++ drop n (drop a list)) ≡ front (done ++ new) list₀
-  unfolding front
-  written new n part all room is =
-      let size : length (drop a list) ≡ n = length-drop a list ∙ sym all in
-      let whole-part : take n (drop a list) ≡ drop a list = take-all n (drop a list) (omega arith) in
-      let none : drop n (drop a list) ≡ [] = drop-of-length-le (drop a list) {i = n} (omega arith) in
-      let now-is : part ++ drop n (drop a list) ≡ new ++ drop (length new) (drop a list) =
-      rw (none, append-nil) (is ∙ ap (λ (l : List ℕ). new ++ drop (length new) l) whole-part) in
-      rw now-is (further new (length new) refl)
+  -- the same where the part is all that is left
+  module _ (n : ℕ) (all : n ≡ length list - a) where
+    pub rest : take n (drop a list) ≡ drop a list₀
+    rest = take-all n (drop a list) (omega (arith, length-drop a list)) ∙ left
+
+    pub replaced : (part : List ℕ) → take a list ++ (part ++ drop n (drop a list)) ≡ done ++ part
+    unfolding front
+    replaced part =
+        let here : take a list ≡ done = rw e (take-at done (drop (length done) list₀) a long) in
+        let none : drop n (drop a list) ≡ [] = drop-of-length-le (drop a list) {i = n} (omega (arith, length-drop a list)) in
+        rw (here, none, append-nil)
+
+    -- and its front is written
+    pub written : (new part : List ℕ)
+        → length new ≤ n
+        → part ≡ front new (take n (drop a list))
+        → take a list ++ (part ++ drop n (drop a list)) ≡ front (done ++ new) list₀
+    unfolding front
+    written new part room is =
+        let end : length (done ++ new) ≡ a + length new = length-append done new ∙ omega arith in
+        let behind : drop (length new) (drop a list₀) ≡ drop (length (done ++ new)) list₀ =
+        drop-drop (length new) a list₀ ∙ ap (λ (k : ℕ). drop k list₀) (sym end) in
+        replaced part
+        ∙ ap (λ (l : List ℕ). done ++ l) (is ∙ ap (λ (l : List ℕ). new ++ drop (length new) l) rest ∙ ap (λ (l : List ℕ). new ++ l) behind)
+        ∙ sym (append-assoc done new (drop (length (done ++ new)) list₀))

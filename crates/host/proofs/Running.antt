@@ -24,7 +24,7 @@ use Rattle.host.specs.Run.{
   listsAfter,
   row,
   rows,
-  Ran,
+  Asked,
 }
 use Rattle.host.proofs.Parts.{take-least, drop-least, front-length, left, further, written}
 use Rattle.host.proofs.Rows.{row-length}
@@ -71,13 +71,17 @@ pub all-run :
     {bytes askings starts₀ told₀ : List ℕ} {count : ℕ} {starts told : List ℕ} {plan : Plan} {place k : ℕ}
     → Going bytes askings starts₀ told₀ count starts told plan place k
     → count ≤ k
-    → Ran bytes askings starts₀ told₀ count starts told
-all-run {bytes} {askings} {starts₀} {told₀} {count} {starts} {told} {plan} {place} {k} g h =
+    → Asked bytes askings starts₀ told₀ plan count place starts told
+all-run {bytes} {askings} {starts₀} {told₀} {count} {starts} {told} {plan} {place} {k} run all =
     let e : k ≡ count = omega arith in
+    let g = subst (Going bytes askings starts₀ told₀ count starts told plan place) e run in
     record {
-      counted = g .counted;
-      lists = subst (λ (n : ℕ). starts ≡ rules.front (listsAfter bytes askings starts₀ n) starts₀) e (g .lists);
-      told = subst (λ (n : ℕ). told ≡ rules.front (rows bytes askings starts₀ n) told₀) e (g .tells);
+      ran = record { counted = g .counted; lists = g .lists; told = g .tells };
+      same = g .same;
+      led = g .led;
+      reached = sym (g .lists-end);
+      within = omega (arith, g .reached);
+      numbered = g .rows-end;
     }
 
 -- a list with one entry more
@@ -196,7 +200,7 @@ module _
             let told-now :
             take (k * rowSize) told ++ (part ++ drop (length told - k * rowSize) (drop (k * rowSize) told))
             ≡ rules.front (rows bytes askings starts₀ (k + 1)) told₀ =
-            written _ told told₀ (k * rowSize) (g .tells) (g .rows-end) numbers (length told - k * rowSize) part refl
+            written _ told told₀ (k * rowSize) (g .tells) (g .rows-end) (length told - k * rowSize) refl numbers part
             (omega (arith, g .counted, g .told-length))
             put
             ∙ ap (λ (l : List ℕ). rules.front l told₀) (ap (λ (l : List ℕ). rows bytes askings starts₀ k ++ l) are ∙ sym rows-more) in

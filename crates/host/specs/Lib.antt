@@ -1,2 +1,3 @@
 -- What the contracts of this crate say of a list of askings.
 pub mod Run
+pub mod InPlace

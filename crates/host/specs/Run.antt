@@ -1,13 +1,16 @@
 -- A list of askings in plain numbers, run one after another on an empty plan.
 use mathlib.Core.Path.{_≡_}
 use mathlib.Core.List.{List, [], _∷_, _++_, flatMap}
-use Prim.Native.Nat.{ℕ, zero, suc, _+_, _*_, _/_, min}
+use Prim.Native.Nat.{ℕ, zero, suc, _+_, _*_, _/_, min, _≤_}
 use lib.ListN.{length, take, drop}
 use Rattle.rules.specs.Lists.{at}
 use Rattle.rules.specs.State.{none}
 use Rattle.rules.specs.Answer.{Asking, Answered, front}
 use Rattle.rules.specs.Question.{booked, inUse, fullness, standing}
 use Rattle.rules.specs.Day as day
+use Rattle.plan.specs.declared.plan.Plan.{Plan}
+use Rattle.plan.specs.Meaning.{meaning}
+use Rattle.plan.specs.Led.{Led}
 
 -- how many numbers an asking is, and how many are told after it
 abbrev pub askingSize : ℕ
@@ -69,3 +72,12 @@ pub record Ran (bytes askings starts answers : List ℕ) (count : ℕ) (starts�
   -- the start lists and the rows stand at the front, and every later entry is as it was
   pub lists : starts′ ≡ front (listsAfter bytes askings starts count) starts
   pub told : answers′ ≡ front (rows bytes askings starts count) answers
+
+-- the same with what is left for whoever goes on: the plan that the askings leave, and how many entries their start lists have
+pub record Asked (bytes askings starts answers : List ℕ) (plan : Plan) (count place : ℕ) (starts′ answers′ : List ℕ) : Type 0 where
+  pub ran : Ran bytes askings starts answers count starts′ answers′
+  pub same : meaning plan ≡ day.after none (first bytes askings starts count)
+  pub led : Led plan
+  pub reached : place ≡ length (listsAfter bytes askings starts count)
+  pub within : place ≤ length starts
+  pub numbered : length (rows bytes askings starts count) ≡ count * rowSize

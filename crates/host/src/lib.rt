@@ -1,90 +1,15 @@
-// A list of askings, run one after another on an empty plan: for C and Rust callers, who hand over
-// plain lists of numbers and keep no plan.
-use plan::answer::Answer;
-use plan::command;
-use plan::plan::Plan;
-use reader::next_at;
-ghost use mathlib.Core.Path.{_≡_};
-ghost use mathlib.Core.List.{_∷_};
-ghost use Prim.Native.Nat.{_≤_, min};
-ghost use lib.ListN.{length, take, drop};
-ghost use Rattle.rules.specs.Answer.{front};
-ghost use Rattle.host.specs.Run.{rowSize, Ran};
+// For C and Rust callers, who hand over plain lists of numbers and keep no plan. For them each list is
+// a pointer and a length.
+mod ask;
 
-// An asking is four numbers: where its bytes begin and end, the place in them, and how many entries
-// its start list has.
-pub const ASKING: usize = 4;
-
-// Thirteen numbers are told after it: number, bytes used, starts, peak, offers; then of the plan its
-// phase, booked trays, trays in use, fullness, and how many tasks wait, are activated, run and have
-// finished.
-pub const ROW: usize = 13;
-
-fn least(a: usize, b: usize) -> usize
-    ensures { λ r. ⌜ r ≡ min a b ⌝ }
-{
-    if a < b { a } else { b }
-}
-
-fn wide(x: u32) -> u64
-    ensures { λ r. ⌜ r ≡ x ⌝ }
-{
-    x as u64
-}
-
-// The bytes from a place up to another, as far as there are any.
-fn part(bytes: &[u8], from: usize, to: usize) -> &[u8]
-    ensures { λ r. ⌜ now r ≡ drop from (take to (now (bytes .entry))) ⌝ }
-{
-    let end = least(to, bytes.len());
-    let start = least(from, end);
-    &bytes[start..end]
-}
-
-// An answer and what a plan is asked, in the order in which they are told.
-fn row(
-    answer: Answer,
-    phase: u8,
-    booked: u32,
-    used: u32,
-    full: u32,
-    standing: [u32; 4],
-) -> [u64; ROW]
-    ensures { λ r. ⌜ r ≡ answer .number ∷ answer .used ∷ answer .starts ∷ answer .peak ∷ answer .offers
-        ∷ phase ∷ booked ∷ used ∷ full ∷ standing ⌝ }
-{
-    [
-        answer.number as u64,
-        answer.used as u64,
-        answer.starts as u64,
-        answer.peak,
-        answer.offers as u64,
-        phase as u64,
-        booked as u64,
-        used as u64,
-        full as u64,
-        wide(standing[0]),
-        wide(standing[1]),
-        wide(standing[2]),
-        wide(standing[3]),
-    ]
-}
-
-// Numbers to the front of a list that has room for them.
-fn put(list: &mut [u64], numbers: [u64; ROW])
-    requires { ⌜ rowSize ≤ length (now list) ⌝ }
-    ensures { λ _. ⌜ now (list .exit) ≡ front numbers (now (list .entry)) ⌝ }
-{
-    let mut i = 0;
-    while i < ROW {
-        list[i] = numbers[i];
-        i += 1;
-    }
-}
+use ask::ROW;
+use ask::ask_all;
+use plan::reports::report_all;
+ghost use Rattle.host.specs.Run.{Ran};
+ghost use Rattle.host.specs.InPlace.{RanDay};
 
 // Runs as many of the askings as there is room to tell of, and answers how many that was. Their start
-// lists lie one after another in `starts`, and their rows in `answers`. For C and Rust each list is a
-// pointer and a length.
+// lists lie one after another in `starts`, and their rows in `answers`.
 #[no_mangle]
 pub extern "C" fn run_askings(
     bytes: &[u8],
@@ -95,30 +20,27 @@ pub extern "C" fn run_askings(
     ensures { λ r. ⌜ Ran (now (bytes .entry)) (now (askings .entry)) (now (starts .entry)) (now (answers .entry))
         r (now (starts .exit)) (now (answers .exit)) ⌝ }
 {
-    let count = least(askings.len() / ASKING, answers.len() / ROW);
-    let mut plan = Plan::new();
-    let mut at = 0;
-    let mut k = 0;
-    while k < count {
-        let first = k * ASKING;
-        let stream = part(bytes, askings[first], askings[first + 1]);
-        let end = at + least(askings[first + 3], starts.len() - at);
-        let asked = next_at(stream, askings[first + 2]);
-        let told = command(plan, asked, &mut starts[at..end]);
-        plan = told.plan;
-        at = end;
-        let answer = told.answer;
-        let numbers = row(
-            answer,
-            plan.phase(),
-            plan.booked(),
-            plan.in_use(),
-            plan.fullness(),
-            plan.standing(),
-        );
-        let place = k * ROW;
-        put(&mut answers[place..], numbers);
-        k += 1;
-    }
-    count
+    let left = ask_all(bytes, askings, starts, answers);
+    left.count
+}
+
+// Runs askings in the same way, and then reports of tasks, with the day kept in place: it answers how
+// many of these there was room for. Each report has the next 64 entries that are left of `starts`, and
+// the next three numbers of `answers`: number, starts, offers.
+#[no_mangle]
+pub extern "C" fn run_day(
+    bytes: &[u8],
+    askings: &[usize],
+    tasks: &[u16],
+    starts: &mut [u16],
+    answers: &mut [u64],
+) -> usize
+    ensures { λ r. ⌜ RanDay (now (bytes .entry)) (now (askings .entry)) (now (tasks .entry)) (now (starts .entry))
+        (now (answers .entry)) r (now (starts .exit)) (now (answers .exit)) ⌝ }
+{
+    let left = ask_all(bytes, askings, starts, answers);
+    let at = left.at;
+    let row = left.count * ROW;
+    let run = report_all(left.plan, tasks, &mut starts[at..], &mut answers[row..]);
+    run.count
 }

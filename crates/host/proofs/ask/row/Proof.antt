@@ -3,8 +3,8 @@ use mathlib.Core.Path.{ap}
 use mathlib.Core.List.{_∷_}
 use borrow.Author.Needs.{needs}
 use Rattle.host.proofs.Rows.{in-order}
-use Rattle.host.proofs.row.Statement.{statement}
-use Rattle.host.proofs.row.Tie as tie
+use Rattle.host.proofs.ask.row.Statement.{statement}
+use Rattle.host.proofs.ask.row.Tie as tie
 
 returns : tie.Need-returns
 returns c =

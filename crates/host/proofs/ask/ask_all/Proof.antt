@@ -1,4 +1,4 @@
--- `host::run_askings` meets its contract. The loop's invariant: the first k askings are run.
+-- `ask::ask_all` meets its contract. The loop's invariant: the first k askings are run.
 use mathlib.Core.List.{[]}
 use Prim.Native.Nat.{_-_}
 use native.Mathlib.Omega.{arith}
@@ -7,8 +7,8 @@ use lib.ListN.{length-take, length-drop}
 use Rattle.plan.specs.Meaning.{answeredOf}
 use Rattle.host.proofs.Running.{Going, none-yet, next, all-run}
 use Rattle.host.proofs.Rows.{tells}
-use Rattle.host.proofs.run_askings.Statement.{statement}
-use Rattle.host.proofs.run_askings.Tie as tie
+use Rattle.host.proofs.ask.ask_all.Statement.{statement}
+use Rattle.host.proofs.ask.ask_all.Tie as tie
 
 abbrev Inv-loop : tie.InvT-loop
 Inv-loop bytes askings starts₀ answers₀ count plan₀ at₀ k₀ starts answers plan at k =
@@ -101,8 +101,8 @@ same-length-2 c = c .before .loop .inv .told-length
 returns : tie.Need-returns Inv-loop μ-loop
 returns c = all-run (c .before .loop .inv) (c .loop-test .left)
 
-pub run-askings-spec : {M : Type 1} → statement M
-run-askings-spec =
+pub ask-all-spec : {M : Type 1} → statement M
+ask-all-spec =
     tie.close
     (tie.spec
     Inv-loop

@@ -6,8 +6,8 @@ use native.Mathlib.Omega.{arith}
 use borrow.Author.Needs.{needs}
 use lib.ListN.{length, take, drop, getD, set, length-set}
 use Rattle.host.proofs.Parts.{grows, whole}
-use Rattle.host.proofs.put.Statement.{statement}
-use Rattle.host.proofs.put.Tie as tie
+use Rattle.host.proofs.ask.put.Statement.{statement}
+use Rattle.host.proofs.ask.put.Tie as tie
 
 abbrev Inv-loop : tie.InvT-loop
 Inv-loop list₀ numbers i₀ list i =
