@@ -1,5 +1,6 @@
--- Laws of parts of lists and of what is told of an asking, which the functions' proofs cite.
+-- Laws of parts of lists and of a run of askings, which the functions' proofs cite, and plan A worked.
 mod Parts
 mod Rows
 mod Running
 pub mod Reporting
+mod Worked
