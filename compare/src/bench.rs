@@ -35,7 +35,7 @@ fn print_notes() {
         "Nanoseconds per command, by the proved library and by the peer, which gets the same lists in the same process. Both \
          are built for release.\n\
          A figure is the median of {SAMPLES} samples after a warm-up; the two take turns. A sample repeats one list of commands, \
-         each time on an empty plan, for half a millisecond or once. It is the time for which the thread had a processor.\n\
+         each time on an empty plan, for two milliseconds or once. It is the time for which the thread had a processor.\n\
          The time of BEGIN and DONE is that of a whole day less that of its commands ahead of BEGIN, divided by n + 1.\n\
          The lists lent for starts and answers are used again and not cleared.\n\
          Parents have lower numbers than their children, the activation order falls and the execution order is mixed; works \

@@ -1,18 +1,18 @@
 //! Timed runs.
 
 /// How many samples a median is taken of.
-pub const SAMPLES: usize = 25;
+pub const SAMPLES: usize = 15;
 /// How many nanoseconds a sample lasts, or longer where a single run does.
-const SAMPLE: i64 = 500_000;
+const SAMPLE: i64 = 2_000_000;
 
 /// The median time of each run in nanoseconds. After a warm-up they take
 /// turns, sample by sample.
 pub fn medians<const RUNS: usize>(mut runs: [&mut dyn FnMut(); RUNS]) -> [f64; RUNS] {
     let repeats = runs.each_mut().map(|run| repeats_in_a_sample(run));
-    let mut samples = [[0.0; SAMPLES]; RUNS];
-    for turn in 0..SAMPLES {
+    let mut samples = [const { Vec::new() }; RUNS];
+    for _ in 0..SAMPLES {
         for run in 0..RUNS {
-            samples[run][turn] = sample(runs[run], repeats[run]);
+            samples[run].push(sample(runs[run], repeats[run]));
         }
     }
     samples.map(median)
@@ -38,9 +38,9 @@ fn sample(run: &mut dyn FnMut(), repeats: u32) -> f64 {
     (now() - begin) as f64 / f64::from(repeats)
 }
 
-fn median(mut samples: [f64; SAMPLES]) -> f64 {
+fn median(mut samples: Vec<f64>) -> f64 {
     samples.sort_by(f64::total_cmp);
-    samples[SAMPLES / 2]
+    samples[samples.len() / 2]
 }
 
 /// `struct timespec` of the C library on 64-bit Linux.

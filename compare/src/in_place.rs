@@ -18,7 +18,7 @@ extern "C" {
         tasks_len: usize,
         starts: *mut u16,
         starts_len: usize,
-        answers: *mut u32,
+        answers: *mut u64,
         answers_len: usize,
     ) -> usize;
 }
@@ -35,16 +35,16 @@ pub fn reports(day: &Day) -> Pair {
     [proved_all - proved_begun, peer_all - peer_begun].map(|time| time / n as f64)
 }
 
-/// A run of the commands up to BEGIN and of the first reports. Its start list
-/// and answers are used again and not cleared.
+/// A run of the commands up to BEGIN and of the first reports, each with a
+/// start list of the fewest entries. Lists are used again and not cleared.
 fn runner<Run>(run: Run, day: &Day, reports: usize) -> impl FnMut() + use<'_, Run>
 where
-    Run: Fn(&[u8], &[u16], &mut [u16], &mut [u32]) -> usize,
+    Run: Fn(&[u8], &[u16], &mut [u16], &mut [u64]) -> usize,
 {
     let [_, _, first_report, _] = day.flat.each()[day.setup + 1];
     let bytes = &day.flat.bytes[..first_report];
     let tasks = &day.reports[..reports];
-    let mut starts = vec![0; day.reports.len() + Plan::STARTS];
+    let mut starts = vec![0; Plan::STARTS * day.reports.len()];
     let mut answers = vec![0; ANSWER * reports];
     move || {
         let ran = run(bytes, tasks, &mut starts, &mut answers);
@@ -53,7 +53,7 @@ where
     }
 }
 
-fn proved(bytes: &[u8], tasks: &[u16], starts: &mut [u16], answers: &mut [u32]) -> usize {
+fn proved(bytes: &[u8], tasks: &[u16], starts: &mut [u16], answers: &mut [u64]) -> usize {
     // Four slices, each as a pointer and a length. The function asks nothing else.
     unsafe {
         run_day(
@@ -69,22 +69,21 @@ fn proved(bytes: &[u8], tasks: &[u16], starts: &mut [u16], answers: &mut [u32]) 
     }
 }
 
-fn by_peer(bytes: &[u8], tasks: &[u16], starts: &mut [u16], answers: &mut [u32]) -> usize {
+fn by_peer(bytes: &[u8], tasks: &[u16], starts: &mut [u16], answers: &mut [u64]) -> usize {
     let mut plan = Plan::new();
     let mut place = 0;
     while place < bytes.len() {
         place += plan.command(bytes, place, starts).used;
     }
+    let lists = starts.chunks_exact_mut(Plan::STARTS);
     let (answers, _) = answers.as_chunks_mut::<ANSWER>();
-    let mut rest = starts;
-    for (task, numbers) in tasks.iter().zip(answers) {
+    for ((task, list), numbers) in tasks.iter().zip(lists).zip(answers) {
         let [low, high] = task.to_le_bytes();
-        let answer = plan.command(&[0x06, low, high], 0, rest);
-        rest = &mut rest[answer.starts..];
+        let answer = plan.command(&[0x06, low, high], 0, list);
         *numbers = [
             answer.number.into(),
-            answer.starts as u32,
-            answer.offers as u32,
+            answer.starts as u64,
+            answer.offers as u64,
         ];
     }
     tasks.len()
