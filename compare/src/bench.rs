@@ -2,11 +2,10 @@
 //! Markdown. No figure fails anything.
 
 mod host;
-#[cfg(feature = "in-place")]
 mod in_place;
 
 use compare::by_peer;
-use compare::clock::{medians, SAMPLES};
+use compare::clock::{excesses, medians, SAMPLES};
 use compare::day::{runner, Day};
 use compare::outcome::Outcome;
 use compare::table::{cases, print_table, Pair};
@@ -21,12 +20,7 @@ fn main() {
         &one_a_tree,
         setup,
     );
-    #[cfg(feature = "in-place")]
-    print_table(
-        "DONE, the arrays in place: a whole day less all up to BEGIN, divided by n",
-        &all,
-        in_place::reports,
-    );
+    print_table("DONE, the arrays in place", &all, in_place::reports);
 }
 
 /// How the figures come about.
@@ -34,9 +28,11 @@ fn print_notes() {
     println!(
         "Nanoseconds per command, by the proved library and by the peer, which gets the same lists in the same process. Both \
          are built for release.\n\
-         A figure is the median of {SAMPLES} samples after a warm-up; the two take turns. A sample repeats one list of commands, \
-         each time on an empty plan, for two milliseconds or once. It is the time for which the thread had a processor.\n\
-         The time of BEGIN and DONE is that of a whole day less that of its commands ahead of BEGIN, divided by n + 1.\n\
+         A sample repeats one list of commands, each time on an empty plan, for two milliseconds or once; it is the time for \
+         which the thread had a processor. After a warm-up the two sides take turns, {SAMPLES} samples each.\n\
+         The time of BEGIN and DONE is the shortest sample of a whole day less the shortest of its commands ahead of BEGIN, \
+         divided by n + 1; that of DONE in place is the shortest of a whole day less the shortest of all up to BEGIN, divided by \
+         n. The time of the commands ahead of BEGIN is the median of the samples.\n\
          The lists lent for starts and answers are used again and not cleared.\n\
          Parents have lower numbers than their children, the activation order falls and the execution order is mixed; works \
          and outs are 0 to 20; any running step ends next.\n\
@@ -48,13 +44,17 @@ fn print_notes() {
 fn day(day: &Day) -> Pair {
     check(day);
     let (setup, all) = (day.setup, day.commands());
-    let [proved_setup, proved_all, peer_setup, peer_all] = medians([
-        &mut runner(host::run_askings, day, setup),
-        &mut runner(host::run_askings, day, all),
-        &mut runner(by_peer::run_askings, day, setup),
-        &mut runner(by_peer::run_askings, day, all),
+    let times = excesses([
+        [
+            &mut runner(host::run_askings, day, setup),
+            &mut runner(host::run_askings, day, all),
+        ],
+        [
+            &mut runner(by_peer::run_askings, day, setup),
+            &mut runner(by_peer::run_askings, day, all),
+        ],
     ]);
-    [proved_all - proved_setup, peer_all - peer_setup].map(|time| time / (all - setup) as f64)
+    times.map(|time| time / (all - setup) as f64)
 }
 
 /// A command ahead of BEGIN.

@@ -10,9 +10,14 @@ pub fn run_askings(
     starts: &mut [u16],
     answers: &mut [u64],
 ) -> usize {
+    run(bytes, askings, starts, answers);
+    (askings.len() / ASKING).min(answers.len() / ANSWER)
+}
+
+/// The plan that such a run leaves.
+pub fn run(bytes: &[u8], askings: &[usize], starts: &mut [u16], answers: &mut [u64]) -> Plan {
     let (askings, _) = askings.as_chunks::<ASKING>();
     let (answers, _) = answers.as_chunks_mut::<ANSWER>();
-    let count = askings.len().min(answers.len());
     let mut plan = Plan::new();
     let mut rest = starts;
     for (&[from, to, place, entries], answer) in askings.iter().zip(answers) {
@@ -21,7 +26,7 @@ pub fn run_askings(
         *answer = numbers(answered, &plan);
         rest = behind;
     }
-    count
+    plan
 }
 
 /// An answer, then what the plan answers after the command.

@@ -1,7 +1,7 @@
 //! Timed runs.
 
 /// How many samples a median is taken of.
-pub const SAMPLES: usize = 15;
+pub const SAMPLES: usize = 31;
 /// How many nanoseconds a sample lasts, or longer where a single run does.
 const SAMPLE: i64 = 2_000_000;
 
@@ -16,6 +16,25 @@ pub fn medians<const RUNS: usize>(mut runs: [&mut dyn FnMut(); RUNS]) -> [f64; R
         }
     }
     samples.map(median)
+}
+
+/// By how many nanoseconds the second run of each pair takes longer than the
+/// first: the shortest sample of one less that of the other. After a warm-up
+/// all take turns, sample by sample.
+pub fn excesses<const PAIRS: usize>(mut pairs: [[&mut dyn FnMut(); 2]; PAIRS]) -> [f64; PAIRS] {
+    let repeats = pairs
+        .each_mut()
+        .map(|pair| pair.each_mut().map(|run| repeats_in_a_sample(run)));
+    let mut shortest = [[f64::INFINITY; 2]; PAIRS];
+    for _ in 0..SAMPLES {
+        for pair in 0..PAIRS {
+            for run in 0..2 {
+                let time = sample(pairs[pair][run], repeats[pair][run]);
+                shortest[pair][run] = shortest[pair][run].min(time);
+            }
+        }
+    }
+    shortest.map(|[short, long]| long - short)
 }
 
 /// Warms a run up, and finds how often it is repeated in a sample.
