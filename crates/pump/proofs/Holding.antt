@@ -6,13 +6,13 @@ use Prim.Native.Nat.{ℕ, _+_, _-_, _*_, _≤_, _<_}
 use native.Mathlib.Omega.{arith}
 use lib.ListN.{length, take}
 use lib.Seq.{length-take-le}
-use Rattle.rules.specs.Printer.{turn}
+use Rattle.rules.specs.Printer.{waits, turn}
 use Rattle.plan.specs.declared.plan.Plan.{Plan}
 use Rattle.plan.specs.Meaning.{meaning}
 use Rattle.plan.specs.Led.{Led}
 use Rattle.printing.specs.declared.Turned.{Turned}
 use Rattle.printing.specs.Taken.{Taken}
-use Rattle.printing.proofs.Within.{used-within}
+use Rattle.printing.proofs.Within.{used-within, few-left}
 use Rattle.pump.specs.Filled.{Filled}
 use Rattle.pump.specs.declared.room.Fed.{Fed}
 use Rattle.pump.specs.declared.room.Fed.the-variants.{Bytes}
@@ -41,6 +41,13 @@ module _ {input starts line : List ℕ} {p : Plan} {filled place offset turns : 
     within =
         let size : length (take filled input) ≡ filled = length-take-le filled input (omega arith) in
         let used : place + r .used ≤ length (take filled input) = used-within p _ offset isLast taken (omega arith) in
+        omega arith
+
+    -- where it waits, there is room for more
+    pub room : r .verdict ≡ waits → filled - (place + r .used) < length input
+    room waiting =
+        let size : length (take filled input) ≡ filled = length-take-le filled input (omega arith) in
+        let few : length (take filled input) < place + 8 = few-left p _ offset isLast taken waiting in
         omega arith
 
     -- and what holds goes on holding

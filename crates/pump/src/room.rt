@@ -1,7 +1,7 @@
 // Room for more input.
 use libc::STDIN_FILENO;
 ghost use mathlib.Core.Path.{_≡_};
-ghost use Prim.Native.Nat.{_-_, _≤_};
+ghost use Prim.Native.Nat.{_-_, _≤_, _<_};
 ghost use lib.ListN.{length, drop};
 ghost use lib.Seq.{paste};
 ghost use Rattle.pump.specs.Filled.{Filled};
@@ -29,9 +29,10 @@ fn to_front(buffer: &mut [u8], place: usize, filled: usize) -> usize
 }
 
 // The bytes from `place` to `filled` go to the front of the buffer, and what one read of standard
-// input gives is put behind them.
+// input gives is put behind them. There is room for more, so that no byte comes only where the input
+// has ended.
 pub(crate) fn refill(buffer: &mut [u8], place: usize, filled: usize) -> Fed
-    requires { ⌜ (place ≤ filled) × (filled ≤ length (now buffer)) ⌝ }
+    requires { ⌜ (place ≤ filled) × (filled ≤ length (now buffer)) × (filled - place < length (now buffer)) ⌝ }
     ensures { λ r. ⌜ Filled (now (buffer .entry)) place filled (now (buffer .exit)) r ⌝ }
 {
     let left = to_front(buffer, place, filled);

@@ -3,7 +3,7 @@ use mathlib.Core.Path.{refl, sym}
 use native.Mathlib.Omega.{arith}
 use borrow.Author.Needs.{needs}
 use lib.Seq.{length-take-le}
-use Rattle.pump.proofs.Holding.{Held, within, onward, refilled}
+use Rattle.pump.proofs.Holding.{Held, within, room, onward, refilled}
 use Rattle.pump.proofs.run.Statement.{statement}
 use Rattle.pump.proofs.run.Tie as tie
 
@@ -65,7 +65,7 @@ refill-requires : tie.Need-refill-requires Inv-loop μ-loop
 refill-requires c κs =
     let turn = c .before .before .before .before .before .before .before .before .before .before .before .before in
     let held = turn .before .before .before .before .before .loop .inv in
-    (within held _ (turn .turn .ensures), omega (arith, held .in-buffer, held .input-size))
+    (within held _ (turn .turn .ensures), omega (arith, held .in-buffer, held .input-size), room held _ (turn .turn .ensures) (c .before .if3 .taken))
 
 loop-less : tie.Need-loop-less Inv-loop μ-loop
 loop-less c = omega (arith, c .before .before .before .before .before .before .before .before .before .before .before .before .before .before .before .before .before .before .before .before .before .loop-test .taken)
