@@ -69,7 +69,7 @@ decode-bytes begin rest h = reads 5 [] rest begin refl
 decode-bytes (done i) rest h = reads 6 (little 2 i) rest (done i) (rw (number-little 2 i rest h))
 
 -- a byte before the place does not count
-past : (byte : ℕ) (stream : List ℕ) (place : ℕ) → decode (byte ∷ stream) (suc place) ≡ decode stream place
+pub past : (byte : ℕ) (stream : List ℕ) (place : ℕ) → decode (byte ∷ stream) (suc place) ≡ decode stream place
 unfolding decode
 past byte stream place = rw leb·suc-suc
 

@@ -48,5 +48,7 @@ pub mod Refusals
 pub mod Askings
 pub mod Theorem
 pub mod Reaching
+-- the day printer
+pub mod Parts
 -- a worked day
 pub mod Worked
