@@ -10,9 +10,9 @@ ghost use Rattle.printing.specs.Taken.{Taken};
 use accepted::accepted_line;
 use codec::Decoded;
 use lines::refused_line;
-use plan::command;
 use plan::plan::Plan;
 use reader::next_at;
+use service::serve;
 
 // What a turn leaves: the plan, the bytes of the input that it used, the bytes of the buffer that
 // it wrote, and its verdict.
@@ -84,7 +84,7 @@ pub fn turn(
     if part.len() <= place {
         return Turned::idle(Turned::STOPS, plan);
     }
-    let result = command(plan, asked, starts);
+    let result = serve(part, place, plan, starts);
     let plan = result.plan;
     let answer = result.answer;
     if answer.number != 0 {
