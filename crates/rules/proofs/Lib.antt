@@ -50,5 +50,6 @@ pub mod Theorem
 pub mod Reaching
 -- the day printer
 pub mod Parts
+pub mod Printed
 -- a worked day
 pub mod Worked

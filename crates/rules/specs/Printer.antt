@@ -1,8 +1,9 @@
 -- The day printer, turn by turn. "The program reads commands from standard input and prints one line per accepted BEGIN or DONE, and
 -- on a refusal `refused K at O` (number, byte offset of the command counted from 0), then stops."
+use mathlib.Core.Path.{_≡_}
 use mathlib.Core.Bool.{Bool, true, false, cond}
 use mathlib.Core.List.{List, [], _++_}
-use Prim.Native.Nat.{ℕ, zero, suc, _+_}
+use Prim.Native.Nat.{ℕ, zero, suc, _+_, _≤_}
 use lib.Dec.{eqb, leb}
 use lib.ListN.{length, replicate}
 use Rattle.rules.specs.Limits.{leastStarts}
@@ -77,3 +78,32 @@ printFrom (suc turns) s stream place =
 -- the day printer: standard input to standard output
 unfoldable pub print : List ℕ → List ℕ
 print stream = printFrom (length stream) none stream 0
+
+-- the command at a place of the stream with a part of it around it: what came ahead of the part has been dropped, and what comes after it
+-- has not come yet. The start list may be any of at least 64 entries
+pub record Part (stream : List ℕ) (place : ℕ) : Type 0 where
+  pub before : List ℕ
+  pub part : List ℕ
+  pub after : List ℕ
+  pub cut : stream ≡ before ++ (part ++ after)
+  pub start : ℕ
+  pub stands : place ≡ length before + start
+  pub isLast : Bool
+  pub last : isLast ≡ true → after ≡ []
+  pub list : List ℕ
+  pub room : leastStarts ≤ length list
+
+abbrev pub over : {stream : List ℕ} {place : ℕ} → Part stream place → State → Turn
+over {place = place} p s = turn s (record { stream = p .part; place = p .start; list = p .list }) place (p .isLast)
+
+-- what turns over parts of the stream print, however it is cut: where one waits, another part is taken
+pub data Prints (stream : List ℕ) : State → ℕ → List ℕ → Type 0 where
+  goes-on : {s : State} {place : ℕ} {text : List ℕ} (p : Part stream place)
+      → over p s .verdict ≡ goesOn
+      → Prints stream (over p s .state) (place + over p s .used) text
+      → Prints stream s place (over p s .text ++ text)
+  waits-for : {s : State} {place : ℕ} {text : List ℕ} (p : Part stream place)
+      → over p s .verdict ≡ waits
+      → Prints stream s place text
+      → Prints stream s place text
+  stops-at : {s : State} {place : ℕ} (p : Part stream place) → over p s .verdict ≡ stops → Prints stream s place (over p s .text)
