@@ -1,12 +1,19 @@
 SHELL := /bin/bash
 
-.PHONY: run test compare match bench
+.PHONY: run day test compare match bench trial
 
 # A day of plan A of document 01, printed by the day printer.
 run:
 	@mkdir -p target
 	@rt check printer > target/run.log || { cat target/run.log; exit 1; }
 	@target/bin/printer < crates/printer/stdin
+
+# A day written by a person, examples/breakfast.plan, printed by the day printer.
+day:
+	@mkdir -p target
+	@rt check printer > target/run.log || { cat target/run.log; exit 1; }
+	@cargo build --quiet --release --offline --manifest-path peer/Cargo.toml
+	@peer/target/release/plan-text examples/breakfast.plan | target/bin/printer
 
 # Every check: what .ci/run does.
 test:
@@ -24,3 +31,7 @@ match:
 # Whole days timed, the command function beside the peer's.
 bench:
 	@./compare/bench
+
+# Every wrong kitchen: the edits of the plan that the gate tries, and those in trial/.
+trial:
+	./trial/run
