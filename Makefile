@@ -32,6 +32,6 @@ match:
 bench:
 	@./compare/bench
 
-# Every wrong kitchen: the edits of the plan that the gate tries, and those in trial/.
+# Every wrong kitchen: the edits that the gate tries, and those in trial/.
 trial:
 	./trial/run
