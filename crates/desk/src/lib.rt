@@ -1,5 +1,6 @@
 // The planners' desk: the peak of the caller's own records, which are only read. The records are
 // copied once into flat columns, which are surveyed as those of a plan are.
+use measure::least;
 ghost use mathlib.Core.Path.{_≡_};
 ghost use Prim.Native.Nat.{min};
 ghost use Rattle.rules.specs.Limits.{maxTasks};
@@ -26,11 +27,7 @@ pub struct DeskAnswer {
 fn copied(n: usize) -> usize
     ensures { λ r. ⌜ r ≡ min n maxTasks ⌝ }
 {
-    if n < peak::MAX_TASKS {
-        n
-    } else {
-        peak::MAX_TASKS
-    }
+    least(n, peak::MAX_TASKS)
 }
 
 // What the desk is answered for n tasks in flat columns. Entry i of a column belongs to task i.

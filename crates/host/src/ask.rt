@@ -1,11 +1,12 @@
 // A list of askings, run one after another on an empty plan.
+use measure::least;
 use plan::answer::Answer;
 use plan::command;
 use plan::plan::Plan;
 use reader::next_at;
 ghost use mathlib.Core.Path.{_≡_};
 ghost use mathlib.Core.List.{_∷_};
-ghost use Prim.Native.Nat.{_≤_, min};
+ghost use Prim.Native.Nat.{_≤_};
 ghost use lib.ListN.{length, take, drop};
 ghost use Rattle.rules.specs.Answer.{front};
 ghost use Rattle.host.specs.Run.{rowSize, Asked};
@@ -18,12 +19,6 @@ const ASKING: usize = 4;
 // phase, booked trays, trays in use, fullness, and how many tasks wait, are activated, run and have
 // finished.
 pub(crate) const ROW: usize = 13;
-
-fn least(a: usize, b: usize) -> usize
-    ensures { λ r. ⌜ r ≡ min a b ⌝ }
-{
-    if a < b { a } else { b }
-}
 
 fn wide(x: u32) -> u64
     ensures { λ r. ⌜ r ≡ x ⌝ }

@@ -1,6 +1,7 @@
 // The checks of an order and its parents, and the number of the first ground against them.
 use crate::ENTRIES;
 use crate::MAX_TASKS;
+use measure::is_within;
 ghost use mathlib.Core.Path.{_≡_};
 ghost use mathlib.Core.Bool.{true};
 ghost use Prim.Native.Nat.{ℕ, _≤_, _<_};
@@ -12,16 +13,6 @@ ghost use Rattle.rules.specs.Grounds.{within};
 ghost use Rattle.rules.specs.Desk.{deskGround};
 ghost use Rattle.peak.specs.Survey.{covered};
 ghost use Rattle.peak.specs.Checks.{isStray, isTask, spot, isRoot, lagging, isLate};
-
-// Whether x is a number from 1 to a limit.
-pub fn is_within(x: usize, limit: usize) -> bool
-    ensures { λ r. ⌜ r ≡ within x limit ⌝ }
-{
-    if x < 1 {
-        return false;
-    }
-    x <= limit
-}
 
 // Whether columns and an order of these lengths cover n tasks.
 pub(crate) fn covers(n: usize, parents: usize, works: usize, outs: usize, activation: usize) -> bool

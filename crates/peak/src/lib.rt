@@ -3,7 +3,6 @@
 mod checks;
 mod level;
 
-pub use checks::is_within;
 ghost use mathlib.Core.Path.{_≡_};
 ghost use Rattle.peak.specs.Survey.{surveyed};
 

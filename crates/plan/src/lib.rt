@@ -17,8 +17,6 @@ mod report;
 pub mod reports;
 mod settle;
 mod start;
-mod thousandths;
 mod weigh;
 
 pub use obey::command;
-pub use thousandths::fullness;

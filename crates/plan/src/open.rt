@@ -5,7 +5,7 @@ ghost use Rattle.plan.specs.Led.{Obeyed};
 use crate::answer::Answer;
 use crate::answer::Answered;
 use crate::plan::Plan;
-use peak::is_within;
+use measure::is_within;
 
 // "PLAN: drop the old plan, open a new one"
 pub(crate) fn open(plan: Plan, n: usize, processors: usize, bound: u32, used: usize) -> Answered

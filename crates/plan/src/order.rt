@@ -10,7 +10,7 @@ use crate::answer::Answer;
 use crate::answer::Answered;
 use crate::place::contains;
 use crate::plan::Plan;
-use peak::is_within;
+use measure::is_within;
 
 // The ground against one task more in an order, the same for both orders; 0 is none.
 fn next_ground<'a>(

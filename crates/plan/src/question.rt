@@ -7,7 +7,7 @@ ghost use Rattle.rules.specs.Question as rules;
 ghost use Rattle.plan.specs.Meaning.{meaning};
 ghost use Rattle.plan.specs.Led.{Led};
 use crate::plan::Plan;
-use crate::thousandths::fullness;
+use measure::fullness;
 
 // A figure of a day, 0 outside running.
 fn while_running(phase: u8, figure: u32) -> u32

@@ -1,7 +1,6 @@
 // Reports one after another. What they change is kept in place from the first to the last, so that
 // none of them copies the plan.
 ghost use mathlib.Core.Path.{_≡_};
-ghost use Prim.Native.Nat.{min};
 ghost use lib.ListN.{length};
 ghost use Rattle.plan.specs.Meaning.{answerOf};
 ghost use Rattle.plan.specs.Led.{Led};
@@ -10,17 +9,12 @@ use crate::answer::Answer;
 use crate::numbers::Numbers;
 use crate::plan::Plan;
 use crate::settle::settle;
+use measure::least;
 
 // The plan that reports leave, and how many there was room for.
 pub struct Run {
     pub plan: Plan,
     pub count: usize,
-}
-
-fn least(a: usize, b: usize) -> usize
-    ensures { λ r. ⌜ r ≡ min a b ⌝ }
-{
-    if a < b { a } else { b }
 }
 
 // Three numbers of an answer.

@@ -10,7 +10,7 @@ use crate::answer::Answer;
 use crate::finish::finish;
 use crate::numbers::Numbers;
 use crate::plan::Plan;
-use peak::is_within;
+use measure::is_within;
 
 // The answer, and what changes of a plan beside its arrays.
 pub(crate) struct Settled {

@@ -1,7 +1,7 @@
 -- `is_within` meets its contract.
 use borrow.Author.Tests.{lt-leb, le-leb}
-use Rattle.peak.proofs.checks.is_within.Statement.{statement}
-use Rattle.peak.proofs.checks.is_within.Tie as tie
+use Rattle.measure.proofs.is_within.Statement.{statement}
+use Rattle.measure.proofs.is_within.Tie as tie
 
 returns : tie.Need-returns
 returns c = rw (lt-leb _ _ (c .if1 .taken))

@@ -1,12 +1,12 @@
--- `plan::fullness` meets its contract: each way out knows what the tests said.
+-- `fullness` meets its contract: each way out knows what the tests said.
 use Prim.Native.Nat.{ℕ, _*_, _/_, _<_}
 use native.Mathlib.Nat.{div-lt-iff-lt-mul}
 use native.Mathlib.Omega.{arith}
 use borrow.Author.Needs.{needs}
 use borrow.Author.Tests.{eq-eqb, ne-eqb, le-leb, lt-leb}
 use Rattle.rules.specs.Question.{fullnessOf}
-use Rattle.plan.proofs.thousandths.fullness.Statement.{statement}
-use Rattle.plan.proofs.thousandths.fullness.Tie as tie
+use Rattle.measure.proofs.thousandths.fullness.Statement.{statement}
+use Rattle.measure.proofs.thousandths.fullness.Tie as tie
 
 -- what is rounded down is less than the whole
 small : (booked bound : ℕ) → booked < bound → 1000 * booked / bound < 1000

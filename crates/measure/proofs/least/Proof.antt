@@ -1,7 +1,7 @@
--- `reports::least` meets its contract.
+-- `least` meets its contract.
 use native.Mathlib.Omega.{arith}
-use Rattle.plan.proofs.reports.least.Statement.{statement}
-use Rattle.plan.proofs.reports.least.Tie as tie
+use Rattle.measure.proofs.least.Statement.{statement}
+use Rattle.measure.proofs.least.Tie as tie
 
 returns : tie.Need-returns
 returns c = let h = c .if1 .taken in omega arith
