@@ -1,21 +1,67 @@
 -- Reports one after another: what is done so far, followed by what the rest gives, is what all give.
 use mathlib.Core.Path.{_≡_, refl, sym, ap, ap₂, subst, _∙_}
-use mathlib.Core.List.{List, [], _∷_, _++_, append-nil, append-assoc}
-use Prim.Native.Nat.{ℕ, zero, suc, _+_, _-_, _*_, _≤_, _<_}
+use mathlib.Core.List.{List, [], _∷_, _++_, flatMap, append-nil, append-assoc}
+use Prim.Native.Nat.{ℕ, zero, suc, _+_, _-_, _*_, _^_, _≤_, _<_}
 use native.Mathlib.Omega.{arith}
+use borrow.Author.Tests.{le-ltb}
 use native.Mathlib.Numerals.{add-one}
 use lib.ListN.{length, take, drop, take-append-drop, length-take, length-drop}
 use lib.Seq.{drop-cons, drop-drop, getD-take, length-take-le, drop-length}
 use Rattle.rules.specs.Lists.{at}
 use Rattle.rules.specs.Limits.{leastStarts}
 use Rattle.rules.specs.State.{State}
-use Rattle.rules.specs.Command.{done}
+use Rattle.rules.specs.Command.{Decoded, done, little, bytes, decode, read}
 use Rattle.rules.specs.Answer as rules
+use Rattle.rules.specs.Day as day
+use Rattle.rules.proofs.Bytes.{decode-bytes}
+use Rattle.rules.proofs.Reaching.{is-read}
 use Rattle.plan.specs.Meaning.{Plan, Answer, meaning, answerOf, answeredOf}
 use Rattle.plan.specs.Led.{Led, Judged}
-use Rattle.plan.specs.Reports.{reported, afterReports, row, rowsOf, listsOf, Ran, roomFor}
+use Rattle.plan.specs.Reports.{report, reports, afterReports, row, rowsOf, listsOf, Ran, roomFor}
 use Rattle.plan.proofs.Parts.{part-is, part-long, take-renewed, drop-renewed, length-renewed}
 use Rattle.plan.proofs.Responding.{a-start}
+
+-- what a report is answered
+abbrev reported : State → ℕ → List ℕ → rules.Answered
+reported s j starts = rules.command s (report j starts)
+
+-- the first of some reports, and the others
+after-first :
+    (s : State) (j : ℕ) (later starts : List ℕ)
+    → afterReports s (j ∷ later) starts ≡ afterReports (reported s j starts .state) later (drop leastStarts starts)
+unfolding reports day.after
+after-first s j later starts = refl
+
+lists-first :
+    (s : State) (j : ℕ) (later starts : List ℕ)
+    → listsOf s (j ∷ later) starts ≡ reported s j starts .list ++ listsOf (reported s j starts .state) later (drop leastStarts starts)
+unfolding reports day.answers flatMap
+lists-first s j later starts =
+    let a = reported s j starts in
+    let rest = flatMap (λ (b : rules.Answered). b .list) (day.answers (a .state) (reports later (drop leastStarts starts))) in
+    let next : suc (length later) * leastStarts ≡ leastStarts + length later * leastStarts = omega arith in
+    ap (λ (k : ℕ). (a .list ++ rest) ++ drop k starts) next
+    ∙ ap (λ (l : List ℕ). (a .list ++ rest) ++ l) (sym (drop-drop (length later * leastStarts) leastStarts starts))
+    ∙ append-assoc (a .list) rest (drop (length later * leastStarts) (drop leastStarts starts))
+
+rows-first :
+    (s : State) (j : ℕ) (later starts : List ℕ)
+    → rowsOf s (j ∷ later) starts
+    ≡ row (reported s j starts .answer) ++ rowsOf (reported s j starts .state) later (drop leastStarts starts)
+unfolding reports day.answers flatMap
+rows-first s j later starts = refl
+
+-- DONE in bytes is answered as DONE, where the start list is long enough
+as-judged :
+    (s : State) (j : ℕ) (starts : List ℕ)
+    → j < 2 ^ 16
+    → leastStarts ≤ length starts
+    → reported s j starts ≡ rules.judge s (done j) 3 (take leastStarts starts)
+unfolding report rules.command bytes little
+as-judged s j starts small room =
+    ap (λ (d : Decoded). rules.respond s d (take leastStarts starts)) (decode-bytes (done j) [] small)
+    ∙ is-read s (done j) 3 (take leastStarts starts)
+    (le-ltb (length (take leastStarts starts)) leastStarts (omega (arith, length-take-le leastStarts starts room)))
 
 -- p is the plan that the reports found, `now` the plan as it stands when i of them are made; `todo` are all of them
 pub record Going (p now : Plan) (todo starts₀ answers₀ : List ℕ) (i : ℕ) (starts answers : List ℕ) : Type 0 where
@@ -55,7 +101,7 @@ pub all-made :
     → Going p now (take count tasks) starts₀ answers₀ i starts answers
     → count ≤ i
     → Ran p tasks starts₀ answers₀ now count starts answers
-unfolding roomFor afterReports rowsOf listsOf
+unfolding roomFor reports day.after day.answers flatMap
 all-made {p} {now} {tasks} {starts₀} {answers₀} {count} {i} {starts} {answers} counted made all =
     let long : length (take count tasks) ≡ count = length-take-le count tasks (omega arith) in
     let last : i ≡ count = (let w = made .within in omega arith) in
@@ -93,7 +139,8 @@ space {starts₀ = starts₀} {answers₀ = answers₀} {starts = starts} {answe
 
 -- one more is made
 module _ {p now : Plan} {tasks starts₀ answers₀ : List ℕ} {count i : ℕ} {starts answers : List ℕ}
-    (g : Going p now (take count tasks) starts₀ answers₀ i starts answers) (s : Space i count tasks starts answers) where
+    (g : Going p now (take count tasks) starts₀ answers₀ i starts answers) (s : Space i count tasks starts answers)
+    (small : at tasks i < 2 ^ 16) where
   abbrev todo : List ℕ
   todo = take count tasks
 
@@ -129,9 +176,13 @@ module _ {p now : Plan} {tasks starts₀ answers₀ : List ℕ} {count i : ℕ} 
 
     -- what the rules answer
     answered : reported (meaning now) (at todo i) (drop (i * leastStarts) starts) ≡ answeredOf (record { answer = a; plan = now′ }) list′
-    unfolding reported
     answered =
-        ap₂ (λ (t : ℕ) (l : List ℕ). rules.judge (meaning now) (done t) 3 l) (getD-take count tasks i 0 (s .less)) (sym (part-is starts (i * leastStarts) leastStarts)) ∙ sym (judged .same)
+        let left : leastStarts ≤ length (drop (i * leastStarts) starts) =
+        rw (length-drop (i * leastStarts) starts) (omega arith) in
+        ap (λ (j : ℕ). reported (meaning now) j (drop (i * leastStarts) starts)) (getD-take count tasks i 0 (s .less))
+        ∙ as-judged (meaning now) (at tasks i) (drop (i * leastStarts) starts) small left
+        ∙ ap (rules.judge (meaning now) (done (at tasks i)) 3) (sym (part-is starts (i * leastStarts) leastStarts))
+        ∙ sym (judged .same)
 
     todo-is : drop i todo ≡ at todo i ∷ drop (i + 1) todo
     todo-is = rw (add-one i) (drop-cons todo i 0 more)
@@ -154,23 +205,23 @@ module _ {p now : Plan} {tasks starts₀ answers₀ : List ℕ} {count i : ℕ} 
 
     after-split :
         afterReports (meaning now) (drop i todo) ahead ≡ afterReports (meaning now′) (drop (i + 1) todo) behind
-    unfolding afterReports
     after-split =
         ap (λ (t : List ℕ). afterReports (meaning now) t ahead) todo-is
+        ∙ after-first (meaning now) (at todo i) (drop (i + 1) todo) ahead
         ∙ ap₂ (λ (v : rules.Answered) (l : List ℕ). afterReports (v .state) (drop (i + 1) todo) l) answered left-is
 
     lists-split :
         listsOf (meaning now) (drop i todo) ahead ≡ list′ ++ listsOf (meaning now′) (drop (i + 1) todo) behind
-    unfolding listsOf
     lists-split =
         ap (λ (t : List ℕ). listsOf (meaning now) t ahead) todo-is
+        ∙ lists-first (meaning now) (at todo i) (drop (i + 1) todo) ahead
         ∙ ap₂ (λ (v : rules.Answered) (l : List ℕ). v .list ++ listsOf (v .state) (drop (i + 1) todo) l) answered left-is
 
     rows-split :
         rowsOf (meaning now) (drop i todo) ahead ≡ told′ ++ rowsOf (meaning now′) (drop (i + 1) todo) behind
-    unfolding rowsOf
     rows-split =
         ap (λ (t : List ℕ). rowsOf (meaning now) t ahead) todo-is
+        ∙ rows-first (meaning now) (at todo i) (drop (i + 1) todo) ahead
         ∙ ap₂ (λ (v : rules.Answered) (l : List ℕ). row (v .answer) ++ rowsOf (v .state) (drop (i + 1) todo) l) answered left-is
         ∙ ap (λ (l : List ℕ). l ++ rowsOf (meaning now′) (drop (i + 1) todo) behind) (sym says)
 

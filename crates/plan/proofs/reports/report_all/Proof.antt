@@ -125,7 +125,8 @@ loop-again : tie.Need-loop-again Inv-loop μ-loop
 loop-again c =
     let settled = c .before .before .before .before .before .before .before in
     let loop = c .before .before .before .before .before .before .before .before .before .before .before .before .before .before .before .before .before .before .before .before .before .before .before .before in
-    one-more (loop .loop .inv) (next (c .before .before .before .before .before .before .before .before .before .before .before .before .before .before .before .before .before .before .before .before .before .before .before)) (settled .settle .ensures .judged (loop .before .before .before .before .before .before .before .before .before .before .before .args .t1) (loop .loop .inv .led))
+    one-more (loop .loop .inv) (next (c .before .before .before .before .before .before .before .before .before .before .before .before .before .before .before .before .before .before .before .before .before .before .before))
+    (omega (arith, c .before .before .before .before .before .before .before .before .before .shared-slice-known2 .given (loop .loop .i))) (settled .settle .ensures .judged (loop .before .before .before .before .before .before .before .before .before .before .before .args .t1) (loop .loop .inv .led))
     (settled .settle .kept .1 .1 .1 .1 .1 .1 .1 .1 .1 .1 .1 .1 .1 .1 .1 .1 .1 .1 .1 .0)
     (c .before .before .tell .ensures)
 
