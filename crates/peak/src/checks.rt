@@ -4,7 +4,7 @@ use crate::MAX_TASKS;
 use measure::is_within;
 ghost use mathlib.Core.Path.{_≡_};
 ghost use mathlib.Core.Bool.{true};
-ghost use Prim.Native.Nat.{ℕ, _≤_, _<_};
+ghost use Prim.Native.Nat.{ℕ, suc, _≤_, _<_};
 ghost use lib.ListN.{length, take, replicate};
 ghost use Rattle.rules.specs.Sums.{countTo};
 ghost use Rattle.rules.specs.Lists.{at, every, distinct};
@@ -70,7 +70,7 @@ fn placed(n: usize, activation: &[u16], places: &mut [u16; ENTRIES]) -> bool
     requires { ⌜ n ≤ maxTasks ⌝ }
     requires { ⌜ n ≤ length (now activation) ⌝ }
     requires { ⌜ every (isTask n) (take n (now activation)) ≡ true ⌝ }
-    requires { ⌜ now places ≡ replicate 1025 0 ⌝ }
+    requires { ⌜ now places ≡ replicate (suc maxTasks) 0 ⌝ }
     ensures { λ r. ⌜ (r ≡ distinct (take n (now (activation .entry))))
         × (r ≡ true → (i : ℕ) → i ≤ maxTasks → at (now (places .exit)) i ≡ spot (take n (now (activation .entry))) i) ⌝ }
 {

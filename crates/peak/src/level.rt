@@ -2,7 +2,7 @@
 use crate::ENTRIES;
 ghost use mathlib.Core.Path.{_≡_};
 ghost use mathlib.Core.Bool.{not};
-ghost use Prim.Native.Nat.{ℕ, _≤_, _<_, max};
+ghost use Prim.Native.Nat.{ℕ, suc, _≤_, _<_, max};
 ghost use lib.Dec.{eqb};
 ghost use lib.ListN.{length, take, replicate};
 ghost use Rattle.rules.specs.Sums.{only, countTo};
@@ -19,7 +19,7 @@ pub(crate) fn feed<'a>(n: usize, parents: &'a [u16], outs: &'a [u32], fed: &mut 
     requires { ⌜ n < length (now parents) ⌝ }
     requires { ⌜ n < length (now outs) ⌝ }
     requires { ⌜ countTo (isStray n (now parents)) n ≡ 0 ⌝ }
-    requires { ⌜ now fed ≡ replicate 1025 0 ⌝ }
+    requires { ⌜ now fed ≡ replicate (suc maxTasks) 0 ⌝ }
     ensures { λ _. ⌜ ((i : ℕ) → i ≤ maxTasks
         → at (now (fed .exit)) i ≡ childrenOut n (at (now (parents .entry))) (at (now (outs .entry))) i) ⌝ }
 {

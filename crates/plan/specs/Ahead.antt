@@ -9,14 +9,15 @@ use Rattle.rules.specs.Sums.{Task}
 use Rattle.rules.specs.Lists.{at}
 use Rattle.rules.specs.Standing.{activated}
 use Rattle.rules.specs.Booking.{Books, total}
-use Rattle.plan.specs.Kept.{booksIn, blockSize, Figured, Counted, Blocked, Reached, Going}
+use Rattle.plan.specs.Kept.{booksIn, blockSize, Figured, Counted, Blocked, Reached, Going, entries, blockCount}
+use Rattle.rules.specs.Limits.{maxTasks}
 
 -- the lengths of the arrays that a day changes
 pub record Sizes (booked figures standings blocks : List ℕ) : Type 0 where
-  pub booked-size : length booked ≡ 1025
-  pub figures-size : length figures ≡ 1025
-  pub standings-size : length standings ≡ 1025
-  pub blocks-size : length blocks ≡ 32
+  pub booked-size : length booked ≡ entries
+  pub figures-size : length figures ≡ entries
+  pub standings-size : length standings ≡ entries
+  pub blocks-size : length blocks ≡ blockCount
 
 -- a figure that grows, where there is a task to have it
 abbrev pub grown : List ℕ → ℕ → ℕ → List ℕ
@@ -33,9 +34,9 @@ figuresWith figures x parent m = grown (set figures x (at figures x + m)) parent
 
 -- that all this fits
 pub record RoomToBook (parent place : ℕ) (booked figures blocks : List ℕ) (x m : ℕ) : Type 0 where
-  pub task-in : x < 1025
-  pub parent-in : parent < 1025
-  pub place-in : place < 1024
+  pub task-in : x < entries
+  pub parent-in : parent < entries
+  pub place-in : place < maxTasks
   pub booked-fits : at booked x + m < 2 ^ 32
   pub figure-fits : at figures x + m < 2 ^ 32
   pub parent-fits : (parent ≡ 0 → ⊥) → at (set figures x (at figures x + m)) parent + (at figures x + m) < 2 ^ 32
@@ -55,7 +56,7 @@ pub record MayBook (n bound : ℕ) (parents needs activation places unfed booked
   pub going : Going n (at parents) (at needs) out (take n activation) bound (booksIn n standings booked)
   pub figured : Figured n (at parents) (booksIn n standings booked) figures
   pub counted : Counted n (at parents) (booksIn n standings booked) unfed
-  pub placed : (i : ℕ) → Task n i → at places i < 1024
+  pub placed : (i : ℕ) → Task n i → at places i < maxTasks
   pub blocked : Blocked n (at parents) (booksIn n standings booked) (at places) blocks
   pub reached : Reached n (take n activation) (booksIn n standings booked) next
   pub totals : sum ≡ total n (at (booksIn n standings booked .booked))

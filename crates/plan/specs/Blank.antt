@@ -3,6 +3,8 @@ use Prim.Native.Nat.{ℕ}
 use lib.ListN.{replicate}
 use Rattle.rules.specs.Phase
 use Rattle.plan.specs.Meaning.{Plan}
+use Rattle.plan.specs.Kept.{entries, blockCount}
+use Rattle.rules.specs.Limits.{maxTasks}
 
 abbrev pub blank : Plan
 blank =
@@ -19,17 +21,17 @@ blank =
       finished = 0;
       total = 0;
       used = 0;
-      parents = replicate 1025 0;
-      works = replicate 1025 0;
-      outs = replicate 1025 0;
-      activation = replicate 1024 0;
-      execution = replicate 1024 0;
-      ranks = replicate 1025 0;
-      places = replicate 1025 0;
-      needs = replicate 1025 0;
-      booked = replicate 1025 0;
-      standings = replicate 1025 0;
-      figures = replicate 1025 0;
-      unfed = replicate 1025 0;
-      blocks = replicate 32 0;
+      parents = replicate entries 0;
+      works = replicate entries 0;
+      outs = replicate entries 0;
+      activation = replicate maxTasks 0;
+      execution = replicate maxTasks 0;
+      ranks = replicate entries 0;
+      places = replicate entries 0;
+      needs = replicate entries 0;
+      booked = replicate entries 0;
+      standings = replicate entries 0;
+      figures = replicate entries 0;
+      unfed = replicate entries 0;
+      blocks = replicate blockCount 0;
     }

@@ -11,11 +11,12 @@ use Rattle.rules.specs.Booking.{Climbed, chain, total, climb}
 use Rattle.rules.proofs.Tree.{Tree, up}
 use Rattle.rules.proofs.Shape.{Shape}
 use Rattle.rules.proofs.Balance.{Balance, Roomy}
-use Rattle.plan.specs.Kept.{front, held, heldWith}
+use Rattle.plan.specs.Kept.{front, held, heldWith, entries}
+use Rattle.rules.specs.Limits.{maxTasks}
 
 -- the books while r trays that x held go up, with the figures still as if x held them
 pub record Carrying (n : ℕ) (par need st b fig : ℕ → ℕ) (x r : ℕ) : Type 0 where
-  pub small : n ≤ 1024
+  pub small : n ≤ maxTasks
   pub task : Task n x
   pub busy : st x ≡ waiting → ⊥
   pub rank : ℕ → ℕ
@@ -32,14 +33,14 @@ pub record Carrying (n : ℕ) (par need st b fig : ℕ → ℕ) (x r : ℕ) : Ty
 
 -- what a climb asks of the arrays
 pub record MayClimb (n : ℕ) (parents needs standings booked figures : List ℕ) (x r : ℕ) : Type 0 where
-  pub booked-size : length booked ≡ 1025
-  pub figures-size : length figures ≡ 1025
+  pub booked-size : length booked ≡ entries
+  pub figures-size : length figures ≡ entries
   pub carrying : Carrying n (at parents) (at needs) (at standings) (at booked) (at figures) x r
 
 -- what it promises: the climb of the rules, and figures in which nothing is in the air
 pub record DidClimb (n : ℕ) (par st : ℕ → ℕ) (goal : Climbed) (booked₀ booked figures : List ℕ) (offers left : ℕ) : Type 0 where
-  pub booked-size : length booked ≡ 1025
-  pub figures-size : length figures ≡ 1025
+  pub booked-size : length booked ≡ entries
+  pub figures-size : length figures ≡ entries
   pub books : front n booked ≡ goal .booked
   pub offered : offers ≡ length (goal .offered)
   pub rest : left ≡ goal .left

@@ -9,8 +9,9 @@ use Rattle.rules.specs.Sums.{Task, only}
 use Rattle.rules.specs.Lists.{at}
 use Rattle.rules.specs.Standing.{activated, running, finished}
 use Rattle.rules.specs.Booking.{Climbed, total, dispatch}
-use Rattle.plan.specs.Kept.{front, booksIn, blockSize, Figured, Counted, Blocked, Going}
+use Rattle.plan.specs.Kept.{front, booksIn, blockSize, Figured, Counted, Blocked, Going, entries}
 use Rattle.plan.specs.Ahead.{Sizes, counting}
+use Rattle.rules.specs.Limits.{maxTasks}
 
 -- what the parent keeps of an ended task: its out, where there is a parent
 abbrev pub kept : ℕ → ℕ → ℕ
@@ -26,7 +27,7 @@ fedBlocks blocks standings places unfed parent =
     (cond (eqb (at standings parent) activated) (counting blocks (at unfed parent - 1) (at places parent)) blocks)
 
 pub record RoomToFeed (place unfed : ℕ) (blocks : List ℕ) : Type 0 where
-  pub place-in : place < 1024
+  pub place-in : place < maxTasks
   pub some-unfed : 1 ≤ unfed
   pub block-fits : at blocks (place / blockSize) < 65535
 
@@ -38,13 +39,13 @@ Quiet n l = (a : ℕ) → n < a → at l a ≡ 0
 pub record MayFinish (n : ℕ) (parents outs needs places booked figures standings unfed blocks : List ℕ)
     (runs ended sum used j : ℕ) : Type 0 where
   pub sizes : Sizes booked figures standings blocks
-  pub unfed-size : length unfed ≡ 1025
+  pub unfed-size : length unfed ≡ entries
   pub order : List ℕ
   pub bound : ℕ
   pub going : Going n (at parents) (at needs) (at outs) order bound (booksIn n standings booked)
   pub figured : Figured n (at parents) (booksIn n standings booked) figures
   pub counted : Counted n (at parents) (booksIn n standings booked) unfed
-  pub placed : (i : ℕ) → Task n i → at places i < 1024
+  pub placed : (i : ℕ) → Task n i → at places i < maxTasks
   pub blocked : Blocked n (at parents) (booksIn n standings booked) (at places) blocks
   pub task : Task n j
   pub running-there : at standings j ≡ running
@@ -52,7 +53,7 @@ pub record MayFinish (n : ℕ) (parents outs needs places booked figures standin
   pub booked-quiet : Quiet n booked
   -- the numbers have room
   pub some-run : 1 ≤ runs
-  pub few-ended : ended ≤ 1024
+  pub few-ended : ended ≤ maxTasks
   pub totals : sum ≡ total n (at (booksIn n standings booked .booked))
   pub enough-used : at needs j ≤ used
   pub used-fits : used - at needs j + kept (at parents j) (at outs j) < 2 ^ 32
@@ -60,7 +61,7 @@ pub record MayFinish (n : ℕ) (parents outs needs places booked figures standin
 pub record DidFinish (n : ℕ) (par : ℕ → ℕ) (place : ℕ → ℕ) (goal : Climbed) (j : ℕ)
     (standings₀ booked figures standings unfed blocks : List ℕ) (offers sum : ℕ) : Type 0 where
   pub sizes : Sizes booked figures standings blocks
-  pub unfed-size : length unfed ≡ 1025
+  pub unfed-size : length unfed ≡ entries
   pub stands : standings ≡ set standings₀ j finished
   pub books : front n booked ≡ goal .booked
   pub offered : offers ≡ length (goal .offered)

@@ -9,6 +9,7 @@ use lib.ListN.{length, take}
 use Rattle.rules.specs.Sums.{Task, only, sumTo, countTo}
 use Rattle.rules.specs.Lists.{at, mem, every, distinct}
 use Rattle.rules.specs.Need.{inUse}
+use Rattle.rules.specs.Limits.{maxTasks}
 use Rattle.rules.specs.Grounds.{within}
 use Rattle.rules.specs.Standing.{waiting, running, finished, count}
 use Rattle.rules.specs.Booking.{Books, chain, figure, total, ready}
@@ -39,9 +40,16 @@ heldWith n par st b x r i =
 unfoldable pub unended : (n : ℕ) (par st : ℕ → ℕ) → ℕ → ℕ
 unended n par st i = countTo (λ c. eqb (par c) i && not (eqb (st c) finished)) n
 
+-- a column has an entry for each task, and one for nobody
+abbrev pub entries : ℕ
+entries = suc maxTasks
+
 -- the places of the execution order are counted in blocks of 32
 abbrev pub blockSize : ℕ
 blockSize = 32
+
+abbrev pub blockCount : ℕ
+blockCount = 32
 
 -- the ready tasks whose place is in a block
 unfoldable pub readyIn : (n : ℕ) (par : ℕ → ℕ) (st : List ℕ) (place : ℕ → ℕ) → ℕ → ℕ
@@ -80,7 +88,7 @@ pub record Kept (n : ℕ) (par work out : ℕ → ℕ) (order : List ℕ) (place
 
 -- a plan whose activation order is valid and whose books keep what holds of a day
 pub record Going (n : ℕ) (par need out : ℕ → ℕ) (order : List ℕ) (bound : ℕ) (k : Books) : Type 0 where
-  pub small : n ≤ 1024
+  pub small : n ≤ maxTasks
   pub bounded : bound < 2 ^ 32
   pub valid : Valid n par order
   pub parents : (i : ℕ) → par i ≤ n

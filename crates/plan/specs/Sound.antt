@@ -8,20 +8,20 @@ use Rattle.rules.specs.Lists.{at}
 use Rattle.rules.specs.Need.{need}
 use Rattle.rules.specs.Phase
 use Rattle.plan.specs.Meaning.{Plan}
-use Rattle.plan.specs.Kept.{Numbers, booksIn, Kept, Placed}
+use Rattle.plan.specs.Kept.{Numbers, booksIn, Kept, Placed, entries}
 use Rattle.plan.specs.Weigh.{maxUnits}
 use Rattle.plan.specs.Ahead.{Sizes}
 use Rattle.plan.specs.Finish.{Quiet}
 
 -- the lengths of the arrays that hold a plan
 pub record Lengths (p : Plan) : Type 0 where
-  pub parents : length (p .parents) ≡ suc maxTasks
-  pub works : length (p .works) ≡ suc maxTasks
-  pub outs : length (p .outs) ≡ suc maxTasks
+  pub parents : length (p .parents) ≡ entries
+  pub works : length (p .works) ≡ entries
+  pub outs : length (p .outs) ≡ entries
   pub activation : length (p .activation) ≡ maxTasks
   pub execution : length (p .execution) ≡ maxTasks
-  pub ranks : length (p .ranks) ≡ suc maxTasks
-  pub places : length (p .places) ≡ suc maxTasks
+  pub ranks : length (p .ranks) ≡ entries
+  pub places : length (p .places) ≡ entries
 
 -- a column of which only the entries given so far say anything
 pub record Unused (rows : ℕ) (column : List ℕ) : Type 0 where
@@ -48,7 +48,7 @@ numbersOf p =
 -- what is kept of a day
 pub record InHand (p : Plan) : Type 0 where
   pub sizes : Sizes (p .booked) (p .figures) (p .standings) (p .blocks)
-  pub unfed-size : length (p .unfed) ≡ 1025
+  pub unfed-size : length (p .unfed) ≡ entries
   pub ranked-all : p .ranked ≡ p .size
   pub placed-all : p .placed ≡ p .size
   pub needed : (i : ℕ) → at (p .needs) i ≡ need (p .size) (at (p .parents)) (at (p .works)) (at (p .outs)) i

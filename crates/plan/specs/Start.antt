@@ -8,7 +8,7 @@ use Rattle.rules.specs.Limits.{maxTasks, maxProcessors, leastStarts}
 use Rattle.rules.specs.Booking.{start}
 use Rattle.rules.specs.Answer.{front}
 use Rattle.rules.proofs.Orders.{sumOver}
-use Rattle.plan.specs.Kept.{Numbers, Placed}
+use Rattle.plan.specs.Kept.{Numbers, Placed, blockCount}
 use Rattle.plan.specs.Starting.{picks}
 use Rattle.plan.specs.Ready.{Agrees}
 
@@ -40,7 +40,7 @@ pub record CanStart (n processors : ℕ) (works outs execution places unfed stan
   pub room : leastStarts ≤ length list
   pub placed : Placed n (take n execution) (at places)
   pub agrees : Agrees n (at places) standings unfed blocks
-  pub blocks-size : length blocks ≡ 32
+  pub blocks-size : length blocks ≡ blockCount
   pub fits : h .used + trays works outs (chosen n processors execution unfed standings h) < 2 ^ 32
 
 -- the tasks l run, and are written to the front of the start list
@@ -50,5 +50,5 @@ pub record Begun (l : List ℕ) (n : ℕ) (works outs places unfed standings : L
   pub listed : list′ ≡ front l list
   pub run : standings′ ≡ start l standings
   pub agrees : Agrees n (at places) standings′ unfed blocks′
-  pub blocks-size : length blocks′ ≡ 32
+  pub blocks-size : length blocks′ ≡ blockCount
   pub numbers : h′ ≡ more h (length l) (trays works outs l)

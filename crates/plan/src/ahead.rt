@@ -4,15 +4,16 @@ ghost use Prim.Native.Nat.{_+_, _-_, _/_, _^_, _≤_, _<_};
 ghost use lib.ListN.{length, take, set};
 ghost use Rattle.rules.specs.Lists.{at};
 ghost use Rattle.plan.specs.Ahead.{grown, counting, RoomToBook, BookedOne, MayBook, DidBook};
+ghost use Rattle.rules.specs.Limits.{maxTasks};
 ghost use Rattle.rules.specs.Booking.{activate};
-ghost use Rattle.plan.specs.Kept.{booksIn};
+ghost use Rattle.plan.specs.Kept.{booksIn, entries, blockSize};
 use crate::climb::lack;
 use crate::numbers::Numbers;
 use crate::plan::Plan;
 
 // A figure grows, where there is a task to have it.
 pub(crate) fn grow(figures: &mut [u32; Plan::PLACES], task: usize, more: u32)
-    requires { ⌜ (task < 1025) × ((task ≡ 0 → ⊥) → at (now figures) task + more < 2 ^ 32) ⌝ }
+    requires { ⌜ (task < entries) × ((task ≡ 0 → ⊥) → at (now figures) task + more < 2 ^ 32) ⌝ }
     ensures { λ r. ⌜ now (figures .exit) ≡ grown (now (figures .entry)) task more ⌝ }
 {
     if task != 0 {
@@ -22,7 +23,7 @@ pub(crate) fn grow(figures: &mut [u32; Plan::PLACES], task: usize, more: u32)
 
 // A task none of whose children is unfinished is ready: its block counts one more.
 pub(crate) fn count_ready(blocks: &mut [u16; Plan::BLOCKS], unfed: u16, place: usize)
-    requires { ⌜ (place < 1024) × (at (now blocks) (place / 32) < 65535) ⌝ }
+    requires { ⌜ (place < maxTasks) × (at (now blocks) (place / blockSize) < 65535) ⌝ }
     ensures { λ r. ⌜ now (blocks .exit) ≡ counting (now (blocks .entry)) unfed place ⌝ }
 {
     if unfed == 0 {

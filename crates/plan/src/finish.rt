@@ -2,6 +2,7 @@
 ghost use mathlib.Core.Path.{_≡_};
 ghost use Prim.Native.Nat.{_+_, _-_, _<_};
 ghost use Rattle.rules.specs.Lists.{at};
+ghost use Rattle.plan.specs.Kept.{entries};
 ghost use Rattle.plan.specs.Finish as finishing;
 use crate::ahead::count_ready;
 use crate::ahead::grow;
@@ -29,7 +30,7 @@ fn feed<'a>(
     unfed: &mut [u16; Plan::PLACES],
     blocks: &mut [u16; Plan::BLOCKS],
 )
-    requires { ⌜ (parent < 1025) × ((parent ≡ 0 → ⊥) → finishing.RoomToFeed (at (now places) parent) (at (now unfed) parent) (now blocks)) ⌝ }
+    requires { ⌜ (parent < entries) × ((parent ≡ 0 → ⊥) → finishing.RoomToFeed (at (now places) parent) (at (now unfed) parent) (now blocks)) ⌝ }
     ensures { λ r. ⌜ (now (unfed .exit) ≡ finishing.fewer (now (unfed .entry)) parent) × (now (blocks .exit) ≡ finishing.fedBlocks (now (blocks .entry)) (now (standings .entry)) (now (places .entry)) (now (unfed .entry)) parent) ⌝ }
 {
     if parent == 0 {

@@ -9,6 +9,7 @@ ghost use Rattle.rules.specs.Lists.{at, every};
 ghost use Rattle.rules.specs.Limits.{maxTasks};
 ghost use Rattle.rules.specs.Grounds.{within};
 ghost use Rattle.rules.specs.Standing.{activated};
+ghost use Rattle.plan.specs.Kept.{blockCount};
 ghost use Rattle.plan.specs.Starting.{isReady};
 ghost use Rattle.plan.specs.Ready.{NoneBefore, FirstAt, Blocked};
 
@@ -24,8 +25,8 @@ fn is_ready(standing: u8, unfed: u16) -> bool
 
 // The first block with a ready task, or the number of blocks.
 fn first_block(blocks: &[u16; Plan::BLOCKS]) -> usize
-    ensures { λ r. ⌜ (r ≤ 32) × ((q : ℕ) → q < r → at (now (blocks .entry)) q ≡ 0)
-        × (r < 32 → at (now (blocks .entry)) r ≡ 0 → ⊥) ⌝ }
+    ensures { λ r. ⌜ (r ≤ blockCount) × ((q : ℕ) → q < r → at (now (blocks .entry)) q ≡ 0)
+        × (r < blockCount → at (now (blocks .entry)) r ≡ 0 → ⊥) ⌝ }
 {
     let mut q = 0;
     while q < Plan::BLOCKS {
