@@ -24,7 +24,7 @@ compare:
 	./compare/run
 	./compare/printer
 
-# The command function beside the peer's, on a million askings.
+# The command function beside the peer's, on a million askings, and days with their reports in place.
 match:
 	./compare/match
 

@@ -2,13 +2,14 @@
 //! Markdown. No figure fails anything.
 
 mod host;
-mod in_place;
 
 use compare::by_peer;
 use compare::clock::{excesses, medians, SAMPLES};
 use compare::day::{runner, Day};
+use compare::in_place::{Lists, RunDay};
 use compare::outcome::Outcome;
 use compare::table::{cases, print_table, Pair};
+use std::hint::black_box;
 
 fn main() {
     print_notes();
@@ -20,7 +21,7 @@ fn main() {
         &one_a_tree,
         setup,
     );
-    print_table("DONE, the arrays in place", &all, in_place::reports);
+    print_table("DONE, the arrays in place", &all, reports);
 }
 
 /// How the figures come about.
@@ -64,6 +65,30 @@ fn setup(day: &Day) -> Pair {
         &mut runner(by_peer::run_askings, day, day.setup),
     ]);
     times.map(|time| time / day.setup as f64)
+}
+
+/// A report in place: the whole day less all up to BEGIN.
+fn reports(day: &Day) -> Pair {
+    let times = excesses([
+        [
+            &mut in_place(host::run_day, day, &[]),
+            &mut in_place(host::run_day, day, &day.reports),
+        ],
+        [
+            &mut in_place(by_peer::run_day, day, &[]),
+            &mut in_place(by_peer::run_day, day, &day.reports),
+        ],
+    ]);
+    times.map(|time| time / day.reports.len() as f64)
+}
+
+/// A run of a day up to BEGIN and of some reports. Its lists are used again
+/// and not cleared.
+fn in_place<'a>(run: RunDay, day: &'a Day, tasks: &'a [u16]) -> impl FnMut() + use<'a> {
+    let mut lists = Lists::of(day, tasks, 0);
+    move || {
+        black_box(lists.run(run));
+    }
 }
 
 /// What is timed is the same day on both sides.

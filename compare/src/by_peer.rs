@@ -1,6 +1,7 @@
 //! `run_askings` and its answers, by the peer.
 
 use crate::flat::{part, ANSWER, ASKING};
+use crate::in_place::REPORT;
 use peer::{Answer, Phase, Plan};
 
 /// Runs a list of askings on an empty plan and tells how many it ran.
@@ -27,6 +28,34 @@ pub fn run(bytes: &[u8], askings: &[usize], starts: &mut [u16], answers: &mut [u
         rest = behind;
     }
     plan
+}
+
+/// Runs a list of askings and then reports, and tells how many reports it ran.
+pub fn run_day(
+    bytes: &[u8],
+    askings: &[usize],
+    tasks: &[u16],
+    starts: &mut [u16],
+    answers: &mut [u64],
+) -> usize {
+    let asked = (askings.len() / ASKING).min(answers.len() / ANSWER);
+    let (lists, starts) = starts.split_at_mut(Plan::STARTS * asked);
+    let (rows, answers) = answers.split_at_mut(ANSWER * asked);
+    let mut plan = run(bytes, askings, lists, rows);
+    let lists = starts.chunks_exact_mut(Plan::STARTS);
+    let (answers, _) = answers.as_chunks_mut::<REPORT>();
+    let mut reports = 0;
+    for ((task, list), numbers) in tasks.iter().zip(lists).zip(answers) {
+        let [low, high] = task.to_le_bytes();
+        let answer = plan.command(&[0x06, low, high], 0, list);
+        *numbers = [
+            answer.number.into(),
+            answer.starts as u64,
+            answer.offers as u64,
+        ];
+        reports += 1;
+    }
+    reports
 }
 
 /// An answer, then what the plan answers after the command.

@@ -1,52 +1,20 @@
-//! The reports of a day with its arrays kept in place.
+//! Days whose reports are run in place, as `run_day` takes them.
 
-use compare::by_peer;
-use compare::clock::excesses;
-use compare::day::Day;
-use compare::flat::{ANSWER, ASKING};
-use compare::table::Pair;
+use crate::by_peer;
+use crate::day::Day;
+use crate::flat::{answer_marks, start_marks, ANSWER, ASKING};
+use peer::generate::{Random, Shape};
 use peer::Plan;
-use std::hint::black_box;
 
 /// The numbers of an answer to a report: number, starts, offers.
-const REPORT: usize = 3;
+pub const REPORT: usize = 3;
 
-#[link(name = "host", kind = "static")]
-extern "C" {
-    fn run_day(
-        bytes: *const u8,
-        bytes_len: usize,
-        askings: *const usize,
-        askings_len: usize,
-        tasks: *const u16,
-        tasks_len: usize,
-        starts: *mut u16,
-        starts_len: usize,
-        answers: *mut u64,
-        answers_len: usize,
-    ) -> usize;
-}
+/// Runs a list of askings and then reports, each with a start list of the
+/// fewest entries, and tells how many reports it ran.
+pub type RunDay = fn(&[u8], &[usize], &[u16], &mut [u16], &mut [u64]) -> usize;
 
-/// A report: the whole day less all up to BEGIN, divided by n.
-pub fn reports(day: &Day) -> Pair {
-    let n = day.reports.len();
-    assert_eq!(
-        Lists::of(day, n).run(proved),
-        Lists::of(day, n).run(by_peer)
-    );
-    let times = excesses([
-        [&mut runner(proved, day, 0), &mut runner(proved, day, n)],
-        [&mut runner(by_peer, day, 0), &mut runner(by_peer, day, n)],
-    ]);
-    times.map(|time| time / n as f64)
-}
-
-/// Runs the commands up to BEGIN and then reports, each with a start list of
-/// the fewest entries, and tells how many reports it ran.
-type Run = fn(&[u8], &[usize], &[u16], &mut [u16], &mut [u64]) -> usize;
-
-/// What such a run is given.
-struct Lists<'a> {
+/// What such a run is given: the commands of a day up to BEGIN, and reports.
+pub struct Lists<'a> {
     bytes: &'a [u8],
     askings: &'a [usize],
     tasks: &'a [u16],
@@ -55,20 +23,21 @@ struct Lists<'a> {
 }
 
 impl<'a> Lists<'a> {
-    /// The first reports of a day.
-    fn of(day: &'a Day, reports: usize) -> Lists<'a> {
+    /// Lists with room for so many reports more, or fewer.
+    pub fn of(day: &'a Day, tasks: &'a [u16], more: isize) -> Lists<'a> {
         let begun = day.setup + 1;
+        let reports = tasks.len().saturating_add_signed(more);
         Lists {
             bytes: &day.flat.bytes,
             askings: &day.flat.askings[..ASKING * begun],
-            tasks: &day.reports[..reports],
-            starts: vec![0; Plan::STARTS * (begun + reports)],
-            answers: vec![0; ANSWER * begun + REPORT * reports],
+            tasks,
+            starts: start_marks(Plan::STARTS * (begun + reports)),
+            answers: answer_marks(ANSWER * begun + REPORT * reports),
         }
     }
 
-    /// The lists after a run.
-    fn run(&mut self, run: Run) -> (&[u16], &[u64]) {
+    /// How many reports were run, and the lists after them.
+    pub fn run(&mut self, run: RunDay) -> (usize, &[u16], &[u64]) {
         let ran = run(
             self.bytes,
             self.askings,
@@ -76,64 +45,75 @@ impl<'a> Lists<'a> {
             &mut self.starts,
             &mut self.answers,
         );
-        assert_eq!(ran, self.tasks.len());
-        (&self.starts, &self.answers)
+        (ran, &self.starts, &self.answers)
     }
 }
 
-/// The lists are used again and not cleared.
-fn runner(run: Run, day: &Day, reports: usize) -> impl FnMut() + use<'_> {
-    let mut lists = Lists::of(day, reports);
-    move || {
-        black_box(lists.run(run));
+/// Runs the day of each seed both ways. How many reports were the same, or the
+/// first seed at which something differs.
+pub fn compare(run: RunDay, seeds: u64) -> Result<usize, u64> {
+    let mut reports = 0;
+    for seed in 0..seeds {
+        let random = &mut Random::new(seed);
+        let day = any_day(random);
+        let tasks = with_wrong_ones(random, &day.reports);
+        let more = random.pick(&[-1, 0, 0, 0, 1]);
+        let mut expected = Lists::of(&day, &tasks, more);
+        let expected = expected.run(by_peer::run_day);
+        if Lists::of(&day, &tasks, more).run(run) != expected {
+            return Err(seed);
+        }
+        reports += expected.0;
     }
+    Ok(reports)
 }
 
-fn proved(
-    bytes: &[u8],
-    askings: &[usize],
-    tasks: &[u16],
-    starts: &mut [u16],
-    answers: &mut [u64],
-) -> usize {
-    // Five slices, each as a pointer and a length. The function asks nothing else.
-    unsafe {
-        run_day(
-            bytes.as_ptr(),
-            bytes.len(),
-            askings.as_ptr(),
-            askings.len(),
-            tasks.as_ptr(),
-            tasks.len(),
-            starts.as_mut_ptr(),
-            starts.len(),
-            answers.as_mut_ptr(),
-            answers.len(),
-        )
-    }
+fn any_day(random: &mut Random) -> Day {
+    let shape = random.pick(&[Shape::Chain, Shape::Star, Shape::Random, Shape::Binary]);
+    let most = random.pick(&[1, 8, 64, 1024]);
+    let n = random.between(1, most) as usize;
+    let p = random.pick(&[1, 2, 4, 64]);
+    let peaks = random.pick(&[1, 2, 10]);
+    Day::new(shape, n, p, peaks)
 }
 
-fn by_peer(
-    bytes: &[u8],
-    askings: &[usize],
-    tasks: &[u16],
-    starts: &mut [u16],
-    answers: &mut [u64],
-) -> usize {
-    let begun = askings.len() / ASKING;
-    let (lists, starts) = starts.split_at_mut(Plan::STARTS * begun);
-    let (rows, answers) = answers.split_at_mut(ANSWER * begun);
-    let mut plan = by_peer::run(bytes, askings, lists, rows);
-    let lists = starts.chunks_exact_mut(Plan::STARTS);
-    let (answers, _) = answers.as_chunks_mut::<REPORT>();
-    for ((task, list), numbers) in tasks.iter().zip(lists).zip(answers) {
-        let [low, high] = task.to_le_bytes();
-        let answer = plan.command(&[0x06, low, high], 0, list);
-        *numbers = [
-            answer.number.into(),
-            answer.starts as u64,
-            answer.offers as u64,
-        ];
+/// The reports with others put in that are refused, but for one that comes
+/// early: no such task, or one that has ended or does not run yet.
+fn with_wrong_ones(random: &mut Random, reports: &[u16]) -> Vec<u16> {
+    let mut tasks = Vec::new();
+    for &task in reports {
+        if random.chance(10) {
+            let n = reports.len() as u16;
+            let any = random.between(0, u32::from(n)) as u16;
+            tasks.push(random.pick(&[0, n + 1, u16::MAX, any, any]));
+        }
+        tasks.push(task);
     }
-    tasks.len()
+    tasks
+}
+
+#[cfg(test)]
+mod tests {
+    use super::*;
+
+    #[test]
+    fn the_peer_agrees_with_itself() {
+        assert!(compare(by_peer::run_day, 20).is_ok());
+    }
+
+    #[test]
+    fn a_start_too_many_is_told() {
+        fn wrong(
+            bytes: &[u8],
+            askings: &[usize],
+            tasks: &[u16],
+            starts: &mut [u16],
+            answers: &mut [u64],
+        ) -> usize {
+            let ran = by_peer::run_day(bytes, askings, tasks, starts, answers);
+            *starts.last_mut().expect("a start list") = 1;
+            ran
+        }
+        assert_eq!(compare(wrong, 20), Err(0));
+    }
 }

@@ -5,6 +5,7 @@ pub mod by_peer;
 pub mod clock;
 pub mod day;
 pub mod flat;
+pub mod in_place;
 pub mod lists;
 pub mod outcome;
 pub mod seeds;
