@@ -38,11 +38,11 @@ use Rattle.plan.specs.Demand.{AnswersHold, CallsHold, EveryCallHolds}
 
 -- one call: all that is received is what the rules answer
 module _ {p : Plan} {c : Call} (e : Ensured p c) where
-  call-is : answeredOf (c .result) (c .list) ≡ rules.command (meaning p) (c .asking)
+  pub call-is : answeredOf (c .result) (c .list) ≡ rules.command (meaning p) (c .asking)
   unfolding rules.command
   call-is = e .responded .same ∙ ap (λ (d : Decoded). rules.respond (meaning p) d (c .asking .list)) (e .told)
 
-  state-is : meaning (c .result .plan) ≡ rules.command (meaning p) (c .asking) .state
+  pub state-is : meaning (c .result .plan) ≡ rules.command (meaning p) (c .asking) .state
   state-is = ap (λ (a : rules.Answered). a .state) call-is
 
   accepted-is : accepted c ≡ days.accepted (meaning p) (c .asking)
@@ -122,7 +122,7 @@ calls-split [] m p e = (tt, e)
 calls-split (c ∷ l) m p e = let k = calls-split l m (c .result .plan) (e .1) in ((e .0, k .0), k .1)
 
 -- what the questions answer in a day
-answers-hold :
+pub answers-hold :
     (p : Plan) (events : List days.Event) → DayHolds (meaning p) events → (q : Told p) → AnswersHold p events q
 answers-hold p events day q =
     record {

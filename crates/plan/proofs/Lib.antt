@@ -34,6 +34,7 @@ pub mod Responding
 pub mod Successive
 -- every list of calls
 pub mod Demand
+pub mod Ways
 -- a plan as it is built
 pub mod Obeying
 pub mod Blank

@@ -7,6 +7,7 @@ pub mod InDay
 pub mod Together
 pub mod Calls
 pub mod Demand
+pub mod Ways
 pub mod Blank
 -- what each part asks and promises
 pub mod Place

@@ -142,7 +142,7 @@ opened-day s a h e = go (step s a)
         (ap isBegin (sym (o .decoded)) ∙ and-true (accepted s a) (isBegin (decode (a .stream) (a .place))) e .1))
 
 -- a list of askings after another
-after-append : (l m : List Asking) (s : State) → after s (l ++ m) ≡ after (after s l) m
+pub after-append : (l m : List Asking) (s : State) → after s (l ++ m) ≡ after (after s l) m
 unfolding after
 after-append [] m s = refl
 after-append (a ∷ l) m s = after-append l m (command s a .state)
