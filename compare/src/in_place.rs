@@ -103,17 +103,11 @@ mod tests {
 
     #[test]
     fn a_start_too_many_is_told() {
-        fn wrong(
-            bytes: &[u8],
-            askings: &[usize],
-            tasks: &[u16],
-            starts: &mut [u16],
-            answers: &mut [u64],
-        ) -> usize {
+        let wrong: RunDay = |bytes, askings, tasks, starts, answers| {
             let ran = by_peer::run_day(bytes, askings, tasks, starts, answers);
             *starts.last_mut().expect("a start list") = 1;
             ran
-        }
+        };
         assert_eq!(compare(wrong, 20), Err(0));
     }
 }

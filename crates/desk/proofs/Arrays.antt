@@ -110,13 +110,6 @@ module _ {M : Type 1} (𝓤 : URA M) (H : Heap 𝓤) (A : Atoms 𝓤) (W : Given
       (W .laws .raw-at fullShare (tyArray (tyInt w) n) l 0 (wordsVal w xs)) $
       frame ! $ done !))
 
-  -- what an array of numbers owns makes a value of its type
-  pub words-typed :
-      (xs : List ℕ)
-      → Is (Words w n) xs (wordsVal w xs ∷ [])
-      → T (hasTy (tyArray (tyInt w) n) (wordsVal w xs)) × WT (wordsVal w xs)
-  words-typed xs p = array-lawful 𝓤 H A W (UInt w) (uint-lawful 𝓤 H A W w) n .typed xs (wordsVal w xs ∷ []) p .0
-
 module _ {M : Type 1} {𝓤 : URA M} {H : Heap 𝓤} {A : Atoms 𝓤} {K : Type 0} {W : Given 𝓤 H A} {Γ : List (Item 𝓤)} {G : Goal 𝓤 H} where
   -- a number that has been stored goes back among the others
   pub word-put :

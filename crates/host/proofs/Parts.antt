@@ -1,5 +1,5 @@
 -- Laws of parts of lists.
-use mathlib.Core.Path.{_≡_, refl, sym, ap, _∙_}
+use mathlib.Core.Path.{_≡_, sym, ap, _∙_}
 use mathlib.Core.List.{List, [], _∷_, _++_, append-assoc, append-nil}
 use Prim.Native.Nat.{ℕ, zero, suc, _+_, _-_, _≤_, _<_, min}
 use native.Mathlib.Numerals.{add-one, unary-clauses}
@@ -51,10 +51,6 @@ grows numbers list i more room =
 pub whole : (numbers list : List ℕ) (i : ℕ) → i ≡ length numbers → take i numbers ++ drop i list ≡ front numbers list
 unfolding front
 whole numbers list i e = rw (e, take-length numbers)
-
-pub front-length : (done list : List ℕ) → length done ≤ length list → length (front done list) ≡ length list
-unfolding front
-front-length done list fits = length-append done (drop (length done) list) ∙ omega (arith, length-drop (length done) list)
 
 -- a list whose front is done, and what a part of it right behind the front comes to
 module _ (done list list₀ : List ℕ) (a : ℕ) (e : list ≡ front done list₀) (long : length done ≡ a) where

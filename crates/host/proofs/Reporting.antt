@@ -3,9 +3,7 @@ use mathlib.Core.Path.{_≡_, refl, sym, ap, _∙_}
 use mathlib.Core.List.{List, _++_}
 use Prim.Native.Nat.{ℕ, _-_, _*_}
 use lib.ListN.{length, take, drop}
-use Rattle.rules.specs.State.{State}
 use Rattle.plan.specs.declared.plan.Plan.{Plan}
-use Rattle.plan.specs.Meaning.{meaning}
 use Rattle.plan.specs.Reports as reports
 use Rattle.host.specs.Run.{rowSize, listsAfter, rows, Asked}
 use Rattle.host.specs.InPlace.{RanDay}

@@ -10,6 +10,8 @@ use Rattle.rules.specs.State.{State, none}
 use Rattle.rules.specs.Command.{Decoded, decode}
 use Rattle.rules.specs.Answer as rules
 use Rattle.rules.specs.Day.{after, answers}
+use Rattle.rules.proofs.Askings.{front-long}
+use Rattle.rules.proofs.Theorem.{after-append}
 use Rattle.plan.specs.declared.plan.Plan.{Plan}
 use Rattle.plan.specs.declared.answer.Answered.{Answered}
 use Rattle.plan.specs.Meaning.{meaning, answeredOf}
@@ -26,7 +28,7 @@ use Rattle.host.specs.Run.{
   rows,
   Asked,
 }
-use Rattle.host.proofs.Parts.{take-least, drop-least, front-length, left, further, written}
+use Rattle.host.proofs.Parts.{take-least, drop-least, left, further, written}
 use Rattle.host.proofs.Rows.{row-length}
 
 -- what the first k askings leave: the next start list begins at `place`
@@ -97,12 +99,6 @@ unfolding answers after
 answers-more [] s a = refl
 answers-more (b ∷ l) s a = ap (λ r. rules.command s b ∷ r) (answers-more l (rules.command s b .state) a)
 
-after-more : (l : List rules.Asking) (s : State) (a : rules.Asking)
-    → after s (l ++ (a ∷ [])) ≡ rules.command (after s l) a .state
-unfolding after
-after-more [] s a = refl
-after-more (b ∷ l) s a = after-more l (rules.command s b .state) a
-
 -- the k-th asking as the code asks it: its start list is n entries
 module _
     {bytes askings starts₀ told₀ : List ℕ} {count : ℕ} {starts told : List ℕ} {plan : Plan} {place k : ℕ}
@@ -167,10 +163,10 @@ module _
         rows-more = ap (flatMap row) answered-more ∙ one-more row (answered bytes askings starts₀ k) (answeredOf r list)
 
         same-now : meaning (r .plan) ≡ after none (first bytes askings starts₀ (k + 1))
-        unfolding first
+        unfolding first after
         same-now =
             ap (λ (a : rules.Answered). a .state) as-asked
-            ∙ sym (after-more (first bytes askings starts₀ k) none (asking bytes askings starts₀ k))
+            ∙ sym (after-append (first bytes askings starts₀ k) (asking bytes askings starts₀ k ∷ []) none)
             ∙ ap (λ (m : ℕ). after none (first bytes askings starts₀ m)) (sym (add-one k))
 
         reached-now : place + n ≡ min (ahead askings (k + 1)) (length starts₀)
@@ -219,9 +215,9 @@ module _
               rows-end = rows-end;
               lists-length =
                   ap length lists-now
-                  ∙ front-length (listsAfter bytes askings starts₀ (k + 1)) starts₀ (omega (arith, reached-now));
+                  ∙ front-long (listsAfter bytes askings starts₀ (k + 1)) starts₀ (omega (arith, reached-now));
               told-length =
-                  ap length told-now ∙ front-length (rows bytes askings starts₀ (k + 1)) told₀ (omega (arith, g .counted));
+                  ap length told-now ∙ front-long (rows bytes askings starts₀ (k + 1)) told₀ (omega (arith, g .counted));
               same = same-now;
               led = responded .led;
             }

@@ -1,24 +1,24 @@
 -- Booking ahead and then starting: what the first leaves is what the second asks, and what both leave is kept of the day.
 use mathlib.Core.Path.{_≡_, refl, sym, ap, ap₂, subst, fun-ext, _∙_}
-use mathlib.Core.Bool.{Bool, true, false, not, _&&_}
+use mathlib.Core.Bool.{Bool, true, not, _&&_}
 use mathlib.Core.Logic.{_⊎_, inl, inr, ⊎-elim}
 use mathlib.Core.List.{List, [], _∷_}
-use Prim.Native.Nat.{ℕ, suc, _+_, _-_, _/_, _^_, _≤_, _<_}
+use Prim.Native.Nat.{ℕ, _+_, _-_, _/_, _≤_, _<_}
 use native.Mathlib.Omega.{arith}
 use lib.Dec.{eqb}
 use lib.ListN.{length, take, set, length-set}
 use borrow.Author.Tests.{ne-eqb}
-use Rattle.rules.specs.Sums.{Task, only, sumTo, countTo}
-use Rattle.rules.specs.Lists.{at, mem, every}
-use Rattle.rules.specs.Need.{need, inUse}
+use Rattle.rules.specs.Sums.{Task, only, countTo}
+use Rattle.rules.specs.Lists.{at, mem}
+use Rattle.rules.specs.Need.{need}
 use Rattle.rules.specs.Grounds.{within}
 use Rattle.rules.specs.Standing.{waiting, activated, running, finished, count}
-use Rattle.rules.specs.Booking.{Books, figure, total, ready, starts, start, free}
+use Rattle.rules.specs.Booking.{Books, figure, ready, starts, start, free}
 use Rattle.rules.specs.Answer as answers
 use Rattle.rules.proofs.Tests.{eqb-above, same-or-not}
 use Rattle.rules.proofs.Sums.{sum-cong}
 use Rattle.rules.proofs.Counts.{count-cong}
-use Rattle.rules.proofs.Orders.{all-in, mem-at, place, place-lt, place-at, mem-here, mem-more, mem-rest, nobody, sumOver}
+use Rattle.rules.proofs.Orders.{all-in, place, place-lt, place-at, mem-here, mem-more, mem-rest, nobody}
 use Rattle.rules.proofs.Tree.{Tree}
 use Rattle.rules.proofs.Ranks.{rankIn, tree-of}
 use Rattle.rules.proofs.Balance.{Balanced}
@@ -26,11 +26,10 @@ use Rattle.rules.proofs.Good.{Good}
 use Rattle.rules.proofs.Starts.{Startable, start-count, start-good, start-kind}
 use Rattle.rules.proofs.Usage.{in-use-within}
 use Rattle.rules.proofs.Course as course
-use Rattle.plan.specs.Kept.{Numbers, front, held, unended, readyIn, blockSize, booksIn, Counted, Blocked, Reached, Kept, Placed}
-use Rattle.plan.specs.Ahead.{Sizes, MayBook, DidBook}
+use Rattle.plan.specs.Kept.{Numbers, front, held, unended, readyIn, blockSize, booksIn, Counted, Reached, Placed}
+use Rattle.plan.specs.Ahead.{MayBook, DidBook}
 use Rattle.plan.specs.Finish.{Quiet}
-use Rattle.plan.specs.Starting.{isReady, picks}
-use Rattle.plan.specs.Ready as readies
+use Rattle.plan.specs.Starting.{isReady}
 use Rattle.plan.specs.Start.{trays, chosen, CanStart, Begun}
 use Rattle.plan.specs.Advance.{MayAdvance, DidAdvance, bookedAhead, startsThen}
 use Rattle.plan.proofs.Front.{front-is, quiet-set}

@@ -1,7 +1,7 @@
 -- What a plan is asked: the answers by the figures that are kept of its day.
 use mathlib.Core.Path.{_≡_, refl}
 use mathlib.Core.Bool.{true, _||_}
-use mathlib.Core.List.{List, [], _∷_}
+use mathlib.Core.List.{[], _∷_}
 use mathlib.Core.Logic.{⊎-elim}
 use Prim.Native.Nat.{ℕ, _+_, _-_, _≤_, _<_}
 use native.Mathlib.Omega.{arith}

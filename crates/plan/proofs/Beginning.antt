@@ -3,14 +3,14 @@
 use mathlib.Core.Path.{_≡_, refl, sym, ap, ap₂, subst, fun-ext, _∙_}
 use mathlib.Core.Bool.{Bool, true, false, not, cond, _&&_}
 use mathlib.Core.Logic.{⊎-elim}
-use mathlib.Core.List.{List, [], _∷_}
-use Prim.Native.Nat.{ℕ, zero, suc, _+_, _/_, _^_, _≤_, _<_}
+use mathlib.Core.List.{List, _∷_}
+use Prim.Native.Nat.{ℕ, zero, suc, _/_, _≤_, _<_}
 use native.Mathlib.Omega.{arith}
 use lib.Dec.{eqb, leb, ltb}
 use lib.ListN.{length, take, replicate, length-replicate}
 use lib.Seq.{getD-take, length-take-le}
-use borrow.Author.Tests.{eqb-true, eq-eqb, ne-eqb, le-leb, lt-leb, lt-ltb, le-ltb}
-use Rattle.rules.specs.Sums.{Task, only, sumTo, countTo}
+use borrow.Author.Tests.{eq-eqb, ne-eqb, le-leb, lt-leb, lt-ltb, le-ltb}
+use Rattle.rules.specs.Sums.{only, countTo}
 use Rattle.rules.specs.Lists.{at, every, distinct}
 use Rattle.rules.specs.Limits.{maxTasks, leastStarts}
 use Rattle.rules.specs.Need.{need, resident, inUse}
@@ -24,26 +24,24 @@ use Rattle.rules.specs.Booking.{Books, figure, total, ready}
 use Rattle.rules.specs.Obey.{fresh, proceed, obey}
 use Rattle.rules.specs.Answer.{accept}
 use Rattle.rules.specs.Desk.{DeskAnswer, deskGround, deskAnswer}
-use Rattle.rules.proofs.Tests.{decide, and-true, clash}
-use Rattle.rules.proofs.Sums.{count-none, sum-zero, only-zero}
-use Rattle.rules.proofs.Turns.{Valid}
+use Rattle.rules.proofs.Tests.{decide}
+use Rattle.rules.proofs.Sums.{count-none, sum-zero}
 use Rattle.rules.proofs.Ranks.{rankIn}
 use Rattle.rules.proofs.Balance.{Roomy}
-use Rattle.rules.proofs.Formed.{Formed, Accepted, no-ground}
+use Rattle.rules.proofs.Formed.{Formed, no-ground}
 use Rattle.rules.proofs.InDay.{Planned, begin-planned, needs-roomy, fresh-good}
 use Rattle.rules.proofs.Reaching.{lives}
 use Rattle.rules.proofs.Judging.{judge-accepted, ground-own}
 use Rattle.rules.proofs.Usage.{hasEnded, hasBegun}
 use Rattle.peak.specs.Survey.{covered, surveyed}
 use Rattle.plan.specs.Meaning.{Plan, meaning}
-use Rattle.plan.specs.Kept.{Numbers, unmoved, front, held, readyIn, blockSize, booksIn, Going, Placed, Kept}
+use Rattle.plan.specs.Kept.{Numbers, unmoved, front, held, readyIn, blockSize, booksIn, Going, Placed}
 use Rattle.plan.specs.Weigh.{Sized, Weighed}
 use Rattle.plan.specs.Finish.{Quiet}
 use Rattle.plan.specs.Advance.{MayAdvance, DidAdvance, bookedAhead, startsThen}
 use Rattle.plan.specs.Sound.{Sound, Unused}
 use Rattle.plan.specs.InDay.{inDay}
 use Rattle.plan.specs.Led.{Led, Judged}
-use Rattle.plan.proofs.Front.{at-front}
 use Rattle.plan.proofs.Weighing.{zeros, needs-are, unfed-counts}
 use Rattle.plan.proofs.Using.{usedBy}
 use Rattle.plan.proofs.Meant.{parents-meant, works-meant, outs-meant, needs-columns}

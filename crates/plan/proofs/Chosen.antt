@@ -1,9 +1,9 @@
 -- The tasks that the code starts are those of the rules.
-use mathlib.Core.Path.{_≡_, refl, sym, ap, ap₂, subst, _∙_}
-use mathlib.Core.Bool.{Bool, true, false, not, _&&_}
+use mathlib.Core.Path.{_≡_, refl, sym, ap, _∙_}
+use mathlib.Core.Bool.{Bool, true, false, _&&_}
 use mathlib.Core.Logic.{⊎-elim}
 use mathlib.Core.List.{List, [], _∷_}
-use Prim.Native.Nat.{ℕ, zero, suc, _+_, _≤_, _<_}
+use Prim.Native.Nat.{ℕ, zero, suc, _+_, _≤_}
 use native.Mathlib.Omega.{arith}
 use lib.Dec.{eqb}
 use lib.ListN.{length, set, length-set}
@@ -13,10 +13,10 @@ use Rattle.rules.specs.Sums.{Task}
 use Rattle.rules.specs.Lists.{at, mem, every, first}
 use Rattle.rules.specs.Grounds.{within}
 use Rattle.rules.specs.Standing.{activated, running, finished}
-use Rattle.rules.specs.Booking.{ready, fed, starts, start}
-use Rattle.rules.proofs.Tests.{decide, same-or-not, and-true}
+use Rattle.rules.specs.Booking.{ready, starts, start}
+use Rattle.rules.proofs.Tests.{decide, same-or-not}
 use Rattle.rules.proofs.Orders.{mem-here, mem-more, within-task, every-mem, sumOver}
-use Rattle.rules.proofs.Good.{at-set, at-other, moved-by-set}
+use Rattle.rules.proofs.Good.{moved-by-set}
 use Rattle.rules.proofs.Starts.{Startable, first-passes, ready-parts}
 use Rattle.rules.proofs.Branches.{starts-none, starts-one, first-here, first-later}
 use Rattle.plan.specs.Kept.{front, unended}

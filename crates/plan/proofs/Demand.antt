@@ -6,7 +6,6 @@ use mathlib.Core.List.{List, [], _∷_, _++_, map}
 use Prim.Native.Nat.{ℕ, _≤_, _<_}
 use lib.Dec.{eqb}
 use lib.ListN.{length, take}
-use Rattle.rules.specs.Sums.{countTo}
 use Rattle.rules.specs.Lists.{at}
 use Rattle.rules.specs.Phase
 use Rattle.rules.specs.Standing
@@ -15,7 +14,7 @@ use Rattle.rules.specs.Command.{Decoded, decode}
 use Rattle.rules.specs.Answer as rules
 use Rattle.rules.specs.Question as questions
 use Rattle.rules.specs.Day as days
-use Rattle.rules.specs.Theorem.{DayHolds, SamePlan, runs, usedBy}
+use Rattle.rules.specs.Theorem.{DayHolds, SamePlan}
 use Rattle.rules.proofs.Theorem.{theorem}
 use Rattle.plan.specs.Meaning.{Plan, Answered, meaning, answeredOf}
 use Rattle.plan.specs.Led.{Led}

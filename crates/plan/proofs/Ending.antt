@@ -1,30 +1,30 @@
 -- A task ends: what is asked of the climb, and what the arrays hold after it.
 use mathlib.Core.Path.{_≡_, refl, sym, ap, ap₂, subst, _∙_}
-use mathlib.Core.Bool.{Bool, true, false, not, cond, _&&_, _||_}
+use mathlib.Core.Bool.{Bool, true, false, not, cond, _&&_}
 use mathlib.Core.Logic.{⊎-elim}
-use mathlib.Core.List.{List, [], _∷_}
-use Prim.Native.Nat.{ℕ, zero, suc, _+_, _-_, _/_, _^_, _≤_, _<_}
+use mathlib.Core.List.{List, []}
+use Prim.Native.Nat.{ℕ, _+_, _-_, _/_, _^_, _≤_, _<_}
 use native.Mathlib.Omega.{arith}
 use lib.Dec.{eqb}
 use lib.ListN.{length, set, length-set}
 use lib.Seq.{getD-set-same, getD-set-other}
-use borrow.Author.Tests.{eqb-true, eqb-false, eq-eqb, ne-eqb}
-use Rattle.rules.specs.Sums.{Task, only, sumTo, countTo}
+use borrow.Author.Tests.{eq-eqb, ne-eqb}
+use Rattle.rules.specs.Sums.{Task, only, sumTo}
 use Rattle.rules.specs.Lists.{at}
-use Rattle.rules.specs.Standing.{waiting, activated, running, finished}
-use Rattle.rules.specs.Booking.{Books, Climbed, chain, figure, total, climb, dispatch, ready, fed}
-use Rattle.rules.proofs.Tests.{decide, clash, same-or-not, and-none}
-use Rattle.rules.proofs.Sums.{sum-change, sum-cong, count-le, term-le, only-true, only-false, only-zero, only-and}
+use Rattle.rules.specs.Standing.{activated, running, finished}
+use Rattle.rules.specs.Booking.{Climbed, chain, figure, total, climb, ready, fed}
+use Rattle.rules.proofs.Tests.{clash, same-or-not, and-none}
+use Rattle.rules.proofs.Sums.{count-le, term-le, only-true, only-false, only-zero, only-and}
 use Rattle.rules.proofs.Tree.{Tree, up, chain-none, not-above-itself}
 use Rattle.rules.proofs.Ranks.{rankIn, tree-of}
 use Rattle.rules.proofs.Shape.{Shape, Moved, not-begun-above}
 use Rattle.rules.proofs.Balance.{Balance, Balanced, finished-figure}
 use Rattle.rules.proofs.Finishing.{Taken, finishing-shape, finishing-balance, finishing-total, figure-taken, figure-kept, kept-within}
 use Rattle.rules.proofs.Branches.{dispatch-root, dispatch-child}
-use Rattle.rules.proofs.Sharing.{Climbs, climbs}
-use Rattle.plan.specs.Kept.{front, held, heldWith, unended, readyIn, blockSize, booksIn, Figured, Counted, Blocked}
-use Rattle.plan.specs.Ahead.{Sizes, grown, counting}
-use Rattle.plan.specs.Climb.{Carrying, MayClimb, DidClimb, climbFrom}
+use Rattle.rules.proofs.Sharing.{climbs}
+use Rattle.plan.specs.Kept.{front, held, heldWith, unended, readyIn, blockSize}
+use Rattle.plan.specs.Ahead.{grown, counting}
+use Rattle.plan.specs.Climb.{MayClimb, DidClimb, climbFrom}
 use Rattle.plan.specs.Finish.{kept, fewer, fedBlocks, RoomToFeed, Quiet, MayFinish, DidFinish, sharedFrom}
 use Rattle.plan.proofs.Front.{at-front, front-set, front-length, front-is, quiet-set}
 use Rattle.plan.proofs.Entries.{grown-at, grown-length, counting-at, counting-length, fewer-at, fewer-length, grown-quiet}

@@ -1,15 +1,13 @@
 -- Laws of the front of an array: the entries of the tasks of a plan.
-use mathlib.Core.Path.{_≡_, sym, ap, fun-ext, _∙_}
+use mathlib.Core.Path.{_≡_, sym, fun-ext, _∙_}
 use mathlib.Core.Logic.{⊎-elim}
 use mathlib.Core.List.{List}
-use Prim.Native.Nat.{ℕ, suc, _+_, _≤_, _<_}
+use Prim.Native.Nat.{ℕ, suc, _≤_, _<_}
 use native.Mathlib.Omega.{arith}
 use lib.ListN.{length, set, length-take, List·getD-eq-default}
 use lib.Seq.{getD-take, getD-set-other, take-set-lt, length-take-le}
-use Rattle.rules.specs.Sums.{Task, sumTo}
 use Rattle.rules.specs.Lists.{at}
-use Rattle.rules.specs.Booking.{figure, total}
-use Rattle.rules.proofs.Sums.{sum-cong}
+use Rattle.rules.specs.Booking.{figure}
 use Rattle.rules.proofs.Tree.{figure-cong}
 use Rattle.rules.proofs.Tests.{le-or-lt}
 use Rattle.plan.specs.Kept.{front}
@@ -27,10 +25,6 @@ front-length n l h = length-take-le (suc n) l h
 -- sums over the tasks look at the front only
 pub figure-front : (n : ℕ) (par : ℕ → ℕ) (l : List ℕ) (i : ℕ) → figure n par (at (front n l)) i ≡ figure n par (at l) i
 figure-front n par l i = figure-cong n par (at l) (at (front n l)) i (λ k t. at-front n l k (t .high))
-
-pub total-front : (n : ℕ) (l : List ℕ) → total n (at (front n l)) ≡ total n (at l)
-unfolding total
-total-front n l = sum-cong (at (front n l)) (at l) n (λ k t. at-front n l k (t .high))
 
 -- where nothing stands past the tasks, the front is all there is to look at
 pub front-is : (n : ℕ) (l : List ℕ) → Quiet n l → at (front n l) ≡ at l

@@ -2,17 +2,16 @@
 use mathlib.Core.Path.{_≡_, refl, sym, ap, _∙_}
 use mathlib.Core.Bool.{Bool, true, false, not, _&&_, _||_}
 use mathlib.Core.Logic.{⊎-elim}
-use Prim.Native.Nat.{ℕ, zero, suc, _+_, _-_, _≤_, _<_}
+use Prim.Native.Nat.{ℕ, _+_, _-_, _≤_}
 use native.Mathlib.Omega.{arith}
 use lib.Dec.{eqb}
 use borrow.Author.Tests.{eqb-true, eqb-false, eq-eqb, ne-eqb, not-true}
-use Rattle.rules.specs.Sums.{Task, only, sumTo}
-use Rattle.rules.specs.Lists.{mem}
+use Rattle.rules.specs.Sums.{Task, only}
 use Rattle.rules.specs.Standing.{waiting, activated, running, finished}
-use Rattle.rules.specs.Booking.{chain, figure}
-use Rattle.rules.proofs.Tests.{decide, clash, fails, same-or-not, or-cases, or-none}
+use Rattle.rules.specs.Booking.{figure}
+use Rattle.rules.proofs.Tests.{decide, clash, fails, same-or-not, or-cases}
 use Rattle.rules.proofs.Sums.{sum-cong, only-le, only-and, only-cong, only-add, only-true, only-false, only-zero}
-use Rattle.rules.proofs.Children.{children, children-le, children-cong, children-add, children-change, children-zero, figure-children}
+use Rattle.rules.proofs.Children.{children, children-le, children-cong, children-change, children-zero, figure-children}
 use Rattle.rules.proofs.Tree.{Tree, up, up-self, up-step, up-rank, up-nobody, parent-task, not-above-itself, figure-change}
 use Rattle.rules.proofs.Shape.{Shape, Moved}
 use Rattle.plan.specs.Kept.{held, heldWith}
@@ -310,11 +309,6 @@ module _ (n : ℕ) (par rank : ℕ → ℕ) (tree : Tree n par rank) where
         ne-eqb (st′ c) waiting (λ q. omega arith) ∙ sym (ne-eqb (st c) waiting (λ q. omega arith)))
         (λ d. ap (λ (v : ℕ). eqb v waiting) (moved .elsewhere c t d))
         (same-or-not c j)
-
-    own-figure : figure n par b j ≡ b j
-    own-figure =
-        figure-children n par rank tree b j task
-        ∙ (let z = children-zero n par (λ c. figure n par b c) j below in omega arith)
 
     -- the trays in the air and those that the parent keeps are counted as before, but for those kept
     figure-in-air :

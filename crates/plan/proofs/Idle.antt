@@ -1,17 +1,15 @@
 -- Laws of standings that differ only in who waits and who is booked: nobody starts, nobody ends.
-use mathlib.Core.Path.{_≡_, refl, sym, ap, ap₂, _∙_}
-use mathlib.Core.Bool.{Bool, true, false, not, _&&_}
-use mathlib.Core.Logic.{_⊎_, inl, inr, ⊎-elim}
+use mathlib.Core.Path.{_≡_, sym, ap, ap₂, _∙_}
+use mathlib.Core.Bool.{Bool, not, _&&_}
+use mathlib.Core.Logic.{_⊎_, ⊎-elim}
 use Prim.Native.Nat.{ℕ, _+_, _≤_, _<_}
 use native.Mathlib.Omega.{arith}
 use lib.Dec.{eqb, leb}
 use borrow.Author.Tests.{ne-eqb, lt-leb}
-use Rattle.rules.specs.Sums.{Task, only, sumTo, countTo}
-use Rattle.rules.specs.Lists.{at}
+use Rattle.rules.specs.Sums.{Task, only, countTo}
 use Rattle.rules.specs.Need.{need, inUse}
-use Rattle.rules.specs.Standing.{waiting, activated, running, finished, count}
+use Rattle.rules.specs.Standing.{activated, running, finished, count}
 use Rattle.rules.proofs.Sums.{sum-cong}
-use Rattle.rules.proofs.Children.{children-cong}
 use Rattle.rules.proofs.Peaks.{resident-cong}
 use Rattle.rules.proofs.Usage.{hasEnded, hasBegun}
 use Rattle.plan.proofs.Using.{usedBy}

@@ -69,19 +69,13 @@ module _ (p : Plan) (sound : Sound p) (day : Phase.running ≤ p .phase) where
   pub standings-meant : at (meaning p .standings) ≡ at (p .standings)
   standings-meant = ap at standings-front ∙ front-is (p .size) (p .standings) (sound .day day .standings-quiet)
 
-  pub booked-meant : at (meaning p .memory .booked) ≡ at (p .booked)
-  booked-meant = ap at booked-front ∙ front-is (p .size) (p .booked) (sound .day day .booked-quiet)
-
   -- the needs are those that were weighed
   pub needs-meant : needs (meaning p) ≡ at (p .needs)
   needs-meant = needs-columns p sound ∙ sym (fun-ext (sound .day day .needed))
 
-  -- both orders are whole
+  -- the activation order is whole
   pub activation-meant : meaning p .activation ≡ take (p .size) (p .activation)
   activation-meant = ap (λ (k : ℕ). take k (p .activation)) (sound .day day .ranked-all)
-
-  pub execution-meant : meaning p .execution ≡ take (p .size) (p .execution)
-  execution-meant = ap (λ (k : ℕ). take k (p .execution)) (sound .day day .placed-all)
 
 -- a plan in its day that commands led to
 module _ (p : Plan) (led : Led p) (day : Phase.running ≤ p .phase) where

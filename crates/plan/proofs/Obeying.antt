@@ -1,5 +1,5 @@
 -- Laws of a whole command in code: a refusal leaves the very plan, and one that starts nothing leaves what the rules say.
-use mathlib.Core.Path.{_≡_, refl, sym, ap, subst, _∙_}
+use mathlib.Core.Path.{_≡_, refl, sym, ap, _∙_}
 use mathlib.Core.List.{List}
 use Prim.Native.Nat.{ℕ}
 use Rattle.rules.specs.Command as rules
@@ -7,9 +7,9 @@ use Rattle.rules.specs.Grounds.{ground}
 use Rattle.rules.specs.Obey.{Outcome, plain, obey}
 use Rattle.rules.specs.Answer as answers
 use Rattle.rules.proofs.Judging.{judge-refused, judge-accepted}
-use Rattle.plan.specs.Meaning.{Plan, Answer, Answered, meaning, answerOf, answeredOf}
+use Rattle.plan.specs.Meaning.{Plan, Answer, Answered, meaning, answeredOf}
 use Rattle.plan.specs.Sound.{Sound}
-use Rattle.plan.specs.Led.{Judged, Obeyed}
+use Rattle.plan.specs.Led.{Obeyed}
 
 -- the answer of a refusal, and of a command that starts nothing
 abbrev pub refused : ℕ → Answer

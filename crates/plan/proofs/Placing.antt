@@ -3,15 +3,13 @@ use mathlib.Core.Path.{_≡_, sym, ap, _∙_}
 use mathlib.Core.Bool.{true, false}
 use mathlib.Core.Logic.{⊎-elim}
 use mathlib.Core.List.{List, [], _∷_, _++_}
-use Prim.Native.Nat.{ℕ, suc, _+_, _≤_, _<_}
+use Prim.Native.Nat.{ℕ, _+_, _≤_, _<_}
 use native.Mathlib.Numerals.{add-one}
 use native.Mathlib.Omega.{arith}
 use lib.Dec.{eqb}
 use lib.ListN.{length, take, set, length-take, List·getD-eq-default}
 use lib.Seq.{getD-take, getD-set-same, getD-set-other, take-suc-set}
 use borrow.Author.Tests.{eq-eqb, ne-eqb}
-use Rattle.rules.specs.Limits.{maxTasks}
-use Rattle.rules.specs.Sums.{Task}
 use Rattle.rules.specs.Lists.{at, mem}
 use Rattle.rules.proofs.Tests.{clash, fails, same-or-not, le-or-lt}
 use Rattle.rules.proofs.Orders.{mem-at, place, place-lt, place-at}
@@ -79,21 +77,3 @@ module _ (order places : List ℕ) (count i : ℕ) (more : count < length order)
       let other : at order e ≡ i → ⊥ = λ same. clash (rw same at stands) new in
       ap (at (set places i count)) entry ∙ getD-set-other places i (at order e) count 0 other ∙ noted e (omega arith))
       (same-or-not e count)
-
--- so any task can be looked for in the longer order
-pub append-sought :
-    (order places : List ℕ) (count i task : ℕ)
-    → Sought order places count i
-    → count < maxTasks
-    → length order ≡ maxTasks
-    → length places ≡ suc maxTasks
-    → mem i (take count order) ≡ false
-    → Task maxTasks task
-    → Sought (set order count i) (set places i count) (count + 1) task
-append-sought order places count i task sought room long wide new t =
-    let within = sought .within in
-    record {
-      few = omega arith;
-      within = t;
-      noted = append-noted order places count i (omega arith) (omega arith) new (sought .noted);
-    }

@@ -1,18 +1,17 @@
 -- Booking ahead and starting, the end of BEGIN and of DONE, said of the plan: the answer, the plan and the start list are those of
 -- the rules, and the plan stays sound.
-use mathlib.Core.Path.{_≡_, refl, sym, ap, ap₂, fun-ext, _∙_}
+use mathlib.Core.Path.{_≡_, sym, ap, ap₂, fun-ext, _∙_}
 use mathlib.Core.List.{List}
-use Prim.Native.Nat.{ℕ, suc, _+_, _≤_, _<_}
+use Prim.Native.Nat.{ℕ, _≤_}
 use native.Mathlib.Omega.{arith}
 use lib.ListN.{length, take}
 use Rattle.rules.specs.Lists.{at}
-use Rattle.rules.specs.Need.{need}
 use Rattle.rules.specs.Phase
-use Rattle.rules.specs.State.{State, needs}
+use Rattle.rules.specs.State.{needs}
 use Rattle.rules.specs.Booking.{Books, activate, starts, start, free}
-use Rattle.rules.specs.Obey.{Outcome, withBooks, ahead, begun, proceed}
+use Rattle.rules.specs.Obey.{withBooks, ahead, begun, proceed}
 use Rattle.rules.specs.Answer as rules
-use Rattle.plan.specs.Meaning.{Plan, Answered, meaning, answeredOf}
+use Rattle.plan.specs.Meaning.{Plan, meaning, answeredOf}
 use Rattle.plan.specs.Kept.{Numbers, front, booksIn}
 use Rattle.plan.specs.Advance.{MayAdvance, DidAdvance, bookedAhead, startsThen}
 use Rattle.plan.specs.Sound.{InHand, Sound}

@@ -1,6 +1,6 @@
 -- Laws of the counts of ready tasks by block.
-use mathlib.Core.Path.{_≡_, sym, ap, _∙_}
-use mathlib.Core.Bool.{Bool, true, false, _&&_}
+use mathlib.Core.Path.{_≡_, ap, _∙_}
+use mathlib.Core.Bool.{Bool, false, _&&_}
 use Prim.Native.Nat.{ℕ, _+_, _/_, _≤_}
 use native.Mathlib.Omega.{arith}
 use lib.Dec.{eqb}
@@ -8,7 +8,7 @@ use Rattle.rules.specs.Sums.{Task, only, countTo}
 use Rattle.rules.specs.Lists.{at}
 use Rattle.rules.specs.Standing.{activated}
 use Rattle.rules.specs.Booking.{ready, fed}
-use Rattle.rules.proofs.Sums.{sum-change, sum-cong, only-and, only-zero, only-true, only-false}
+use Rattle.rules.proofs.Sums.{sum-change, sum-cong, only-and, only-zero}
 use mathlib.Core.List.{List}
 use Rattle.plan.specs.Kept.{front, readyIn, blockSize}
 

@@ -3,12 +3,12 @@ use mathlib.Core.Path.{_≡_, refl, sym, ap, ap₂, subst, fun-ext, _∙_}
 use mathlib.Core.Bool.{Bool, true, false, cond, not}
 use mathlib.Core.Logic.{⊎-elim}
 use mathlib.Core.List.{List}
-use Prim.Native.Nat.{ℕ, suc, _+_, _-_, _^_, _≤_, _<_}
+use Prim.Native.Nat.{ℕ, suc, _+_, _-_, _≤_, _<_}
 use native.Mathlib.Omega.{arith}
-use lib.Dec.{eqb, leb}
-use lib.ListN.{length, take, set, length-set}
-use borrow.Author.Tests.{eqb-true, eq-eqb, ne-eqb}
-use Rattle.rules.specs.Sums.{Task, only, countTo}
+use lib.Dec.{eqb}
+use lib.ListN.{length, take, set}
+use borrow.Author.Tests.{eq-eqb, ne-eqb}
+use Rattle.rules.specs.Sums.{Task}
 use Rattle.rules.specs.Lists.{at}
 use Rattle.rules.specs.Limits.{leastStarts}
 use Rattle.rules.specs.Need.{need}
@@ -18,7 +18,7 @@ use Rattle.rules.specs.Command.{done}
 use Rattle.rules.specs.Grounds.{within, demand, inTurn, inLimits, ownGround, ground}
 use Rattle.rules.specs.Obey.{endedStandings, shared, ended, phaseAfter, proceed, obey}
 use Rattle.rules.specs.Answer.{accept}
-use Rattle.rules.specs.Standing.{waiting, activated, running, finished, count}
+use Rattle.rules.specs.Standing.{activated, running, finished, count}
 use Rattle.rules.specs.Booking.{Books, Climbed, total, dispatch}
 use Rattle.rules.proofs.Tests.{same-or-not, le-or-lt}
 use Rattle.rules.proofs.Sums.{count-le, only-le}
@@ -34,13 +34,13 @@ use Rattle.rules.proofs.Sharing.{sharing-good}
 use Rattle.rules.proofs.Reporting.{one-fewer}
 use Rattle.rules.proofs.Judging.{judge-accepted, ground-own}
 use Rattle.plan.specs.Meaning.{Plan, meaning}
-use Rattle.plan.specs.Kept.{Numbers, front, booksIn, Reached, Kept, Going}
-use Rattle.plan.specs.Finish.{Quiet, kept, MayFinish, DidFinish, sharedFrom}
+use Rattle.plan.specs.Kept.{Numbers, front, booksIn, Reached, Going}
+use Rattle.plan.specs.Finish.{kept, MayFinish, DidFinish, sharedFrom}
 use Rattle.plan.specs.Advance.{MayAdvance, DidAdvance, bookedAhead, startsThen}
-use Rattle.plan.specs.Sound.{InHand, Sound, numbersOf}
+use Rattle.plan.specs.Sound.{InHand}
 use Rattle.plan.specs.Led.{Led, Judged}
 use Rattle.plan.specs.InDay.{inDay}
-use Rattle.plan.proofs.Front.{at-front, front-set, front-is, front-length, quiet-set}
+use Rattle.plan.proofs.Front.{at-front, front-set, front-is, quiet-set}
 use Rattle.plan.proofs.Using.{usedBy, used-holds, used-ended}
 use Rattle.plan.proofs.Advancing.{place-small}
 use Rattle.plan.proofs.Meant.{parents-meant, outs-meant, standings-front, booked-front, needs-meant, still-going, staffed}

@@ -3,7 +3,6 @@ use mathlib.Core.Path.{_≡_, refl, sym, ap, subst, _∙_}
 use mathlib.Core.Bool.{Bool, cond}
 use mathlib.Core.List.{List}
 use Prim.Native.Nat.{ℕ, _≤_, _<_}
-use lib.Dec.{ltb}
 use lib.ListN.{length}
 use borrow.Author.Tests.{lt-ltb, le-ltb}
 use Rattle.rules.specs.Limits.{leastStarts}
@@ -93,6 +92,14 @@ pub no-start :
     → Obeyed p c used r
     → Responded p (read c used) list r list
 no-start list led room o = a-start led room (o list)
+
+-- what is answered to a decoded command is answered to what it was decoded from
+pub read-as :
+    {p : Plan} {d d′ : Decoded} {list list′ : List ℕ} {r : Answered}
+    → Responded p d list r list′
+    → d ≡ d′
+    → Responded p d′ list r list′
+read-as {p = p} {list = list} {list′ = list′} {r = r} h e = subst (λ (d : Decoded). Responded p d list r list′) e h
 
 -- what was decoded, as the match on it found
 pub as-refused :

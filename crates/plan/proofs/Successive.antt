@@ -1,16 +1,16 @@
 -- Reports one after another: what is done so far, followed by what the rest gives, is what all give.
 use mathlib.Core.Path.{_≡_, refl, sym, ap, ap₂, subst, _∙_}
 use mathlib.Core.List.{List, [], _∷_, _++_, flatMap, append-nil, append-assoc}
-use Prim.Native.Nat.{ℕ, zero, suc, _+_, _-_, _*_, _^_, _≤_, _<_}
+use Prim.Native.Nat.{ℕ, suc, _+_, _-_, _*_, _^_, _≤_, _<_}
 use native.Mathlib.Omega.{arith}
 use borrow.Author.Tests.{le-ltb}
 use native.Mathlib.Numerals.{add-one}
-use lib.ListN.{length, take, drop, take-append-drop, length-take, length-drop}
+use lib.ListN.{length, take, drop, take-append-drop, length-drop}
 use lib.Seq.{drop-cons, drop-drop, getD-take, length-take-le, drop-length}
 use Rattle.rules.specs.Lists.{at}
 use Rattle.rules.specs.Limits.{leastStarts}
 use Rattle.rules.specs.State.{State}
-use Rattle.rules.specs.Command.{Decoded, done, little, bytes, decode, read}
+use Rattle.rules.specs.Command.{Decoded, done, little, bytes}
 use Rattle.rules.specs.Answer as rules
 use Rattle.rules.specs.Day as day
 use Rattle.rules.proofs.Bytes.{decode-bytes}

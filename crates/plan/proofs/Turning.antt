@@ -1,22 +1,22 @@
 -- Booking ahead, one turn after the other: what holds between two turns, and what a booked task leaves.
 use mathlib.Core.Path.{_≡_, refl, sym, ap, ap₂, subst, _∙_}
-use mathlib.Core.Bool.{Bool, true, false, not, cond, _&&_}
+use mathlib.Core.Bool.{Bool, true, _&&_}
 use mathlib.Core.Logic.{⊎-elim}
 use mathlib.Core.List.{List, [], _∷_, _++_}
-use Prim.Native.Nat.{ℕ, zero, suc, _+_, _-_, _/_, _^_, _≤_, _<_}
+use Prim.Native.Nat.{ℕ, zero, suc, _+_, _-_, _/_, _≤_, _<_}
 use native.Mathlib.Omega.{arith}
 use native.Mathlib.Numerals.{add-one}
-use lib.Dec.{eqb, leb}
+use lib.Dec.{eqb}
 use lib.ListN.{length, take, drop, set, length-set, take-append-drop}
 use lib.Seq.{getD-set-same, getD-set-other, drop-cons, drop-length, getD-take, length-take-le}
-use borrow.Author.Tests.{eqb-true, eq-eqb, ne-eqb, le-leb, lt-leb}
-use Rattle.rules.specs.Sums.{Task, only, sumTo}
-use Rattle.rules.specs.Lists.{at, mem}
+use borrow.Author.Tests.{eq-eqb, ne-eqb, le-leb, lt-leb}
+use Rattle.rules.specs.Sums.{Task, only}
+use Rattle.rules.specs.Lists.{at}
 use Rattle.rules.specs.Grounds.{within}
-use Rattle.rules.specs.Standing.{waiting, activated, running, finished}
-use Rattle.rules.specs.Booking.{Books, figure, total, lacks, missing, allows, book, activate, ready, fed}
-use Rattle.rules.proofs.Tests.{decide, same-or-not}
-use Rattle.rules.proofs.Sums.{term-le, sum-change, count-le, only-true, only-false}
+use Rattle.rules.specs.Standing.{waiting, activated, finished}
+use Rattle.rules.specs.Booking.{Books, total, lacks, missing, allows, book, activate, ready, fed}
+use Rattle.rules.proofs.Tests.{same-or-not}
+use Rattle.rules.proofs.Sums.{term-le, sum-change, count-le, only-true}
 use Rattle.rules.proofs.Orders.{within-task, every-mem, mem-at, place-lt, place-at, place-of}
 use Rattle.rules.proofs.Ranks.{rankIn, tree-of, in-front}
 use Rattle.rules.proofs.Tree.{Tree, parent-task}
@@ -25,8 +25,8 @@ use Rattle.rules.proofs.Balance.{missing-is}
 use Rattle.rules.proofs.Good.{Good, moved-by-set}
 use Rattle.rules.proofs.Ahead.{FirstWaiting, book-good}
 use Rattle.rules.proofs.Branches.{activate-pass, activate-book, activate-stop}
-use Rattle.plan.specs.Kept.{front, held, booksIn, Figured, Counted, Blocked, Reached, Going, readyIn, unended, blockSize}
-use Rattle.plan.specs.Ahead.{Sizes, grown, counting, figuresWith, RoomToBook, BookedOne, MayBook, DidBook}
+use Rattle.plan.specs.Kept.{front, held, booksIn, Figured, Counted, Blocked, Reached, Going, readyIn, blockSize}
+use Rattle.plan.specs.Ahead.{Sizes, counting, figuresWith, RoomToBook, BookedOne, MayBook, DidBook}
 use Rattle.plan.proofs.Front.{at-front, front-set, front-length}
 use Rattle.plan.proofs.Held.{held-figure, held-le-figure, held-booked}
 use Rattle.plan.proofs.Entries.{set-more, grown-at, grown-length, counting-at, counting-length}

@@ -2,15 +2,15 @@
 use mathlib.Core.Path.{_≡_, refl, sym, ap, ap₂, _∙_}
 use mathlib.Core.Bool.{Bool, true, false, not, _&&_}
 use mathlib.Core.Logic.{⊎-elim}
-use Prim.Native.Nat.{ℕ, zero, suc, _+_, _-_, _≤_, _<_}
+use Prim.Native.Nat.{ℕ, _+_, _-_, _≤_}
 use native.Mathlib.Omega.{arith}
 use lib.Dec.{eqb, leb}
-use borrow.Author.Tests.{eqb-true, eq-eqb, ne-eqb, le-leb, lt-leb}
+use borrow.Author.Tests.{eq-eqb, ne-eqb, le-leb, lt-leb}
 use Rattle.rules.specs.Sums.{Task, only, sumTo}
-use Rattle.rules.specs.Need.{childrenOut, need, resident, inUse}
-use Rattle.rules.specs.Standing.{waiting, activated, running, finished}
+use Rattle.rules.specs.Need.{need, inUse}
+use Rattle.rules.specs.Standing.{activated, running, finished}
 use Rattle.rules.proofs.Tests.{same-or-not, eqb-sym}
-use Rattle.rules.proofs.Sums.{sum-cong, term-le, sum-add, sum-change, sum-single, sum-zero, only-true, only-false, only-add, only-swap, only-zero}
+use Rattle.rules.proofs.Sums.{sum-cong, term-le, sum-add, sum-change, sum-single, sum-zero, only-true, only-false, only-add, only-zero}
 use Rattle.rules.proofs.Children.{children, children-out, children-cong, children-change, resident-by-parent}
 use Rattle.rules.proofs.Shape.{Moved}
 use Rattle.rules.proofs.Usage.{hasEnded, hasBegun}

@@ -1,6 +1,6 @@
 -- The climb, one turn after the other: what holds between two turns, and what each of the three stops leaves.
 use mathlib.Core.Path.{_≡_, refl, sym, ap, subst, _∙_}
-use mathlib.Core.Bool.{Bool, true, false, _||_}
+use mathlib.Core.Bool.{Bool, true, _||_}
 use mathlib.Core.Logic.{⊎-elim}
 use mathlib.Core.List.{List, [], _∷_}
 use Prim.Native.Nat.{ℕ, zero, suc, _+_, _-_, _^_, _≤_, _<_}
@@ -9,14 +9,14 @@ use lib.Dec.{eqb}
 use lib.ListN.{length, set, length-set}
 use lib.Seq.{getD-set-same, getD-set-other}
 use borrow.Author.Tests.{eq-eqb, ne-eqb}
-use Rattle.rules.specs.Sums.{Task, only, sumTo}
-use Rattle.rules.specs.Lists.{at, mem}
-use Rattle.rules.specs.Standing.{waiting, activated}
+use Rattle.rules.specs.Sums.{Task, only}
+use Rattle.rules.specs.Lists.{at}
+use Rattle.rules.specs.Standing.{waiting}
 use Rattle.rules.specs.Booking.{Climbed, chain, figure, total, offer, gift, climb}
 use Rattle.rules.proofs.Tests.{same-or-not, or-left, or-right}
 use Rattle.rules.proofs.Sums.{sum-le, term-le, only-le, only-true, only-false}
-use Rattle.rules.proofs.Tree.{Tree, up, up-self, up-step, chain-none, chain-more, chain-step}
-use Rattle.rules.proofs.Shape.{Shape, child-not-waiting}
+use Rattle.rules.proofs.Tree.{up, up-self, up-step, chain-none, chain-more, chain-step}
+use Rattle.rules.proofs.Shape.{child-not-waiting}
 use Rattle.rules.proofs.Balance.{Active, Balance}
 use Rattle.rules.proofs.Giving.{Given}
 use Rattle.rules.proofs.Climbing.{gift-within, offer-balance, offer-total}

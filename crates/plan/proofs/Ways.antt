@@ -1,19 +1,17 @@
 -- Every way to a plan: what commands and reports in place leave is what the rules leave, so that the theorem of the rules speaks of it.
 use mathlib.Core.Path.{_≡_, sym, ap, subst, _∙_}
-use mathlib.Core.Bool.{true, false}
 use mathlib.Core.List.{List, [], _∷_, _++_}
-use Prim.Native.Nat.{ℕ, _*_}
+use Prim.Native.Nat.{_*_}
 use lib.ListN.{take, drop}
 use Rattle.rules.specs.State.{State, none}
 use Rattle.rules.specs.Answer as rules
-use Rattle.rules.specs.Day.{Event, after, log}
+use Rattle.rules.specs.Day.{after, log}
 use Rattle.rules.specs.Theorem.{DayHolds}
 use Rattle.rules.proofs.Theorem.{after-append, theorem}
-use Rattle.plan.specs.Meaning.{Plan, meaning, answeredOf}
+use Rattle.plan.specs.Meaning.{Plan, meaning}
 use Rattle.plan.specs.Led.{Led}
-use Rattle.plan.specs.Calls.{Call, Ensured}
-use Rattle.plan.specs.Reports.{Ran, reports, listsOf, rowsOf}
-use Rattle.plan.specs.Ways.{Came, new, called, ran, CameHolds, EveryWayHolds}
+use Rattle.plan.specs.Reports.{reports, listsOf, rowsOf}
+use Rattle.plan.specs.Ways.{Came, new, called, ran, EveryWayHolds}
 use Rattle.plan.proofs.Demand.{call-is, state-is, answers-hold}
 
 -- what they leave

@@ -72,14 +72,6 @@ need-most n parents works outs sized i t =
     let small = sized .small in
     omega arith
 
-pub need-fits :
-    (n : ℕ) (parents works outs : List ℕ)
-    → Sized n parents works outs
-    → (i : ℕ)
-    → Task n i
-    → need n (at parents) (at works) (at outs) i < 2 ^ 32
-need-fits n parents works outs sized i t = omega (arith, need-most n parents works outs sized i t)
-
 -- what task c adds to the need of i: its out where it is a child, its work and its out where it is i
 abbrev pub adds : (par work out : ℕ → ℕ) → ℕ → ℕ → ℕ
 adds par work out i c = only (eqb c i) (work c + out c) + only (eqb (par c) i) (out c)

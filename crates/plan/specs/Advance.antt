@@ -1,9 +1,8 @@
 -- Booking ahead and starting, the end of BEGIN and of DONE: what they ask and promise of the arrays.
 use mathlib.Core.Path.{_≡_}
 use mathlib.Core.List.{List}
-use Prim.Native.Nat.{ℕ, _≤_, _<_}
+use Prim.Native.Nat.{ℕ, _≤_}
 use lib.ListN.{length, take}
-use Rattle.rules.specs.Sums.{Task}
 use Rattle.rules.specs.Lists.{at}
 use Rattle.rules.specs.Need.{need}
 use Rattle.rules.specs.Limits.{maxProcessors, leastStarts}

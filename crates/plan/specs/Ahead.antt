@@ -1,8 +1,8 @@
 -- What booking ahead asks and promises of the arrays.
 use mathlib.Core.Path.{_≡_}
-use mathlib.Core.Bool.{Bool, cond}
+use mathlib.Core.Bool.{cond}
 use mathlib.Core.List.{List}
-use Prim.Native.Nat.{ℕ, _+_, _/_, _^_, _≤_, _<_}
+use Prim.Native.Nat.{ℕ, _+_, _/_, _^_, _<_}
 use lib.Dec.{eqb}
 use lib.ListN.{length, take, set}
 use Rattle.rules.specs.Sums.{Task}

@@ -1,5 +1,4 @@
 -- The empty plan of the code.
-use Prim.Native.Nat.{ℕ}
 use lib.ListN.{replicate}
 use Rattle.rules.specs.Phase
 use Rattle.plan.specs.Meaning.{Plan}

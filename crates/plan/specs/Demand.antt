@@ -3,13 +3,13 @@ use mathlib.Core.Path.{_≡_}
 use mathlib.Core.Bool.{true, false}
 use mathlib.Core.Logic.{_↔_}
 use mathlib.Core.List.{List, _∷_, _++_}
-use Prim.Native.Nat.{ℕ, _≤_, _<_}
+use Prim.Native.Nat.{_≤_, _<_}
 use lib.ListN.{length}
 use Rattle.rules.specs.Sums.{countTo}
 use Rattle.rules.specs.Lists.{at}
 use Rattle.rules.specs.Phase
 use Rattle.rules.specs.Standing
-use Rattle.rules.specs.State.{State, none}
+use Rattle.rules.specs.State.{none}
 use Rattle.rules.specs.Question as questions
 use Rattle.rules.specs.Day.{Event, ends, after, answers}
 use Rattle.rules.specs.Theorem.{DayHolds, SamePlan, runs, usedBy}

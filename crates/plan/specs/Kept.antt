@@ -1,7 +1,7 @@
 -- The figures that the code keeps beside the plan, each tied to its definition in the rules. par, work and out are the plan's, st and
 -- b the standings and the booked trays of its tasks.
 use mathlib.Core.Path.{_≡_}
-use mathlib.Core.Bool.{Bool, true, not, _&&_}
+use mathlib.Core.Bool.{true, not, _&&_}
 use mathlib.Core.List.{List}
 use Prim.Native.Nat.{ℕ, suc, _+_, _/_, _^_, _≤_, _<_}
 use lib.Dec.{eqb, leb}

@@ -74,13 +74,6 @@ after-acceptance {r = r} offset h accepted w =
       kept = λ no. absurd (no refl);
     }
 
--- what the bytes are answered is answered to what was decoded from them
-pub served : {p : Plan} {d d′ : Decoded} {list list′ : List ℕ} {r : Answered}
-    → d ≡ d′
-    → Responded p d′ list r list′
-    → Responded p d list r list′
-served told responded = rw told responded
-
 module _ (p : Plan) (a : rules.Asking) (offset : ℕ) (isLast : Bool) {d : Decoded} (told : d ≡ decode (a .stream) (a .place)) where
   -- the turn is to wait, to stop, or to ask the command
   pub waiting : (buffer : List ℕ) {awaited : Bool} {r : Turned}

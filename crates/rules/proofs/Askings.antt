@@ -40,7 +40,7 @@ obey-few s begin h = proceed-few s _ _ _ _ h
 obey-few s (done j) h = proceed-few s _ _ _ _ h
 
 -- starts that fit leave a list as long as it was
-front-long : (l list : List ℕ) → length l ≤ length list → length (front l list) ≡ length list
+pub front-long : (l list : List ℕ) → length l ≤ length list → length (front l list) ≡ length list
 unfolding front
 front-long l list h = simp (length-append, length-drop) (omega arith)
 

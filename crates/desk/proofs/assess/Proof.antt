@@ -1,5 +1,4 @@
 -- `assess` meets its contract.
-use mathlib.Core.Path.{_≡_, refl, sym, _∙_}
 use borrow.Author.Needs.{needs}
 use borrow.Author.Tests.{eq-eqb, ne-eqb}
 use Rattle.desk.specs.Assessed.{assessed}

@@ -1,6 +1,8 @@
 -- `printing::turn` meets its contract: each way leaves what the turn of the rules leaves.
+use mathlib.Core.Path.{sym}
 use borrow.Author.Needs.{needs}
-use Rattle.printing.proofs.Taking.{waiting, ending, served, refusing, accepting}
+use Rattle.plan.proofs.Responding.{read-as}
+use Rattle.printing.proofs.Taking.{waiting, ending, refusing, accepting}
 use Rattle.printing.proofs.turn.Statement.{statement}
 use Rattle.printing.proofs.turn.Tie as tie
 
@@ -29,7 +31,7 @@ returns-3 c =
     let more = asked .before .before in
     let awaited = more .before .before in
     refusing _ _ _ _ (awaited .before .next-at .ensures) (awaited .is-awaited .ensures) (more .before .if1 .left) (more .if2 .left)
-    (served (awaited .before .next-at .ensures) (asked .serve .ensures)) (test .if3 .taken) (line .refused-line .ensures)
+    (read-as (asked .serve .ensures) (sym (awaited .before .next-at .ensures))) (test .if3 .taken) (line .refused-line .ensures)
 
 -- the command is accepted
 returns-4 : tie.Need-returns-4
@@ -40,7 +42,7 @@ returns-4 c =
     let more = asked .before .before in
     let awaited = more .before .before in
     accepting _ _ _ _ (awaited .before .next-at .ensures) (awaited .is-awaited .ensures) (more .before .if1 .left) (more .if2 .left)
-    (served (awaited .before .next-at .ensures) (asked .serve .ensures)) (test .if3 .left) (line .accepted-line .ensures)
+    (read-as (asked .serve .ensures) (sym (awaited .before .next-at .ensures))) (test .if3 .left) (line .accepted-line .ensures)
 
 pub turn-spec : {M : Type 1} → statement M
 turn-spec =

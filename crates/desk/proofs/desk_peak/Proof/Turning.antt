@@ -39,7 +39,7 @@ use package.mir.Syntax.{
   offset,
   cast,
 }
-use package.mir.Val.{Val, vint, vptr}
+use package.mir.Val.{Val, vptr}
 use base.Logic.{SProp}
 use base.Fml.{Lft, GName, Share, fat}
 use prog.Memory.{Memory}

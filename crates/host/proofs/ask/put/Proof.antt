@@ -1,9 +1,8 @@
 -- `host::put` meets its contract. The loop's invariant: the first i numbers are put.
 use mathlib.Core.Path.{_≡_, refl, ap, _∙_}
 use mathlib.Core.List.{_++_}
-use Prim.Native.Nat.{ℕ, _-_, _≤_}
+use Prim.Native.Nat.{_-_, _≤_}
 use native.Mathlib.Omega.{arith}
-use borrow.Author.Needs.{needs}
 use lib.ListN.{length, take, drop, getD, set, length-set}
 use Rattle.host.proofs.Parts.{grows, whole}
 use Rattle.host.proofs.ask.put.Statement.{statement}

@@ -3,7 +3,6 @@ use borrow.Author.Needs.{needs}
 use Rattle.plan.proofs.Advancing.{may-book, can-start, advanced}
 use Rattle.plan.proofs.advance.advance.Statement.{statement}
 use Rattle.plan.proofs.advance.advance.Tie as tie
-use Rattle.plan.proofs.advance.advance.Lts as lts
 
 book-ahead-requires : tie.Need-book-ahead-requires
 book-ahead-requires c κs = may-book (c .before .before .before .before .before .pre)

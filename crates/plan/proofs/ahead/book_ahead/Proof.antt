@@ -1,13 +1,12 @@
 -- `ahead::book_ahead` meets its contract: between two turns what is still to come is booking ahead along the rest of the order.
 use mathlib.Core.Path.{_≡_, refl}
-use Prim.Native.Nat.{ℕ, _-_, _<_}
+use Prim.Native.Nat.{_-_, _<_}
 use native.Mathlib.Omega.{arith}
 use lib.ListN.{take}
 use lib.Seq.{getD-take}
 use Rattle.rules.specs.Lists.{at}
 use Rattle.rules.specs.Booking.{activate}
 use Rattle.plan.specs.Kept.{booksIn}
-use Rattle.plan.specs.Ahead.{RoomToBook, BookedOne}
 use Rattle.plan.proofs.Turning.{
   Turning,
   turning-first,
@@ -19,10 +18,6 @@ use Rattle.plan.proofs.Turning.{
 }
 use Rattle.plan.proofs.ahead.book_ahead.Statement.{statement}
 use Rattle.plan.proofs.ahead.book_ahead.Tie as tie
-use Rattle.plan.proofs.ahead.book_ahead.Reads as reads
-use Rattle.plan.proofs.ahead.book_ahead.Lts as lts
-use Rattle.plan.proofs.ahead.book.Reads as book-reads
-use Rattle.plan.proofs.climb.lack.Reads as lack-reads
 
 abbrev Inv-loop : tie.InvT-loop
 Inv-loop n bound parents needs activation places unfed booked₀ figures₀ standings₀ blocks₀ numbers next₀ total₀ booked figures standings blocks next total =

@@ -1,7 +1,6 @@
 -- `begin::begin` meets its contract: BEGIN of the rules.
 use mathlib.Core.Path.{_≡_, sym, _∙_}
 use mathlib.Core.Bool.{true, false}
-use Prim.Native.Nat.{ℕ}
 use native.Mathlib.Omega.{arith}
 use lib.Dec.{eqb}
 use lib.ListN.{length}
@@ -27,7 +26,6 @@ use Rattle.plan.proofs.Beginning.{
 }
 use Rattle.plan.proofs.begin.begin.Statement.{statement}
 use Rattle.plan.proofs.begin.begin.Tie as tie
-use Rattle.plan.proofs.begin.begin.Lts as lts
 
 refused-requires : tie.Need-refused-requires
 refused-requires c κs = tt

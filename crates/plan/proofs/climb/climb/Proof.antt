@@ -21,9 +21,6 @@ use Rattle.plan.proofs.Way.{
 }
 use Rattle.plan.proofs.climb.climb.Statement.{statement}
 use Rattle.plan.proofs.climb.climb.Tie as tie
-use Rattle.plan.proofs.climb.climb.Reads as reads
-use Rattle.plan.proofs.climb.climb.Lts as lts
-use Rattle.plan.proofs.climb.lack.Reads as lack-reads
 
 abbrev Inv-loop : tie.InvT-loop
 Inv-loop n parents needs standings booked₀ figures₀ below rest i₀ left₀ offers₀ booked figures i left offers =

@@ -1,5 +1,4 @@
 -- `finish::feed` meets its contract: nothing for nobody, one child fewer, and one ready task more where the parent is booked.
-use mathlib.Core.Path.{refl}
 use native.Mathlib.Omega.{arith}
 use borrow.Author.Needs.{needs}
 use borrow.Author.Tests.{eq-eqb, ne-eqb}

@@ -3,7 +3,6 @@ use borrow.Author.Needs.{needs}
 use Rattle.plan.proofs.Responding.{short-list, not-a-command, a-start, no-start, as-refused, as-read}
 use Rattle.plan.proofs.obey.command.Statement.{statement}
 use Rattle.plan.proofs.obey.command.Tie as tie
-use Rattle.plan.proofs.obey.command.Lts as lts
 
 -- the start list is too short
 returns : tie.Need-returns

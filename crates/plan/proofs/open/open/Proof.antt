@@ -1,5 +1,5 @@
 -- `plan::open::open` meets its contract: each way out knows its ground, and the plan that is opened is the new one of the rules.
-use mathlib.Core.Path.{refl, sym, ap, subst, _∙_}
+use mathlib.Core.Path.{sym, ap, subst, _∙_}
 use native.Mathlib.Omega.{arith}
 use borrow.Author.Needs.{needs}
 use borrow.Author.Tests.{not-true, not-false}

@@ -1,5 +1,5 @@
 -- `plan::order::rank` meets its contract: the ground is that of the rules, and the task that is written is the next of the order.
-use mathlib.Core.Path.{refl, _∙_}
+use mathlib.Core.Path.{_∙_}
 use native.Mathlib.Omega.{arith}
 use borrow.Author.Needs.{needs}
 use Rattle.plan.proofs.Obeying.{refusal, acceptance}

@@ -2,7 +2,6 @@
 use borrow.Author.Needs.{needs}
 use Rattle.plan.proofs.report.report.Statement.{statement}
 use Rattle.plan.proofs.report.report.Tie as tie
-use Rattle.plan.proofs.report.report.Lts as lts
 
 settle-requires : tie.Need-settle-requires
 settle-requires c κs =

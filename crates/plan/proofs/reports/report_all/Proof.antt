@@ -1,31 +1,20 @@
 -- `reports::report_all` meets its contract. The loop's invariant: what is done so far, followed by what the rest gives, is what all give.
-use mathlib.Core.Path.{_≡_, sym, ap, _∙_}
-use mathlib.Core.List.{List}
-use Prim.Native.Nat.{ℕ, _+_, _-_, _*_, _≤_, _<_, _^_, min}
+use mathlib.Core.Path.{_≡_, ap, _∙_}
+use Prim.Native.Nat.{_+_, _-_, _*_, _<_, _^_, min}
 use native.Mathlib.Omega.{arith}
 use borrow.Author.Needs.{needs}
-use lib.ListN.{length, take, drop}
-use lib.Seq.{length-take-le, getD-take}
+use lib.ListN.{length, take}
 use Rattle.rules.specs.Limits.{leastStarts}
-use Rattle.plan.specs.Meaning.{Plan}
-use Rattle.plan.specs.Kept.{Numbers}
-use Rattle.plan.specs.Together.{together}
+use Rattle.plan.specs.InDay.{inDay}
 use Rattle.plan.specs.Reports.{roomFor}
 use Rattle.plan.proofs.Parts.{part-long}
 use Rattle.plan.proofs.Successive.{Going, Space, none-yet, all-made, space, one-more, long-part}
 use Rattle.plan.proofs.reports.report_all.Statement.{statement}
 use Rattle.plan.proofs.reports.report_all.Tie as tie
-use Rattle.plan.proofs.reports.report_all.Lts as lts
-
--- the plan as it stands
-abbrev stands : Plan → ℕ → Numbers → (booked figures standings unfed blocks : List ℕ) → Plan
-stands p phase h booked figures standings unfed blocks =
-    together p phase (p .size) (p .processors) (p .bound) (p .parents) (p .works) (p .outs) (p .needs) (p .activation) (p .execution)
-    (p .places) booked figures standings unfed blocks h
 
 abbrev Inv-loop : tie.InvT-loop
 Inv-loop tasks starts₀ answers₀ p room count phase₀ numbers₀ booked₀ figures₀ standings₀ unfed₀ blocks₀ i₀ starts answers phase numbers booked figures standings unfed blocks i =
-    Going p (stands p phase numbers booked figures standings unfed blocks) (take count tasks) starts₀ answers₀ i starts answers
+    Going p (inDay p phase (p .needs) unfed booked figures standings blocks numbers) (take count tasks) starts₀ answers₀ i starts answers
 
 abbrev μ-loop : tie.MeasureT-loop
 μ-loop tasks starts₀ answers₀ p room count phase₀ numbers₀ booked₀ figures₀ standings₀ unfed₀ blocks₀ i₀ starts answers phase numbers booked figures standings unfed blocks i =

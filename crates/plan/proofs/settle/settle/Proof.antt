@@ -1,7 +1,6 @@
 -- `settle::settle` meets its contract: DONE of the rules, of the plan that the arrays are the parts of.
-use mathlib.Core.Path.{_≡_, sym, ap, _∙_}
-use mathlib.Core.Bool.{Bool, true, false}
-use mathlib.Core.List.{List}
+use mathlib.Core.Path.{sym, ap, _∙_}
+use mathlib.Core.Bool.{Bool}
 use Prim.Native.Nat.{ℕ, _<_}
 use native.Mathlib.Omega.{arith}
 use borrow.Author.Needs.{needs}
@@ -10,7 +9,7 @@ use Rattle.rules.specs.Phase
 use Rattle.rules.specs.Lists.{at}
 use Rattle.rules.specs.Standing.{running}
 use Rattle.rules.specs.Command.{done}
-use Rattle.rules.specs.Grounds.{inTurn, inLimits, ownGround, demand, ground}
+use Rattle.rules.specs.Grounds.{inTurn, inLimits, ownGround, demand}
 use Rattle.rules.proofs.Orders.{within-task}
 use Rattle.rules.proofs.Judging.{ground-turn, ground-limits, ground-own}
 use Rattle.plan.specs.Meaning.{Plan, meaning}
@@ -22,7 +21,6 @@ use Rattle.plan.proofs.Reporting.{Reported, leaves, may-finish, may-adv
 use Rattle.plan.proofs.Settling.{settled-refused}
 use Rattle.plan.proofs.settle.settle.Statement.{statement}
 use Rattle.plan.proofs.settle.settle.Tie as tie
-use Rattle.plan.proofs.settle.settle.Lts as lts
 
 -- the plan of the arrays as they were lent, with a phase, numbers and what a plan has beside them
 abbrev whole : tie.Start → ℕ → Numbers → Plan → Plan
