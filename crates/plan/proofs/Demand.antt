@@ -132,8 +132,8 @@ answers-hold p events day q =
           subst (λ (v : ℕ). v ≤ q .booked) (sym (q .in-use-is))
           (subst (λ (v : ℕ). questions.inUse (meaning p) ≤ v) (sym (q .booked-is)) (day .covered));
       within = subst (λ (v : ℕ). v ≤ p .bound) (sym (q .booked-is)) (day .within);
-      running-steps = ap (λ (l : List ℕ). at l Standing.running) (q .standing-is) ∙ day .countRunning;
-      ended-steps = ap (λ (l : List ℕ). at l Standing.finished) (q .standing-is) ∙ day .countEnded;
+      running-tasks = ap (λ (l : List ℕ). at l Standing.running) (q .standing-is) ∙ day .countRunning;
+      finished-tasks = ap (λ (l : List ℕ). at l Standing.finished) (q .standing-is) ∙ day .countEnded;
     }
 
 module _ (p : Plan) (new : New p) where

@@ -27,8 +27,8 @@ pub record AnswersHold (p : Plan) (events : List Event) (q : Told p) : Type 0 wh
   pub covered : q .inUse ≤ q .booked
   pub within : q .booked ≤ p .bound
   -- the standing counts the running and the ended steps of the day
-  pub running-steps : at (q .standing) Standing.running ≡ countTo (runs events) (p .size)
-  pub ended-steps : at (q .standing) Standing.finished ≡ length (ends events)
+  pub running-tasks : at (q .standing) Standing.running ≡ countTo (runs events) (p .size)
+  pub finished-tasks : at (q .standing) Standing.finished ≡ length (ends events)
 
 -- what is promised of a list of calls on the plan p
 pub record CallsHold (p : Plan) (calls : List Call) : Type 0 where
