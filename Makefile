@@ -1,37 +1,56 @@
 SHELL := /bin/bash
 
-.PHONY: run day test compare match bench trial
+.PHONY: run day printer plan-text test edits compare match examples bench stack
 
 # A day of plan A of document 01, printed by the day printer.
-run:
-	@mkdir -p target
-	@rt check printer > target/run.log || { cat target/run.log; exit 1; }
+run: printer
 	@target/bin/printer < crates/printer/stdin
 
-# A day written by a person, examples/breakfast.plan, printed by the day printer.
-day:
+# A day written by a person, printed by the day printer; make day DAY=monday.plan takes another one.
+DAY := examples/breakfast.plan
+day: printer plan-text
+	@set -o pipefail; peer/target/release/plan-text "$(DAY)" | target/bin/printer
+
+# The day printer, proved and built: target/bin/printer. It tells what is proved as it goes, on standard error, and nothing where no
+# crate has changed since.
+printer:
 	@mkdir -p target
-	@rt check printer > target/run.log || { cat target/run.log; exit 1; }
-	@cargo build --quiet --release --offline --manifest-path peer/Cargo.toml
-	@peer/target/release/plan-text examples/breakfast.plan | target/bin/printer
+	@[ -z "$$(find crates crates.txt -newer target/printer.log -print -quit 2>&1)" ] \
+	    || echo "Proving what has changed of the day printer and the crates under it: two to four minutes on two cores." >&2
+	@set -o pipefail; \
+	    rt check printer 2>&1 | tee target/printer.part | { grep --line-buffered ' proved ([0-9]' >&2; true; } \
+	    && mv target/printer.part target/printer.log \
+	    || { cat target/printer.part >&2; exit 1; }
+
+# The translator of plan texts: peer/target/release/plan-text.
+plan-text:
+	@cargo build --quiet --release --offline --manifest-path peer/Cargo.toml --bin plan-text
 
 # Every check: what .ci/run does.
 test:
 	./.ci/run
 
-# The desk's peak and the day printer beside the peer's, on many lists and streams.
+# Every must-fail edit, those that the gate has no time for too.
+edits:
+	./compare/edits
+
+# The tools and the day printer beside the peer's, on many lists and streams.
 compare:
 	./compare/run
 	./compare/printer
 
-# The command function beside the peer's, on a million askings, and days with their reports in place.
+# The command function beside the peer's, on a million askings of plans that are kept.
 match:
 	./compare/match
 
-# Whole days timed, the command function beside the peer's.
+# The examples in C, compiled as C and C++ with warnings as errors, run and compared, and those of the Rust crate.
+examples:
+	./compare/examples
+
+# Commands timed, the command function beside the peer's.
 bench:
 	@./compare/bench
 
-# Every wrong kitchen: the edits that the gate tries, and those in trial/.
-trial:
-	./trial/run
+# How much stack each exported function takes.
+stack:
+	./compare/stack

@@ -1,46 +1,119 @@
-/* The functions of libhost.a and libdesk.a, for C. Each list is a pointer and a length. The lists that are written to must be no part of
-   the others. What each function writes and answers is said in docs/GUARANTEES.md, section 3. */
+/* Cephlouk for C and C++: which steps of a clinic kitchen to start, each time one ends, so that the cold room never overfills and the
+   day never sticks. README.md has the rules in short and the meaning of every answer.
+
+   The plan is an array of CEPHLOUK_PLAN_WORDS words that the caller keeps, anywhere: on the heap, in a static array, in a file mapped
+   to memory. cephlouk_empty makes it an empty plan, and cephlouk_command then gives it one command after another; nothing else may write
+   to it. Nothing is kept outside it and nothing is allocated, so plans are free of one another: different threads may work on different
+   plans, and one plan may be asked by many threads while none gives it a command.
+
+   A plan may be copied, stored and taken up again, all of it being words. Words that did not come from these functions, or that were
+   damaged on the way, are not checked, and whatever is done with them is undefined: keep a checksum beside a plan that you store.
+
+   A list is a pointer and a length, counted in entries. A pointer is never null, also where the length is 0; a list that is written to is
+   no part of the plan or of another list. A call needs at most 32 KB of stack. */
 #ifndef CEPHLOUK_H
 #define CEPHLOUK_H
 
 #include <stddef.h>
 #include <stdint.h>
 
-/* An asking: its bytes are bytes[from..to], the command stands at `place` in them, and its start list has `entries` entries. */
-struct asking {
-    size_t from, to, place, entries;
+#ifdef __cplusplus
+extern "C" {
+#endif
+
+/* The words of a plan. */
+#define CEPHLOUK_PLAN_WORDS 18497
+
+/* Limits: the most tasks (steps) and processors (stations) of a plan, and the fewest entries of a start list. A work or out count is any
+   16-bit number, a memory bound (tray places) any 32-bit number. */
+#define CEPHLOUK_MAX_TASKS 1024
+#define CEPHLOUK_MAX_PROCESSORS 64
+#define CEPHLOUK_LEAST_STARTS 64
+
+/* The first byte of a command, and its operands, lowest byte first. */
+enum {
+    CEPHLOUK_PLAN = 0x01,       /* n (2 bytes), p (1), M (4): drops the old plan and opens a new one */
+    CEPHLOUK_STEP = 0x02,       /* parent (2, 0 for the last step), work (2), out (2): the next step */
+    CEPHLOUK_ACTIVATION = 0x03, /* step (2): the next in the activation order */
+    CEPHLOUK_EXECUTION = 0x04,  /* step (2): the next in the execution order */
+    CEPHLOUK_BEGIN = 0x05,      /* no operands: the day begins */
+    CEPHLOUK_DONE = 0x06        /* step (2): this step has ended */
 };
 
-/* What is told after an asking: the answer, and then what the plan answers. */
-struct told {
-    uint64_t number, used, starts, peak, offers;
-    uint64_t phase, booked, in_use, fullness;
-    uint64_t waiting, activated, running, finished;
+/* The number of an answer. */
+enum {
+    CEPHLOUK_ACCEPTED = 0,
+    CEPHLOUK_CUT_SHORT = 1,        /* no byte is left at the place, or operands are cut short */
+    CEPHLOUK_UNKNOWN_BYTE = 2,     /* the byte is none of 01 to 06 */
+    CEPHLOUK_OUT_OF_TURN = 3,      /* the command is not in turn in this phase */
+    CEPHLOUK_OUTSIDE_LIMITS = 4,   /* n, p, a parent or a step number is outside its limits */
+    CEPHLOUK_REPEATED = 5,         /* the step is already in that order */
+    CEPHLOUK_NOT_RUNNING = 6,      /* DONE for a step that is not running */
+    CEPHLOUK_NOT_ONE_ROOT = 7,     /* BEGIN: the steps with parent 0 are not exactly one */
+    CEPHLOUK_PARENT_FIRST = 8,     /* BEGIN: some step does not stand before its parent in the activation order */
+    CEPHLOUK_PEAK_ABOVE_BOUND = 9, /* BEGIN: one step after another already needs more places than there are */
+    CEPHLOUK_FEW_STARTS = 10       /* the start list has fewer than CEPHLOUK_LEAST_STARTS entries */
 };
 
 /* The phases of a plan. */
-enum { EMPTY, STEPS, ORDERS, RUNNING, OVER };
+enum {
+    CEPHLOUK_PHASE_EMPTY = 0,   /* no plan was opened */
+    CEPHLOUK_PHASE_STEPS = 1,   /* steps are missing */
+    CEPHLOUK_PHASE_ORDERS = 2,  /* entries of the orders, or BEGIN, are missing */
+    CEPHLOUK_PHASE_RUNNING = 3, /* the day runs: at least one step is running */
+    CEPHLOUK_PHASE_OVER = 4     /* the last step has ended */
+};
 
-/* Runs askings one after another on an empty plan and returns how many there was room to tell of. `askings_len` and `answers_len`
-   count numbers: 4 an asking, 13 an answer. The start lists lie one after another in `starts`. */
-size_t run_askings(const uint8_t *bytes, size_t bytes_len, const size_t *askings, size_t askings_len, uint16_t *starts,
-                   size_t starts_len, uint64_t *answers, size_t answers_len);
+/* The answer to a command; in a refusal all but the number is 0. */
+struct cephlouk_answer {
+    uint8_t number; /* CEPHLOUK_ACCEPTED, or the ground of refusal */
+    size_t used;    /* the bytes of the command */
+    size_t starts;  /* how many steps start now: they stand at the front of the start list, in order */
+    uint64_t peak;  /* of BEGIN: the most trays that the activation order needs, one step after another */
+    size_t offers;  /* of DONE: to how many steps freed trays were offered */
+};
 
-/* The same, and then reports of tasks with the day kept in place: it returns how many reports there was room for. Each has the next 64
-   entries that are left of `starts`, and the next 3 numbers of `answers`: number, starts, offers. */
-size_t run_day(const uint8_t *bytes, size_t bytes_len, const size_t *askings, size_t askings_len, const uint16_t *tasks,
-               size_t tasks_len, uint16_t *starts, size_t starts_len, uint64_t *answers, size_t answers_len);
+/* How many steps wait, are booked, run and have ended. */
+struct cephlouk_counts {
+    uint32_t waiting, activated, running, finished;
+};
 
-/* The desk: a task's record, and the refusal number and peak of a list of them in an activation order. */
-struct task_record {
+/* CEPHLOUK_PLAN_WORDS, as the library has it: a program that was compiled with another header may ask. */
+size_t cephlouk_plan_words(void);
+
+/* Makes an array of CEPHLOUK_PLAN_WORDS words the empty plan, whatever was in it: all its words are 0 then. */
+void cephlouk_empty(uint32_t *plan);
+
+/* Gives a plan the command at `place` of `length` bytes, which are only read, with a start list of `room` entries. A place at or behind
+   the end is a place with no byte. An accepted BEGIN or DONE writes the steps that start to the front of the start list and touches no
+   later entry; all other commands leave the list as it was. A refusal leaves the list and every word of the plan as they were. */
+struct cephlouk_answer cephlouk_command(uint32_t *plan, const uint8_t *bytes, size_t length, size_t place, uint16_t *starts, size_t room);
+
+/* Questions, at any time. A plan that is asked is only read. */
+uint32_t cephlouk_phase(const uint32_t *plan);
+uint32_t cephlouk_booked(const uint32_t *plan);                   /* trays booked; 0 outside running */
+uint32_t cephlouk_in_use(const uint32_t *plan);                   /* trays in use; 0 outside running */
+uint32_t cephlouk_fullness(const uint32_t *plan);                 /* trays booked, in thousandths of the places; 0 outside running */
+struct cephlouk_counts cephlouk_standing(const uint32_t *plan);   /* four zeros outside running and over */
+
+/* The planners' desk, in libdesk.a: the peak of the caller's own records in an activation order, with no plan. A record stands for a
+   task: the first is task 1. */
+struct cephlouk_record {
     uint16_t parent, work, out;
 };
 
-struct desk_answer {
-    uint8_t number;
-    uint64_t peak;
+struct cephlouk_desk_answer {
+    uint8_t number; /* CEPHLOUK_ACCEPTED, OUTSIDE_LIMITS (also lists of unequal lengths, none or too many), REPEATED, NOT_ONE_ROOT or
+                       PARENT_FIRST */
+    uint64_t peak;  /* 0 in a refusal */
 };
 
-struct desk_answer desk_peak(const struct task_record *records, size_t records_len, const uint16_t *activation, size_t activation_len);
+/* Both lists are only read. `room` is an array of CEPHLOUK_PLAN_WORDS words to work in: it may hold anything, and is left an empty plan. */
+struct cephlouk_desk_answer cephlouk_desk_peak(const struct cephlouk_record *records, size_t records_length, const uint16_t *activation,
+                                               size_t activation_length, uint32_t *room);
+
+#ifdef __cplusplus
+}
+#endif
 
 #endif

@@ -1,99 +1,108 @@
-//! Whole days timed, the proved command function beside the peer's, printed as
-//! Markdown. No figure fails anything.
+//! Commands timed, the proved command function beside the peer's, and the two
+//! day printers, printed as Markdown. No figure fails anything.
 
-mod host;
+use compare::clock::{medians, Batch, SAMPLES};
+use compare::day::Day;
+use compare::programs::{self, COMMANDS, RUNS};
+use compare::table::{print_table, Extremes, Pair};
+use std::ops::Range;
 
-use compare::by_peer;
-use compare::clock::{excesses, medians, SAMPLES};
-use compare::day::{runner, Day};
-use compare::in_place::{Lists, RunDay};
-use compare::outcome::Outcome;
-use compare::table::{cases, print_table, Pair};
-use std::hint::black_box;
+/// About so many tasks have the copies of a plan that are timed together.
+const TASKS_TOGETHER: usize = 512;
 
 fn main() {
     print_notes();
-    let all = cases(&[1, 4, 64], &[1, 2]);
-    print_table("BEGIN and DONE, the plan by value", &all, day);
-    let one_a_tree = cases(&[4], &[1]);
-    print_table(
-        "PLAN, STEP, 03 and 04, the plan by value",
-        &one_a_tree,
-        setup,
-    );
-    print_table("DONE, the arrays in place", &all, reports);
+    let done = print_table("DONE", reports);
+    let begin = print_table("BEGIN, divided by n", begin);
+    let setup = print_table("PLAN, STEP, 03 and 04", setup);
+    let programs = programs::times();
+    print_aims([done, begin, setup], programs);
 }
 
 /// How the figures come about.
 fn print_notes() {
     println!(
-        "Nanoseconds per command, by the proved library and by the peer, which gets the same lists in the same process. Both \
-         are built for release.\n\
-         A sample repeats one list of commands, each time on an empty plan, for two milliseconds or once; it is the time for \
-         which the thread had a processor. After a warm-up the two sides take turns, {SAMPLES} samples each.\n\
-         The time of BEGIN and DONE is the shortest sample of a whole day less the shortest of its commands ahead of BEGIN, \
-         divided by n + 1; that of DONE in place is the shortest of a whole day less the shortest of all up to BEGIN, divided by \
-         n. The time of the commands ahead of BEGIN is the median of the samples.\n\
-         The lists lent for starts and answers are used again and not cleared.\n\
-         Parents have lower numbers than their children, the activation order falls and the execution order is mixed; works \
+        "- Nanoseconds per command, of BEGIN per step of the plan, by the proved library through its exported function and by the peer, which gets the same \
+         bytes in the same process. Both are built for release.\n\
+         - A sample gives all commands of one kind to fresh copies of a plan that was led up to them: all reports of a day, its \
+         BEGIN, or all commands ahead of BEGIN, these on a plan whose day is over. The copies, 8 at 64 steps, 2 at 256 and 1 at \
+         1,024, are made before the time is taken. It is the time for which the thread had a processor, less that of a look at \
+         the clock. The two sides take turns, and a figure is the median of {SAMPLES} samples.\n\
+         - Parents have lower numbers than their children, the activation order falls and the execution order is mixed; works \
          and outs are 0 to 20; any running step ends next.\n\
-         Growth is the figure at n = 1024 over the figure at n = 256."
+         - Growth is the figure at n = 1024 over the figure at n = 64."
     );
 }
 
-/// A command of a day, from BEGIN on: the whole day less its setup.
-fn day(day: &Day) -> Pair {
-    check(day);
-    let (setup, all) = (day.setup, day.commands());
-    let times = excesses([
-        [
-            &mut runner(host::run_askings, day, setup),
-            &mut runner(host::run_askings, day, all),
-        ],
-        [
-            &mut runner(by_peer::run_askings, day, setup),
-            &mut runner(by_peer::run_askings, day, all),
-        ],
-    ]);
-    times.map(|time| time / (all - setup) as f64)
+/// A report.
+fn reports(day: &Day) -> Pair {
+    let places = day.reports();
+    let led_to = places.start;
+    pair(day, places, led_to, day.tasks)
+}
+
+/// BEGIN, as much of it as goes to one task.
+fn begin(day: &Day) -> Pair {
+    let places = day.begin();
+    let led_to = places.start;
+    pair(day, places, led_to, day.tasks)
 }
 
 /// A command ahead of BEGIN.
 fn setup(day: &Day) -> Pair {
+    pair(day, day.setup(), day.bytes.len(), 1 + 3 * day.tasks)
+}
+
+/// A command of those at some places, on a plan that was led to a place.
+fn pair(day: &Day, places: Range<usize>, led_to: usize, commands: usize) -> Pair {
+    let copies = (TASKS_TOGETHER / day.tasks).max(1);
+    let proved = day.led(cephlouk::Plan::new(), led_to);
+    let peer = day.led(peer::Plan::new(), led_to);
     let times = medians([
-        &mut runner(host::run_askings, day, day.setup),
-        &mut runner(by_peer::run_askings, day, day.setup),
+        &mut Batch::new(day, places.clone(), proved, copies),
+        &mut Batch::new(day, places, peer, copies),
     ]);
-    times.map(|time| time / day.setup as f64)
+    times.map(|time| time / (copies * commands) as f64)
 }
 
-/// A report in place: the whole day less all up to BEGIN.
-fn reports(day: &Day) -> Pair {
-    let times = excesses([
-        [
-            &mut in_place(host::run_day, day, &[]),
-            &mut in_place(host::run_day, day, &day.reports),
-        ],
-        [
-            &mut in_place(by_peer::run_day, day, &[]),
-            &mut in_place(by_peer::run_day, day, &day.reports),
-        ],
-    ]);
-    times.map(|time| time / day.reports.len() as f64)
-}
-
-/// A run of a day up to BEGIN and of some reports. Its lists are used again
-/// and not cleared.
-fn in_place<'a>(run: RunDay, day: &'a Day, tasks: &'a [u16]) -> impl FnMut() + use<'a> {
-    let mut lists = Lists::of(day, tasks, 0);
-    move || {
-        black_box(lists.run(run));
+/// What is aimed at, and what was measured.
+fn print_aims([done, begin, setup]: [Extremes; 3], [printer, peer]: [[f64; 2]; 2]) {
+    let ratio = |extremes: &Extremes| {
+        let [least, most] = extremes.at_largest;
+        format!(
+            "{least:.2} to {most:.2} at 1,024 steps, no cell above {:.2}",
+            extremes.highest
+        )
+    };
+    println!("\n## In short\n\n| ratio to the peer | aim | measured |\n|---|---|---|");
+    println!(
+        "| DONE | at most 0.9 at 1,024 steps, no cell above 1.1 | {} |",
+        ratio(&done)
+    );
+    println!("| BEGIN | at most 1.1 | {} |", ratio(&begin));
+    println!(
+        "| PLAN, STEP, 03 and 04 | at most 0.8 | {} |",
+        ratio(&setup)
+    );
+    for (name, extremes) in [
+        ("DONE", done),
+        ("BEGIN", begin),
+        ("PLAN, STEP, 03 and 04", setup),
+    ] {
+        println!(
+            "| {name}: growth from 64 to 1,024 steps | at most 0.2 above the peer's | at most {:.2} above |",
+            extremes.growth
+        );
     }
-}
-
-/// What is timed is the same day on both sides.
-fn check(day: &Day) {
-    let proved = Outcome::of(host::run_askings, &day.flat);
-    let peer = Outcome::of(by_peer::run_askings, &day.flat);
-    assert_eq!(proved.first_difference(&peer, &day.flat), None);
+    let names = ["user time of the day printer", "its system time"];
+    for ((name, aim), (printer, peer)) in names
+        .into_iter()
+        .zip(["at most 1.3", "at most 2"])
+        .zip(printer.into_iter().zip(peer))
+    {
+        println!(
+            "| {name}, {COMMANDS} commands, mean of {RUNS} runs | {aim} | {:.2}: {printer:.1} ms, the peer's program {peer:.1} ms |",
+            printer / peer
+        );
+    }
 }

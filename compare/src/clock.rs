@@ -1,65 +1,89 @@
 //! Timed runs.
 
+use crate::day::Day;
+use crate::kept::Kept;
+use cephlouk::Plan;
+use std::hint::black_box;
+use std::ops::Range;
+
 /// How many samples a median is taken of.
-pub const SAMPLES: usize = 31;
-/// How many nanoseconds a sample lasts, or longer where a single run does.
-const SAMPLE: i64 = 2_000_000;
+pub const SAMPLES: usize = 501;
+/// How many samples are taken ahead of them and not counted.
+const WARM_UP: usize = 50;
 
-/// The median time of each run in nanoseconds. After a warm-up they take
-/// turns, sample by sample.
-pub fn medians<const RUNS: usize>(mut runs: [&mut dyn FnMut(); RUNS]) -> [f64; RUNS] {
-    let repeats = runs.each_mut().map(|run| repeats_in_a_sample(run));
+/// Something to be timed.
+pub trait Timed {
+    /// Makes a run ready, which is not timed.
+    fn prepare(&mut self);
+
+    fn run(&mut self);
+}
+
+/// The median time of a run of each in nanoseconds. They take turns, sample by
+/// sample; what a look at the clock takes is not counted in.
+pub fn medians<const RUNS: usize>(mut runs: [&mut dyn Timed; RUNS]) -> [f64; RUNS] {
     let mut samples = [const { Vec::new() }; RUNS];
-    for _ in 0..SAMPLES {
-        for run in 0..RUNS {
-            samples[run].push(sample(runs[run], repeats[run]));
+    let mut looks = Vec::new();
+    for _ in 0..WARM_UP + SAMPLES {
+        looks.push(time(&mut || {}));
+        for (run, samples) in runs.iter_mut().zip(&mut samples) {
+            run.prepare();
+            samples.push(time(&mut || run.run()));
         }
     }
-    samples.map(median)
+    let look = median(looks);
+    samples.map(|samples| median(samples) - look)
 }
 
-/// By how many nanoseconds the second run of each pair takes longer than the
-/// first: the shortest sample of one less that of the other. After a warm-up
-/// all take turns, sample by sample.
-pub fn excesses<const PAIRS: usize>(mut pairs: [[&mut dyn FnMut(); 2]; PAIRS]) -> [f64; PAIRS] {
-    let repeats = pairs
-        .each_mut()
-        .map(|pair| pair.each_mut().map(|run| repeats_in_a_sample(run)));
-    let mut shortest = [[f64::INFINITY; 2]; PAIRS];
-    for _ in 0..SAMPLES {
-        for pair in 0..PAIRS {
-            for run in 0..2 {
-                let time = sample(pairs[pair][run], repeats[pair][run]);
-                shortest[pair][run] = shortest[pair][run].min(time);
-            }
-        }
-    }
-    shortest.map(|[short, long]| long - short)
-}
-
-/// Warms a run up, and finds how often it is repeated in a sample.
-fn repeats_in_a_sample(run: &mut dyn FnMut()) -> u32 {
-    let end = now() + SAMPLE;
-    let mut repeats = 0;
-    while now() < end {
-        run();
-        repeats += 1;
-    }
-    repeats
-}
-
-/// The nanoseconds of one run, so many being timed together.
-fn sample(run: &mut dyn FnMut(), repeats: u32) -> f64 {
+/// The nanoseconds of a run, and of a look at the clock.
+fn time(run: &mut dyn FnMut()) -> f64 {
     let begin = now();
-    for _ in 0..repeats {
-        run();
-    }
-    (now() - begin) as f64 / f64::from(repeats)
+    run();
+    (now() - begin) as f64
 }
 
+/// Of the samples that count.
 fn median(mut samples: Vec<f64>) -> f64 {
+    let samples = &mut samples[WARM_UP..];
     samples.sort_by(f64::total_cmp);
     samples[samples.len() / 2]
+}
+
+/// Some commands of a day, each time on new copies of a plan.
+pub struct Batch<'a, P> {
+    day: &'a Day,
+    places: Range<usize>,
+    prepared: P,
+    plans: Vec<P>,
+    starts: [u16; Plan::LEAST_STARTS],
+}
+
+impl<'a, P: Kept + Clone> Batch<'a, P> {
+    /// So many copies of a plan.
+    pub fn new(day: &'a Day, places: Range<usize>, prepared: P, copies: usize) -> Batch<'a, P> {
+        Batch {
+            day,
+            places,
+            plans: vec![prepared.clone(); copies],
+            prepared,
+            starts: [0; Plan::LEAST_STARTS],
+        }
+    }
+}
+
+impl<P: Kept + Clone> Timed for Batch<'_, P> {
+    fn prepare(&mut self) {
+        for plan in &mut self.plans {
+            plan.clone_from(&self.prepared);
+        }
+    }
+
+    fn run(&mut self) {
+        for plan in &mut self.plans {
+            self.day.run(self.places.clone(), plan, &mut self.starts);
+            black_box(&self.starts);
+        }
+    }
 }
 
 /// `struct timespec` of the C library on 64-bit Linux.

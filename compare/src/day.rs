@@ -1,20 +1,20 @@
 //! Whole days to be timed.
 
-use crate::flat::{answer_marks, start_marks, Flat, ANSWER, ASKING};
+use crate::kept::Kept;
 use peer::generate::{encode, Random, Shape};
 use peer::{desk_peak, Command, Plan, Record};
-use std::hint::black_box;
+use std::ops::Range;
 
 /// The largest work and out count.
 const COUNT: u32 = 20;
 
-/// The commands of a day as askings of one stream.
+/// The commands of a day, one after another.
 pub struct Day {
-    pub flat: Flat,
-    /// How many commands come ahead of BEGIN.
-    pub setup: usize,
-    /// The tasks in the order in which they end.
-    pub reports: Vec<u16>,
+    /// n.
+    pub tasks: usize,
+    pub bytes: Vec<u8>,
+    /// Where BEGIN stands.
+    begin: usize,
 }
 
 impl Day {
@@ -22,36 +22,46 @@ impl Day {
     /// running task ends next.
     pub fn new(shape: Shape, n: usize, p: u8, peaks: u32) -> Day {
         let random = &mut Random::new(n as u64);
-        let mut commands = setup(random, shape, n, p, peaks);
-        let setup = commands.len();
-        commands.push(Command::Begin);
-        let reports = reports(random, &commands);
-        commands.extend(reports.iter().copied().map(Command::Done));
+        let commands = setup(random, shape, n, p, peaks);
+        let mut bytes = commands.into_iter().flat_map(encode).collect();
+        let begin = Vec::len(&bytes);
+        add_day(random, &mut bytes);
         Day {
-            flat: flat(&commands),
-            setup,
-            reports,
+            tasks: n,
+            bytes,
+            begin,
         }
     }
 
-    /// How many commands there are.
-    pub fn commands(&self) -> usize {
-        self.flat.each().len()
+    /// The places of PLAN, STEP, 03 and 04.
+    pub fn setup(&self) -> Range<usize> {
+        0..self.begin
     }
-}
 
-/// A run of the first commands of a day, by a function like `run_askings`. Its
-/// start lists and answers are used again and not cleared.
-pub fn runner<Run>(run: Run, day: &Day, commands: usize) -> impl FnMut() + use<'_, Run>
-where
-    Run: Fn(&[u8], &[usize], &mut [u16], &mut [u64]) -> usize,
-{
-    let askings = &day.flat.askings[..ASKING * commands];
-    let (mut starts, mut answers) = (day.flat.starts.clone(), day.flat.answers.clone());
-    move || {
-        let ran = run(&day.flat.bytes, askings, &mut starts, &mut answers);
-        assert_eq!(ran, commands);
-        black_box((&starts, &answers));
+    /// The place of BEGIN.
+    pub fn begin(&self) -> Range<usize> {
+        self.begin..self.begin + 1
+    }
+
+    /// The places of the reports.
+    pub fn reports(&self) -> Range<usize> {
+        self.begin + 1..self.bytes.len()
+    }
+
+    /// A plan with all commands up to a place.
+    pub fn led<P: Kept>(&self, mut plan: P, place: usize) -> P {
+        self.run(0..place, &mut plan, &mut [0; Plan::STARTS]);
+        plan
+    }
+
+    /// Gives a plan the commands at some places; all are accepted.
+    pub fn run(&self, places: Range<usize>, plan: &mut impl Kept, starts: &mut [u16]) {
+        let mut place = places.start;
+        while place < places.end {
+            let answer = plan.command(&self.bytes, place, starts);
+            assert_eq!(answer.number, 0, "the command at {place}");
+            place += answer.used;
+        }
     }
 }
 
@@ -82,44 +92,21 @@ fn setup(random: &mut Random, shape: Shape, n: usize, p: u8, peaks: u32) -> Vec<
     commands
 }
 
-/// The tasks of a day in some order in which they can end, by the peer.
-fn reports(random: &mut Random, commands: &[Command]) -> Vec<u16> {
+/// Adds BEGIN and the reports of all tasks, in some order in which they can
+/// end, by the peer.
+fn add_day(random: &mut Random, bytes: &mut Vec<u8>) {
     let mut plan = Plan::new();
-    let (mut running, mut reports) = (Vec::new(), Vec::new());
-    for &command in commands {
-        running.extend(started(&mut plan, command));
-    }
-    while !running.is_empty() {
-        let task = running.swap_remove(random.below(running.len()));
-        running.extend(started(&mut plan, Command::Done(task)));
-        reports.push(task);
-    }
-    reports
-}
-
-/// The tasks that a command starts.
-fn started(plan: &mut Plan, command: Command) -> Vec<u16> {
-    let mut starts = vec![0; Plan::STARTS];
-    let answer = plan.command(&encode(command), 0, &mut starts);
-    starts.truncate(answer.starts);
-    starts
-}
-
-/// Each command asked at its place in the stream of all, with a start list of
-/// the fewest entries.
-fn flat(commands: &[Command]) -> Flat {
-    let encoded: Vec<Vec<u8>> = commands.iter().copied().map(encode).collect();
-    let bytes = encoded.concat();
+    let mut starts = [0; Plan::STARTS];
+    let mut running = Vec::new();
     let mut place = 0;
-    let mut askings = Vec::new();
-    for command in &encoded {
-        askings.extend([0, bytes.len(), place, Plan::STARTS]);
-        place += command.len();
-    }
-    Flat {
-        bytes,
-        askings,
-        starts: start_marks(Plan::STARTS * commands.len()),
-        answers: answer_marks(ANSWER * commands.len()),
+    bytes.extend(encode(Command::Begin));
+    while place < bytes.len() {
+        let answer = plan.command(bytes, place, &mut starts);
+        place += answer.used;
+        running.extend(&starts[..answer.starts]);
+        if place == bytes.len() && !running.is_empty() {
+            let task = running.swap_remove(random.below(running.len()));
+            bytes.extend(encode(Command::Done(task)));
+        }
     }
 }

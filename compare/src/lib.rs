@@ -1,13 +1,15 @@
-//! What the comparisons share: inputs, the peer's side of each, and how a
-//! difference is told. The static libraries are linked by the programs alone.
+//! What the comparisons share: inputs, both sides of each, and how a
+//! difference is told.
 
-pub mod by_peer;
 pub mod clock;
 pub mod day;
-pub mod flat;
-pub mod in_place;
+pub mod feeding;
+pub mod fence;
+pub mod kept;
 pub mod lists;
-pub mod outcome;
-pub mod seeds;
+pub mod programs;
+pub mod streams;
 pub mod table;
 pub mod tally;
+pub mod tool;
+pub mod turns;

@@ -1,17 +1,62 @@
-//! Records and an activation list, good ones and ones with a few flaws.
+//! The desk's peak by the peer: records and an activation list, good ones and
+//! ones with a few flaws.
 
+use crate::tool::Tool;
 use peer::generate::Random;
-use peer::Record;
+use peer::{decode, Command, Record};
 
-/// What the desk is asked.
+/// What the desk is asked. Both lists are only read.
+#[derive(Clone, Debug, PartialEq)]
 pub struct Lists {
     pub records: Vec<Record>,
     pub activation: Vec<u16>,
 }
 
-/// Lists of a random size, with no flaw in one case of three.
-pub fn lists(random: &mut Random) -> Lists {
-    let mut given = good(random);
+/// The desk's peak.
+pub struct DeskPeak;
+
+impl Tool for DeskPeak {
+    type Lent = Lists;
+
+    fn lend(random: &mut Random, commands: &[u8]) -> Lists {
+        let given = if random.chance(50) {
+            of_commands(commands)
+        } else {
+            good(random)
+        };
+        with_flaws(random, given)
+    }
+
+    fn answer(_commands: &[u8], lent: &mut Lists) -> Vec<u64> {
+        let answer = peer::desk_peak(&lent.records, &lent.activation);
+        vec![answer.number.into(), answer.peak.into()]
+    }
+}
+
+/// The tasks and the activation order of the last plan, as far as given.
+fn of_commands(commands: &[u8]) -> Lists {
+    let mut given = Lists {
+        records: Vec::new(),
+        activation: Vec::new(),
+    };
+    let mut place = 0;
+    while let Ok((command, used)) = decode(commands, place) {
+        match command {
+            Command::Plan { .. } => {
+                given.records.clear();
+                given.activation.clear();
+            }
+            Command::Step(record) => given.records.push(record),
+            Command::Activation(task) => given.activation.push(task),
+            _ => {}
+        }
+        place += used;
+    }
+    given
+}
+
+/// Lists with no flaw put into them in one case of three.
+fn with_flaws(random: &mut Random, mut given: Lists) -> Lists {
     if !random.chance(33) {
         for _ in 0..random.between(1, 3) {
             spoil(random, &mut given);

@@ -1,163 +1,142 @@
 //! The day printer beside the peer's: `printer [STREAMS]`, 2,000 unless it says
-//! otherwise. Both get the same streams, and must print the same bytes. Some
-//! streams are fed in small pieces: every line has to come as soon as its
-//! command is whole, and none before.
+//! otherwise. Both get the same streams, and must print the same bytes: at once,
+//! in pieces, as a file, and with another day fed after a refusal. The plan
+//! texts of examples/ are typed line by line, with `plan-text` in between.
 
+use compare::feeding::{expected, from_file, in_pieces, typed, Difference};
+use compare::streams::{another_day, streams};
 use peer::generate::{stream, Random};
-use std::io::{ErrorKind, Read, Write};
-use std::process::{Child, ChildStdin, ChildStdout, Command, ExitCode, Stdio};
-use std::sync::mpsc::{channel, Receiver};
-use std::thread;
-use std::time::Duration;
+use std::process::ExitCode;
 
-const PRINTER: &str = concat!(env!("CARGO_MANIFEST_DIR"), "/../target/bin/printer");
-
-/// Every so many streams one is fed in pieces, where it is not too long.
+/// Every so many streams one is fed in pieces of a few bytes, where it is not
+/// too long.
 const PIECES_EVERY: u64 = 5;
 const PIECES_MOST: usize = 1_500;
+const FEW_BYTES: usize = 9;
 
-/// Longer than any line is waited for.
-const PATIENCE: Duration = Duration::from_secs(20);
+/// The sizes of the largest pieces of a long stream: many are whole at once, or
+/// fill the printer's room more than once.
+const LARGE_PIECES: [usize; 3] = [5_000, 30_000, 100_000];
 
-/// What the peer prints.
-fn expected(bytes: &[u8]) -> Vec<u8> {
-    let mut output = Vec::new();
-    peer::printer::print(bytes, &mut output).expect("memory can be written");
-    output
+const TEXTS: [(&str, &str); 2] = [
+    ("plan-a.plan", include_str!("../../examples/plan-a.plan")),
+    (
+        "breakfast.plan",
+        include_str!("../../examples/breakfast.plan"),
+    ),
+];
+
+/// What was compared.
+#[derive(Default)]
+struct Tally {
+    lines: usize,
+    refusals: usize,
+    after_refusals: usize,
+    in_pieces: usize,
+    as_files: usize,
 }
 
-/// What is to be printed when these bytes have come and more may follow: all
-/// but the line of a command that is cut.
-fn expected_so_far(bytes: &[u8]) -> Vec<u8> {
-    let mut output = expected(bytes);
-    let end = output.len().saturating_sub(1);
-    let last_line = output[..end]
-        .iter()
-        .rposition(|&byte| byte == b'\n')
-        .map_or(0, |place| place + 1);
-    if output[last_line..].starts_with(b"refused 1 at ") {
-        output.truncate(last_line);
-    }
-    output
-}
-
-fn start() -> (Child, ChildStdin, ChildStdout) {
-    let mut child = Command::new(PRINTER)
-        .stdin(Stdio::piped())
-        .stdout(Stdio::piped())
-        .spawn()
-        .unwrap_or_else(|error| panic!("{PRINTER}: {error}"));
-    let input = child.stdin.take().expect("a pipe to write to");
-    let output = child.stdout.take().expect("a pipe to read from");
-    (child, input, output)
-}
-
-/// Writes bytes to the printer, which may have stopped after a refusal.
-fn feed(input: &mut ChildStdin, bytes: &[u8]) {
-    match input.write_all(bytes) {
-        Err(error) if error.kind() != ErrorKind::BrokenPipe => {
-            panic!("the printer's input: {error}")
+impl Tally {
+    /// A stream of a seed: at once, perhaps in pieces, and where it is refused
+    /// with another day behind.
+    fn compare_seed(&mut self, seed: u64) -> Result<(), (String, Difference)> {
+        let bytes = stream(seed);
+        check(in_pieces(&[&bytes]), || format!("seed {seed}, at once"))?;
+        if seed.is_multiple_of(PIECES_EVERY) && bytes.len() <= PIECES_MOST {
+            let random = &mut Random::new(seed);
+            check(in_pieces(&cut(&bytes, FEW_BYTES, random)), || {
+                format!("seed {seed}, in pieces")
+            })?;
+            self.in_pieces += 1;
         }
-        _ => {}
-    }
-}
-
-/// What the printer prints of a whole stream.
-fn printed(bytes: &[u8]) -> Vec<u8> {
-    let (mut child, mut input, mut output) = start();
-    let mut got = Vec::new();
-    thread::scope(|scope| {
-        scope.spawn(move || feed(&mut input, bytes));
-        output.read_to_end(&mut got).expect("the printer's output");
-    });
-    child.wait().expect("the printer ends");
-    got
-}
-
-/// Hands out what is printed, as it comes.
-fn listen(mut output: ChildStdout) -> Receiver<Vec<u8>> {
-    let (sender, receiver) = channel();
-    thread::spawn(move || {
-        let mut chunk = [0; 4096];
-        while let Ok(count) = output.read(&mut chunk) {
-            if count == 0 || sender.send(chunk[..count].to_vec()).is_err() {
-                break;
+        let output = expected(&bytes);
+        let text = String::from_utf8_lossy(&output);
+        self.lines += text.lines().count();
+        let refused = text
+            .lines()
+            .last()
+            .filter(|line| line.starts_with("refused "));
+        if let Some(line) = refused {
+            self.refusals += 1;
+            // What is cut is refused at the end of the input only.
+            if !line.starts_with("refused 1 ") {
+                check(in_pieces(&[&bytes, &another_day()]), || {
+                    format!("seed {seed}, another day after the refusal")
+                })?;
+                self.after_refusals += 1;
             }
         }
-    });
-    receiver
-}
-
-/// Feeds a stream in pieces, and waits after each for the lines that are due.
-/// Answers what was printed and what was due where the two differ.
-fn difference_in_pieces(bytes: &[u8], random: &mut Random) -> Option<(Vec<u8>, Vec<u8>)> {
-    let (mut child, mut input, output) = start();
-    let heard = listen(output);
-    let mut got = Vec::new();
-    let mut fed = 0;
-    while fed < bytes.len() {
-        let piece = bytes.len().min(fed + random.between(1, 9) as usize);
-        feed(&mut input, &bytes[fed..piece]);
-        fed = piece;
-        let due = expected_so_far(&bytes[..fed]);
-        while got.len() < due.len() {
-            match heard.recv_timeout(PATIENCE) {
-                Ok(more) => got.extend(more),
-                Err(_) => break,
-            }
-        }
-        if got != due {
-            return Some((got, due));
-        }
-        thread::sleep(Duration::from_micros(100));
+        Ok(())
     }
-    drop(input);
-    got.extend(heard.iter().flatten());
-    child.wait().expect("the printer ends");
-    let wanted = expected(bytes);
-    (got != wanted).then_some((got, wanted))
+
+    /// A stream made to measure: at once, as a file and in pieces.
+    fn compare_made(&mut self, name: &str, bytes: &[u8]) -> Result<(), (String, Difference)> {
+        check(in_pieces(&[bytes]), || format!("{name}, at once"))?;
+        check(from_file("printer", bytes), || format!("{name}, as a file"))?;
+        self.as_files += 1;
+        for most in LARGE_PIECES {
+            let random = &mut Random::new(most as u64);
+            check(in_pieces(&cut(bytes, most, random)), || {
+                format!("{name}, in pieces of up to {most} bytes")
+            })?;
+            self.in_pieces += 1;
+        }
+        Ok(())
+    }
+
+    fn compare(&mut self, count: u64) -> Result<(), (String, Difference)> {
+        for (name, text) in TEXTS {
+            check(typed(text), || format!("{name}, typed"))?;
+        }
+        for (name, bytes) in streams() {
+            self.compare_made(name, &bytes)?;
+        }
+        (1..=count).try_for_each(|seed| self.compare_seed(seed))
+    }
 }
 
-/// What was printed and what the peer prints, where the two differ.
-fn difference(bytes: &[u8]) -> Option<(Vec<u8>, Vec<u8>)> {
-    let (got, wanted) = (printed(bytes), expected(bytes));
-    (got != wanted).then_some((got, wanted))
+/// A difference with where it was found.
+fn check(
+    difference: Option<Difference>,
+    place: impl Fn() -> String,
+) -> Result<(), (String, Difference)> {
+    difference.map_or(Ok(()), |found| Err((place(), found)))
 }
 
-fn tell(seed: u64, how: &str, got: &[u8], wanted: &[u8]) -> ExitCode {
-    println!("seed {seed}, {how}: printed");
-    print!("{}", String::from_utf8_lossy(got));
-    println!("where the peer prints");
-    print!("{}", String::from_utf8_lossy(wanted));
-    ExitCode::FAILURE
+/// Cuts a stream into pieces of any size up to the largest.
+fn cut<'a>(stream: &'a [u8], most: usize, random: &mut Random) -> Vec<&'a [u8]> {
+    let mut pieces = Vec::new();
+    let mut rest = stream;
+    while !rest.is_empty() {
+        let size = rest.len().min(1 + random.below(most));
+        let (piece, behind) = rest.split_at(size);
+        pieces.push(piece);
+        rest = behind;
+    }
+    pieces
 }
 
 fn main() -> ExitCode {
     let count: u64 = std::env::args()
         .nth(1)
         .map_or(2_000, |count| count.parse().expect("a number of streams"));
-    let (mut lines, mut refusals, mut in_pieces) = (0, 0, 0);
-    for seed in 1..=count {
-        let bytes = stream(seed);
-        if let Some((got, wanted)) = difference(&bytes) {
-            return tell(seed, "at once", &got, &wanted);
-        }
-        if seed % PIECES_EVERY == 0 && bytes.len() <= PIECES_MOST {
-            if let Some((got, wanted)) = difference_in_pieces(&bytes, &mut Random::new(seed)) {
-                return tell(seed, "in pieces", &got, &wanted);
-            }
-            in_pieces += 1;
-        }
-        let output = expected(&bytes);
-        let text = String::from_utf8_lossy(&output);
-        lines += text.lines().count();
-        refusals += text
-            .lines()
-            .filter(|line| line.starts_with("refused"))
-            .count();
+    let mut tally = Tally::default();
+    if let Err((place, Difference { got, wanted })) = tally.compare(count) {
+        println!("{place}: printed");
+        print!("{}", String::from_utf8_lossy(&got));
+        println!("where the peer prints");
+        print!("{}", String::from_utf8_lossy(&wanted));
+        return ExitCode::FAILURE;
     }
     println!(
-        "printer: {count} streams, the same {lines} lines, {refusals} of them refusals; {in_pieces} streams in pieces too"
+        "printer: {count} streams, the same {} lines, {} of them refusals, {} with another day fed behind; \
+         {} streams in pieces too; {} long ones as files; {} texts typed",
+        tally.lines,
+        tally.refusals,
+        tally.after_refusals,
+        tally.in_pieces,
+        tally.as_files,
+        TEXTS.len()
     );
     ExitCode::SUCCESS
 }

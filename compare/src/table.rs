@@ -13,64 +13,95 @@ const TREES: [(&str, Shape); 4] = [
     ("binary", Shape::Binary),
 ];
 
-/// What a row is about: all but the number of tasks.
-pub struct Case {
-    name: &'static str,
-    shape: Shape,
-    processors: u8,
-    peaks: u32,
-}
+/// The numbers of processors.
+const PROCESSORS: [u8; 3] = [1, 4, 64];
 
-/// The nanoseconds of a command, by a proved function and by the peer.
+/// M as so many times the peak.
+const PEAKS: [u32; 2] = [1, 2];
+
+/// The nanoseconds of a command, by the proved function and by the peer.
 pub type Pair = [f64; 2];
 
-/// Every tree with each p and with M as so many times the peak.
-pub fn cases(processors: &[u8], peaks: &[u32]) -> Vec<Case> {
-    let mut cases = Vec::new();
-    for (name, shape) in TREES {
-        for &processors in processors {
-            cases.extend(peaks.iter().map(|&peaks| Case {
-                name,
-                shape,
-                processors,
-                peaks,
-            }));
-        }
-    }
-    cases
+/// The figures of one row: a pair for each number of tasks.
+struct Row {
+    name: String,
+    figures: [Pair; SIZES.len()],
 }
 
-/// Prints a table: a row a case, and for each number of tasks both figures and
-/// their ratio; then how both grow from the second number to the third.
-pub fn print_table(title: &str, cases: &[Case], measure: fn(&Day) -> Pair) {
+impl Row {
+    fn ratios(&self) -> [f64; SIZES.len()] {
+        self.figures.map(|[proved, peer]| proved / peer)
+    }
+
+    /// How much both grow from the least number of tasks to the largest.
+    fn growth(&self) -> Pair {
+        let [least, .., largest] = self.figures;
+        [largest[0] / least[0], largest[1] / least[1]]
+    }
+}
+
+/// What is to be seen in a whole table.
+pub struct Extremes {
+    /// The least and the highest ratio at the largest number of tasks.
+    pub at_largest: [f64; 2],
+    /// The highest ratio of all.
+    pub highest: f64,
+    /// By how much the proved function grows more than the peer, at most.
+    pub growth: f64,
+}
+
+/// Prints a table with every tree, p and M: for each number of tasks both
+/// figures and their ratio, and how both grow.
+pub fn print_table(title: &str, measure: fn(&Day) -> Pair) -> Extremes {
+    println!("\n## {title}\n");
     let sizes = SIZES.map(|n| format!("n = {n}: proved | peer | ratio"));
-    println!("\n{title}:\n");
     println!(
         "| tree | p | M | {} | growth: proved | peer |",
         sizes.join(" | ")
     );
     println!("|---|---:|---|{}", "---:|".repeat(3 * SIZES.len() + 2));
-    for case in cases {
-        println!("{}", row(case, measure));
+    let mut rows = Vec::new();
+    for (tree, shape) in TREES {
+        for p in PROCESSORS {
+            for peaks in PEAKS {
+                let row = Row {
+                    name: format!("{tree} | {p} | {peaks} × peak"),
+                    figures: SIZES.map(|n| measure(&Day::new(shape, n, p, peaks))),
+                };
+                print_row(&row);
+                rows.push(row);
+            }
+        }
     }
+    extremes(&rows)
 }
 
-fn row(case: &Case, measure: fn(&Day) -> Pair) -> String {
-    let &Case {
-        name,
-        shape,
-        processors,
-        peaks,
-    } = case;
-    let figures = SIZES.map(|n| measure(&Day::new(shape, n, processors, peaks)));
-    let cells = figures.map(|[proved, peer]| {
+fn print_row(row: &Row) {
+    let cells = row.figures.map(|[proved, peer]| {
         let ratio = proved / peer;
-        format!("{} | {} | {ratio:.1}", figure(proved), figure(peer))
+        format!("{} | {} | {ratio:.2}", figure(proved), figure(peer))
     });
-    let [_, middle, large] = figures;
-    let [proved, peer] = [large[0] / middle[0], large[1] / middle[1]];
+    let [proved, peer] = row.growth();
     let cells = cells.join(" | ");
-    format!("| {name} | {processors} | {peaks} × peak | {cells} | {proved:.2} | {peer:.2} |")
+    println!("| {} | {cells} | {proved:.2} | {peer:.2} |", row.name);
+}
+
+fn extremes(rows: &[Row]) -> Extremes {
+    let mut extremes = Extremes {
+        at_largest: [f64::INFINITY, 0.0],
+        highest: 0.0,
+        growth: f64::NEG_INFINITY,
+    };
+    for row in rows {
+        let ratios = row.ratios();
+        let [.., largest] = ratios;
+        let [proved, peer] = row.growth();
+        extremes.at_largest[0] = extremes.at_largest[0].min(largest);
+        extremes.at_largest[1] = extremes.at_largest[1].max(largest);
+        extremes.highest = ratios.into_iter().fold(extremes.highest, f64::max);
+        extremes.growth = extremes.growth.max(proved - peer);
+    }
+    extremes
 }
 
 /// Three digits at least, and no more than are worth it.

@@ -1,16 +1,14 @@
 //! Counts over all askings compared.
 
-use crate::flat::ANSWER;
-use peer::Plan;
+use crate::kept::Questions;
+use cephlouk::{Phase, Plan};
 use std::fmt::{Display, Formatter, Result};
-
-const RUNNING: u64 = 3;
-const OVER: u64 = 4;
 
 /// How many askings were answered in which way.
 #[derive(Default)]
 pub struct Tally {
-    lists: u64,
+    /// Plans that were opened.
+    pub plans: u64,
     pub askings: u64,
     /// By the number of the answer, 0 for accepted.
     by_number: [u64; 11],
@@ -23,20 +21,16 @@ pub struct Tally {
 }
 
 impl Tally {
-    /// Counts the answers to one list.
-    pub fn add(&mut self, answers: &[[u64; ANSWER]]) {
-        self.lists += 1;
-        self.askings += answers.len() as u64;
-        let mut phase_before = 0;
-        for answer in answers {
-            let (number, phase, finished) = (answer[0], answer[5], answer[12]);
-            self.by_number[number as usize] += 1;
-            self.amid_days += u64::from(number != 0 && phase == RUNNING);
-            if (phase_before, phase) == (RUNNING, OVER) {
-                self.days += 1;
-                self.largest_days += u64::from(finished == Plan::TASKS as u64);
-            }
-            phase_before = phase;
+    /// Counts an asking by the number of its answer, and what the plan answers
+    /// before and after it.
+    pub fn add(&mut self, number: u8, before: Phase, after: &Questions) {
+        self.askings += 1;
+        self.by_number[usize::from(number)] += 1;
+        self.amid_days += u64::from(number != 0 && after.phase == Phase::Running);
+        if (before, after.phase) == (Phase::Running, Phase::Over) {
+            self.days += 1;
+            let finished = after.standing.finished as usize;
+            self.largest_days += u64::from(finished == Plan::MAX_TASKS);
         }
     }
 }
@@ -44,7 +38,7 @@ impl Tally {
 impl Display for Tally {
     fn fmt(&self, to: &mut Formatter) -> Result {
         let [accepted, refused @ ..] = self.by_number;
-        write!(to, "{} askings in {} lists", self.askings, self.lists)?;
+        write!(to, "{} askings of {} plans", self.askings, self.plans)?;
         write!(to, ": {accepted} accepted")?;
         for (number, count) in (1..).zip(refused) {
             write!(to, ", {count} refused {number}")?;
@@ -55,7 +49,7 @@ impl Display for Tally {
             self.amid_days,
             self.days,
             self.largest_days,
-            Plan::TASKS
+            Plan::MAX_TASKS
         )
     }
 }

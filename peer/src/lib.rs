@@ -16,6 +16,7 @@ mod feed;
 mod figures;
 mod fullness;
 pub mod generate;
+pub mod listening;
 mod order;
 mod peak;
 mod phase;

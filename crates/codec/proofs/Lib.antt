@@ -1,2 +1,3 @@
--- What the proofs of several functions cite.
+-- What the proofs of the functions cite.
 pub mod Free
+pub mod Lines

@@ -1,8 +1,10 @@
-// Bytes to commands: "A command is one byte and operands of fixed width, lowest byte first."
+// Bytes to commands and back: "A command is one byte and operands of fixed width, lowest byte first."
 ghost use mathlib.Core.Path.{_≡_};
+ghost use mathlib.Core.List.{_∷_};
 ghost use Prim.Native.Nat.{_+_, _*_};
 ghost use lib.ListN.{drop};
 ghost use Rattle.rules.specs.Command as rules;
+ghost use Rattle.put.specs.Put.{Put};
 ghost use Rattle.codec.specs.Meaning.{commandOf, decoded};
 
 pub enum Command {
@@ -119,4 +121,35 @@ pub fn decode(stream: &[u8], place: usize) -> Decoded
         return Decoded::Refused(1);
     }
     table(stream[place], after(stream, place + 1))
+}
+
+// The byte of a command and its first operand.
+fn start(buffer: &mut [u8], place: usize, byte: u8, operand: u16) -> usize
+    ensures { λ r. ⌜ Put (byte ∷ rules.little 2 operand) place (now (buffer .entry)) (now (buffer .exit)) r ⌝ }
+{
+    let next = put::byte(buffer, place, byte);
+    put::little(buffer, next, 2, operand as u64)
+}
+
+// The bytes of a command, put into a buffer from a place on as far as there is room; the answer is
+// the place behind them.
+pub fn encode(command: Command, buffer: &mut [u8], place: usize) -> usize
+    ensures { λ r. ⌜ Put (rules.bytes (commandOf command)) place (now (buffer .entry)) (now (buffer .exit)) r ⌝ }
+{
+    match command {
+        Command::Plan { n, p, bound } => {
+            let next = start(buffer, place, 1, n);
+            let next = put::little(buffer, next, 1, p as u64);
+            put::little(buffer, next, 4, bound as u64)
+        }
+        Command::Task { parent, work, out } => {
+            let next = start(buffer, place, 2, parent);
+            let next = put::little(buffer, next, 2, work as u64);
+            put::little(buffer, next, 2, out as u64)
+        }
+        Command::Activation(task) => start(buffer, place, 3, task),
+        Command::Execution(task) => start(buffer, place, 4, task),
+        Command::Begin => put::byte(buffer, place, 5),
+        Command::Done(task) => start(buffer, place, 6, task),
+    }
 }

@@ -1,5 +1,6 @@
 -- What the contracts cite.
 -- the caller's records as those of the rules
 pub mod Records
--- what is answered for flat columns
-pub mod Assessed
+-- flat columns of tasks, and the plan that is written from them
+pub mod Columns
+pub mod Room

@@ -1,12 +1,20 @@
 // The planners' desk: the peak of the caller's own records, which are only read. The records are
-// copied once into flat columns, which are surveyed as those of a plan are.
+// copied once into flat columns, and these into the rows of a plan, which is surveyed as at BEGIN.
+mod room;
+
+use measure::is_within;
 use measure::least;
+use survey::survey;
+use words::plan::Plan;
+use words::set_cell;
 ghost use mathlib.Core.Path.{_≡_};
 ghost use Prim.Native.Nat.{min};
+ghost use lib.ListN.{replicate};
 ghost use Rattle.rules.specs.Limits.{maxTasks};
-ghost use Rattle.rules.specs.Desk.{desk};
+ghost use Rattle.rules.specs.Desk.{deskAnswer, desk};
+ghost use Rattle.words.specs.Layout.{words};
 ghost use Rattle.desk.specs.Records.{stepRecords};
-ghost use Rattle.desk.specs.Assessed.{assessed};
+ghost use Rattle.desk.specs.Columns.{ofTask};
 
 // "A record is parent, work and out": one task (step).
 #[repr(C)]
@@ -23,52 +31,109 @@ pub struct DeskAnswer {
     pub peak: u64,
 }
 
+// The entries of a column: one for each task, and entry 0 for nobody.
+const ENTRIES: usize = Plan::MAX_TASKS + 1;
+
 // How many of n records are copied: no more than a plan has tasks.
 fn copied(n: usize) -> usize
     ensures { λ r. ⌜ r ≡ min n maxTasks ⌝ }
 {
-    least(n, peak::MAX_TASKS)
+    least(n, Plan::MAX_TASKS)
 }
 
-// What the desk is answered for n tasks in flat columns. Entry i of a column belongs to task i.
-fn assess(
+// A refusal: the number of its ground.
+fn refused(number: u8) -> DeskAnswer
+    ensures { λ r. ⌜ r ≡ record { number = number; peak = 0 } ⌝ }
+{
+    DeskAnswer { number, peak: 0 }
+}
+
+// What the desk is answered for n tasks in flat columns, which are written into an empty room.
+fn answer<'a>(
     n: usize,
-    parents: [u16; peak::ENTRIES],
-    works: [u32; peak::ENTRIES],
-    outs: [u32; peak::ENTRIES],
-    activation: &[u16],
+    parents: &'a [u16; ENTRIES],
+    works: &'a [u16; ENTRIES],
+    outs: &'a [u16; ENTRIES],
+    activation: &'a [u16],
+    room: &mut [u32; Plan::WORDS],
 ) -> DeskAnswer
-    ensures { λ r. ⌜ assessed n parents works outs (now (activation .entry)) ≡ record { number = r .number; peak = r .peak } ⌝ }
+    requires { ⌜ now room ≡ replicate words 0 ⌝ }
+    ensures { λ r. ⌜ deskAnswer n (ofTask n (now (parents .entry))) (ofTask n (now (works .entry))) (ofTask n (now (outs .entry)))
+        (now (activation .entry)) ≡ record { number = r .number; peak = r .peak } ⌝ }
 {
     if activation.len() != n {
-        return DeskAnswer { number: 4, peak: 0 };
+        return refused(4);
     }
-    let surveyed = peak::survey(n, &parents, &works, &outs, activation);
+    if !is_within(n, Plan::MAX_TASKS) {
+        return refused(4);
+    }
+    if !room::write_rows(room, n, parents, works, outs) {
+        return refused(4);
+    }
+    if !room::is_listed(n, activation) {
+        return refused(4);
+    }
+    set_cell(room, Plan::HEAD, Plan::SIZE, n as u32);
+    room::write_order(room, activation);
+    if !room::is_distinct(room, activation) {
+        return refused(5);
+    }
+    let surveyed = survey(room);
     DeskAnswer {
         number: surveyed.number,
         peak: surveyed.peak,
     }
 }
 
+// The room becomes an empty plan.
+fn empty(room: &mut [u32; Plan::WORDS])
+    ensures { λ _. ⌜ now (room .exit) ≡ replicate words 0 ⌝ }
+{
+    *room = [0u32; Plan::WORDS];
+}
+
+// The same in any room, which is left empty.
+fn assess(
+    n: usize,
+    parents: [u16; ENTRIES],
+    works: [u16; ENTRIES],
+    outs: [u16; ENTRIES],
+    activation: &[u16],
+    room: &mut [u32; Plan::WORDS],
+) -> DeskAnswer
+    ensures { λ r. ⌜ (deskAnswer n (ofTask n parents) (ofTask n works) (ofTask n outs) (now (activation .entry))
+        ≡ record { number = r .number; peak = r .peak }) × (now (room .exit) ≡ replicate words 0) ⌝ }
+{
+    empty(room);
+    let answered = answer(n, &parents, &works, &outs, activation, room);
+    empty(room);
+    answered
+}
+
 // "The planners' desk may ask the peak of its own list of step records, one record a step, with an
 // activation list beside it. .. Both lists are only read." For C and Rust each list is a pointer and
-// a length.
+// a length. The rows of a plan are laid out in the room that the caller lends; whatever was there,
+// it is left empty.
 #[no_mangle]
-pub extern "C" fn desk_peak(records: &[TaskRecord], activation: &[u16]) -> DeskAnswer
-    ensures { λ r. ⌜ desk (stepRecords (now (records .entry))) (now (activation .entry))
-        ≡ record { number = r .number; peak = r .peak } ⌝ }
+pub extern "C" fn cephlouk_desk_peak(
+    records: &[TaskRecord],
+    activation: &[u16],
+    room: &mut [u32; Plan::WORDS],
+) -> DeskAnswer
+    ensures { λ r. ⌜ (desk (stepRecords (now (records .entry))) (now (activation .entry))
+        ≡ record { number = r .number; peak = r .peak }) × (now (room .exit) ≡ replicate words 0) ⌝ }
 {
-    let mut parents = [0u16; peak::ENTRIES];
-    let mut works = [0u32; peak::ENTRIES];
-    let mut outs = [0u32; peak::ENTRIES];
+    let mut parents = [0u16; ENTRIES];
+    let mut works = [0u16; ENTRIES];
+    let mut outs = [0u16; ENTRIES];
     let tasks = copied(records.len());
     let mut i = 0;
     while i < tasks {
         let record = records[i];
         i += 1;
         parents[i] = record.parent;
-        works[i] = record.work as u32;
-        outs[i] = record.out as u32;
+        works[i] = record.work;
+        outs[i] = record.out;
     }
-    assess(records.len(), parents, works, outs, activation)
+    assess(records.len(), parents, works, outs, activation, room)
 }

@@ -1,3 +1,2 @@
--- What the contracts of this crate say of a text and the buffer that it is put into.
-pub mod Written
-pub mod Put
+-- What the contracts of this crate say of a line.
+pub mod Line

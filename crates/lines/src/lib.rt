@@ -1,11 +1,13 @@
 // The lines of the day printer. Each is written to the front of a lent buffer, as much of it as
 // there is room for, and the answer is the number of bytes written.
-mod put;
 mod tail;
 
 ghost use lib.ListN.{take};
 ghost use Rattle.rules.specs.Text.{beginLine, doneLine, refusedLine};
-ghost use Rattle.lines.specs.Written.{Written};
+ghost use Rattle.lines.specs.Line.{Line};
+
+// No line has more bytes.
+pub const LONGEST_LINE: usize = 512;
 
 // The line of an accepted BEGIN. The tasks started are the first `count` of the list, all of it
 // where the count is larger.
@@ -18,10 +20,10 @@ pub fn begin_line(
     starts: &[u16],
     count: usize,
 ) -> usize
-    ensures { λ r. ⌜ Written (beginLine peak booked used full (take count (now (starts .entry)))) (now (buffer .entry)) (now (buffer .exit)) r ⌝ }
+    ensures { λ r. ⌜ Line (beginLine peak booked used full (take count (now (starts .entry)))) count (now (buffer .entry)) (now (buffer .exit)) r ⌝ }
 {
     let next = put::text(buffer, 0, b"begin peak=");
-    let next = put::number(buffer, next, peak);
+    let next = put::decimal(buffer, next, peak);
     tail::figures(buffer, next, booked, used, full, starts, count)
 }
 
@@ -36,22 +38,22 @@ pub fn done_line(
     starts: &[u16],
     count: usize,
 ) -> usize
-    ensures { λ r. ⌜ Written (doneLine task offers booked used full (take count (now (starts .entry)))) (now (buffer .entry)) (now (buffer .exit)) r ⌝ }
+    ensures { λ r. ⌜ Line (doneLine task offers booked used full (take count (now (starts .entry)))) count (now (buffer .entry)) (now (buffer .exit)) r ⌝ }
 {
     let next = put::text(buffer, 0, b"done ");
-    let next = put::number(buffer, next, task as u64);
+    let next = put::decimal(buffer, next, task as u64);
     let next = put::text(buffer, next, b" offers=");
-    let next = put::number(buffer, next, offers as u64);
+    let next = put::decimal(buffer, next, offers as u64);
     tail::figures(buffer, next, booked, used, full, starts, count)
 }
 
 // The line of a refusal: its number, and the byte offset of the command.
 pub fn refused_line(buffer: &mut [u8], number: u8, offset: u64) -> usize
-    ensures { λ r. ⌜ Written (refusedLine number offset) (now (buffer .entry)) (now (buffer .exit)) r ⌝ }
+    ensures { λ r. ⌜ Line (refusedLine number offset) 0 (now (buffer .entry)) (now (buffer .exit)) r ⌝ }
 {
     let next = put::text(buffer, 0, b"refused ");
-    let next = put::number(buffer, next, number as u64);
+    let next = put::decimal(buffer, next, number as u64);
     let next = put::text(buffer, next, b" at ");
-    let next = put::number(buffer, next, offset);
+    let next = put::decimal(buffer, next, offset);
     put::byte(buffer, next, b'\n')
 }

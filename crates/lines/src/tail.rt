@@ -1,10 +1,9 @@
 // What the lines of BEGIN and DONE go on with: the figures, and the tasks that were started.
-use crate::put;
 ghost use mathlib.Core.Path.{_≡_};
 ghost use mathlib.Core.List.{[], _∷_};
 ghost use lib.ListN.{take};
 ghost use Rattle.rules.specs.Text.{spaced, listed, figures};
-ghost use Rattle.lines.specs.Put.{Put};
+ghost use Rattle.put.specs.Put.{Put};
 
 // The front of the list, all of it where the count is larger.
 fn front(starts: &[u16], count: usize) -> &[u16]
@@ -22,7 +21,7 @@ fn start(buffer: &mut [u8], place: usize, task: u16) -> usize
     ensures { λ r. ⌜ Put (spaced (task ∷ [])) place (now (buffer .entry)) (now (buffer .exit)) r ⌝ }
 {
     let next = put::byte(buffer, place, b' ');
-    put::number(buffer, next, task as u64)
+    put::decimal(buffer, next, task as u64)
 }
 
 fn spaced(buffer: &mut [u8], place: usize, starts: &[u16]) -> usize
@@ -60,11 +59,11 @@ pub(crate) fn figures(
     ensures { λ r. ⌜ Put (figures booked used full (take count (now (starts .entry)))) place (now (buffer .entry)) (now (buffer .exit)) r ⌝ }
 {
     let next = put::text(buffer, place, b" booked=");
-    let next = put::number(buffer, next, booked as u64);
+    let next = put::decimal(buffer, next, booked as u64);
     let next = put::text(buffer, next, b" used=");
-    let next = put::number(buffer, next, used as u64);
+    let next = put::decimal(buffer, next, used as u64);
     let next = put::text(buffer, next, b" full=");
-    let next = put::number(buffer, next, full as u64);
+    let next = put::decimal(buffer, next, full as u64);
     let next = put::text(buffer, next, b" start");
     let next = listed(buffer, next, front(starts, count));
     put::byte(buffer, next, b'\n')

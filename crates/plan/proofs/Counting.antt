@@ -10,10 +10,10 @@ use Rattle.rules.specs.Sums.{Task, only, sumTo, countTo}
 use Rattle.rules.specs.Lists.{at}
 use Rattle.rules.specs.Standing.{waiting, activated, running, finished, count}
 use Rattle.rules.specs.Booking.{Books}
+use Rattle.rules.specs.Invariant.{Valid}
 use Rattle.rules.proofs.Sums.{only-true, only-false}
-use Rattle.rules.proofs.Turns.{Valid}
 use Rattle.rules.proofs.Orders.{sumOver, sum-along}
-use Rattle.plan.specs.Kept.{Reached}
+use Rattle.store.specs.Cached.{Reached}
 
 -- a sum along a list whose first k entries give nothing, and whose others give one
 sum-behind :

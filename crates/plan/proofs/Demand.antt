@@ -1,207 +1,216 @@
 -- Demand 3 of the code: what its calls answer is what the rules answer, so that the theorem of the rules is one about the calls.
-use mathlib.Core.Path.{_≡_, refl, sym, ap, ap₂, subst, _∙_}
-use mathlib.Core.Bool.{Bool, true, false, cond, _&&_, _||_}
+use mathlib.Core.Path.{_≡_, refl, sym, ap, ap₂, subst, subst₂, _∙_}
+use mathlib.Core.Bool.{Bool, true, false, _||_}
 use mathlib.Core.Logic.{_↔_}
-use mathlib.Core.List.{List, [], _∷_, _++_, map}
+use mathlib.Core.List.{List, [], _∷_, _++_}
 use Prim.Native.Nat.{ℕ, _≤_, _<_}
-use lib.Dec.{eqb}
-use lib.ListN.{length, take}
+use lib.ListN.{length}
 use Rattle.rules.specs.Lists.{at}
 use Rattle.rules.specs.Phase
 use Rattle.rules.specs.Standing
 use Rattle.rules.specs.State.{State, none}
-use Rattle.rules.specs.Command.{Decoded, decode}
+use Rattle.rules.specs.Command.{plan, read, decode}
 use Rattle.rules.specs.Answer as rules
 use Rattle.rules.specs.Question as questions
 use Rattle.rules.specs.Day as days
-use Rattle.rules.specs.Theorem.{DayHolds, SamePlan}
-use Rattle.rules.proofs.Theorem.{theorem}
-use Rattle.plan.specs.Meaning.{Plan, Answered, meaning, answeredOf}
-use Rattle.plan.specs.Led.{Led}
+use Rattle.rules.specs.Theorem.{DayHolds, OrdersHold, SamePlan}
+use Rattle.rules.proofs.Theorem.{after-append, theorem}
+use Rattle.plan.specs.Meaning.{planOf}
+use Rattle.plan.specs.ValidPlan.{ValidPlan}
 use Rattle.plan.specs.Calls.{
   Call,
-  Ensured,
+  CallContract,
   Calls,
-  New,
-  Told,
-  left,
-  asked,
+  NewPlan,
+  Answers,
+  leftBy,
   received,
+  asked,
+  allReceived,
   accepted,
   opensDay,
   opensPlan,
   nextPlan,
-  happened,
+  history,
 }
-use Rattle.plan.specs.Demand.{AnswersHold, CallsHold, EveryCallHolds}
+use Rattle.plan.specs.Demand.{AnswersHold, DayOfCalls, OpenedWith, EveryCallHolds}
+use Rattle.plan.proofs.NewPlan.{new-empty, new-valid}
+use Rattle.plan.proofs.Opened.{opened-first, opened-stays}
 
--- one call: all that is received is what the rules answer
-module _ {p : Plan} {c : Call} (e : Ensured p c) where
-  pub call-is : answeredOf (c .result) (c .list) ≡ rules.command (meaning p) (c .asking)
-  unfolding rules.command
-  call-is = e .responded .same ∙ ap (λ (d : Decoded). rules.respond (meaning p) d (c .asking .list)) (e .told)
+-- one call: whether it is accepted, opens a day or a plan, and what happened, is what the rules have
+module _ {w : List ℕ} {c : Call} (e : CallContract w c) where
+  state-is : planOf (c .left) ≡ rules.command (planOf w) (c .asking) .state
+  state-is = ap (λ (a : rules.Answered). a .state) (e .same)
 
-  pub state-is : meaning (c .result .plan) ≡ rules.command (meaning p) (c .asking) .state
-  state-is = ap (λ (a : rules.Answered). a .state) call-is
+  accepted-is : accepted c ≡ days.accepted (planOf w) (c .asking)
+  unfolding days.accepted
+  accepted-is = ap (λ (a : rules.Answered). days.accepts a) (e .same)
 
-  accepted-is : accepted c ≡ days.accepted (meaning p) (c .asking)
-  unfolding accepted days.accepted
-  accepted-is = ap (λ (a : rules.Answered). eqb (a .answer .number) 0) call-is
+  opens-day-is : opensDay c ≡ days.opensDay (planOf w) (c .asking)
+  unfolding days.opensDay
+  opens-day-is = ap (λ (a : rules.Answered). days.beginsDay (c .asking) a) (e .same)
 
-  opens-day-is : opensDay c ≡ days.opensDay (meaning p) (c .asking)
-  unfolding opensDay days.opensDay
-  opens-day-is = ap (λ (b : Bool). b && days.isBegin (decode (c .asking .stream) (c .asking .place))) accepted-is
+  opens-plan-is : opensPlan c ≡ days.opensPlan (planOf w) (c .asking)
+  unfolding days.opensPlan
+  opens-plan-is = ap (λ (a : rules.Answered). days.beginsPlan (c .asking) a) (e .same)
 
-  opens-plan-is : opensPlan c ≡ days.opensPlan (meaning p) (c .asking)
-  unfolding opensPlan days.opensPlan
-  opens-plan-is = ap (λ (b : Bool). b && days.isPlan (decode (c .asking .stream) (c .asking .place))) accepted-is
-
-  events-are :
-      cond (accepted c)
-      (map days.ended (days.reported (decode (c .asking .stream) (c .asking .place)))
-      ++ map days.started (take (c .result .answer .starts) (c .list))) []
-      ≡ days.events (meaning p) (c .asking)
-  unfolding accepted days.events days.accepted
-  events-are =
-      ap
-      (λ (a : rules.Answered).
-      cond (eqb (a .answer .number) 0)
-      (map days.ended (days.reported (decode (c .asking .stream) (c .asking .place)))
-      ++ map days.started (take (a .answer .starts) (a .list))) [])
-      call-is
+  events-are : days.happens (c .asking) (received c) ≡ days.events (planOf w) (c .asking)
+  unfolding days.events
+  events-are = ap (λ (a : rules.Answered). days.happens (c .asking) a) (e .same)
 
 -- and so for a list of calls
-received-are : (calls : List Call) (p : Plan) → Calls p calls → received calls ≡ days.answers (meaning p) (asked calls)
-unfolding Calls received asked days.answers
-received-are [] p e = refl
-received-are (c ∷ later) p e =
-    ap₂ (λ (a : rules.Answered) (l : List rules.Answered). a ∷ l) (call-is (e .0))
-    (received-are later (c .result .plan) (e .1)
-    ∙ ap (λ (s : State). days.answers s (asked later)) (state-is (e .0)))
+received-are :
+    (calls : List Call) (w : List ℕ) → Calls w calls → allReceived calls ≡ days.answers (planOf w) (asked calls)
+unfolding Calls allReceived asked days.answers
+received-are [] w e = refl
+received-are (c ∷ later) w e =
+    ap₂ (λ (a : rules.Answered) (l : List rules.Answered). a ∷ l) (e .0 .same)
+    (received-are later (c .left) (e .1) ∙ ap (λ (s : State). days.answers s (asked later)) (state-is (e .0)))
 
-left-is : (calls : List Call) (p : Plan) → Calls p calls → meaning (left p calls) ≡ days.after (meaning p) (asked calls)
-unfolding Calls left asked days.after
-left-is [] p e = refl
-left-is (c ∷ later) p e =
-    left-is later (c .result .plan) (e .1) ∙ ap (λ (s : State). days.after s (asked later)) (state-is (e .0))
+left-is : (calls : List Call) (w : List ℕ) → Calls w calls → planOf (leftBy w calls) ≡ days.after (planOf w) (asked calls)
+unfolding Calls leftBy asked days.after
+left-is [] w e = refl
+left-is (c ∷ later) w e =
+    left-is later (c .left) (e .1) ∙ ap (λ (s : State). days.after s (asked later)) (state-is (e .0))
 
-left-led : (calls : List Call) (p : Plan) → Calls p calls → Led p → Led (left p calls)
-unfolding Calls left
-left-led [] p e led = led
-left-led (c ∷ later) p e led = left-led later (c .result .plan) (e .1) (e .0 .responded .led)
+left-valid : (calls : List Call) (w : List ℕ) → Calls w calls → ValidPlan w → ValidPlan (leftBy w calls)
+unfolding Calls leftBy
+left-valid [] w e valid = valid
+left-valid (c ∷ later) w e valid = left-valid later (c .left) (e .1) (e .0 .valid)
 
-happened-is : (calls : List Call) (p : Plan) → Calls p calls → happened calls ≡ days.log (meaning p) (asked calls)
-unfolding Calls happened asked days.log
-happened-is [] p e = refl
-happened-is (c ∷ later) p e =
+history-is : (calls : List Call) (w : List ℕ) → Calls w calls → history calls ≡ days.log (planOf w) (asked calls)
+unfolding Calls history asked days.log
+history-is [] w e = refl
+history-is (c ∷ later) w e =
     ap₂ (λ (a b : List days.Event). a ++ b) (events-are (e .0))
-    (happened-is later (c .result .plan) (e .1) ∙ ap (λ (s : State). days.log s (asked later)) (state-is (e .0)))
+    (history-is later (c .left) (e .1) ∙ ap (λ (s : State). days.log s (asked later)) (state-is (e .0)))
 
-next-plan-is : (calls : List Call) (p : Plan) → Calls p calls → nextPlan calls ≡ days.nextPlan (meaning p) (asked calls)
+next-plan-is :
+    (calls : List Call) (w : List ℕ) → Calls w calls → nextPlan calls ≡ days.nextPlan (planOf w) (asked calls)
 unfolding Calls nextPlan asked days.nextPlan
-next-plan-is [] p e = refl
-next-plan-is (c ∷ later) p e =
+next-plan-is [] w e = refl
+next-plan-is (c ∷ later) w e =
     ap₂ (λ (a b : Bool). a || b) (opens-plan-is (e .0))
-    (next-plan-is later (c .result .plan) (e .1) ∙ ap (λ (s : State). days.nextPlan s (asked later)) (state-is (e .0)))
+    (next-plan-is later (c .left) (e .1) ∙ ap (λ (s : State). days.nextPlan s (asked later)) (state-is (e .0)))
 
 -- a list of calls after another
-left-append : (l m : List Call) (p : Plan) → left p (l ++ m) ≡ left (left p l) m
-unfolding left
-left-append [] m p = refl
-left-append (c ∷ l) m p = left-append l m (c .result .plan)
-
 asked-append : (l m : List Call) → asked (l ++ m) ≡ asked l ++ asked m
 unfolding asked
 asked-append [] m = refl
 asked-append (c ∷ l) m = ap (λ (k : List rules.Asking). c .asking ∷ k) (asked-append l m)
 
-calls-split : (l m : List Call) (p : Plan) → Calls p (l ++ m) → Calls p l × Calls (left p l) m
-unfolding Calls left
-calls-split [] m p e = (tt, e)
-calls-split (c ∷ l) m p e = let k = calls-split l m (c .result .plan) (e .1) in ((e .0, k .0), k .1)
+calls-split : (l m : List Call) (w : List ℕ) → Calls w (l ++ m) → Calls w l × Calls (leftBy w l) m
+unfolding Calls leftBy
+calls-split [] m w e = (tt, e)
+calls-split (c ∷ l) m w e = let k = calls-split l m (c .left) (e .1) in ((e .0, k .0), k .1)
 
 -- what the questions answer in a day
-pub answers-hold :
-    (p : Plan) (events : List days.Event) → DayHolds (meaning p) events → (q : Told p) → AnswersHold p events q
-answers-hold p events day q =
+answers-hold :
+    (w : List ℕ) (happened : List days.Event) → DayHolds (planOf w) happened → (q : Answers w) → AnswersHold w happened q
+answers-hold w happened day q =
     record {
-      running = subst (λ (v : ℕ). (v ≡ Phase.running) ↔ (length (days.ends events) < p .size)) (sym (q .phase-is)) (day .running);
-      over = subst (λ (v : ℕ). (v ≡ Phase.over) ↔ (length (days.ends events) ≡ p .size)) (sym (q .phase-is)) (day .over);
-      used = q .in-use-is ∙ day .used;
-      covered =
-          subst (λ (v : ℕ). v ≤ q .booked) (sym (q .in-use-is))
-          (subst (λ (v : ℕ). questions.inUse (meaning p) ≤ v) (sym (q .booked-is)) (day .covered));
-      within = subst (λ (v : ℕ). v ≤ p .bound) (sym (q .booked-is)) (day .within);
+      running =
+          subst (λ (v : ℕ). (v ≡ Phase.running) ↔ (length (days.ends happened) < planOf w .size)) (sym (q .phase-is)) (day .running);
+      over = subst (λ (v : ℕ). (v ≡ Phase.over) ↔ (length (days.ends happened) ≡ planOf w .size)) (sym (q .phase-is)) (day .over);
+      used = q .in-use-is ∙ day .store .used;
+      covered = subst₂ (λ (u v : ℕ). u ≤ v) (sym (q .in-use-is)) (sym (q .booked-is)) (day .store .covered);
+      within = subst (λ (v : ℕ). v ≤ planOf w .chilled .bound) (sym (q .booked-is)) (day .store .within);
       running-tasks = ap (λ (l : List ℕ). at l Standing.running) (q .standing-is) ∙ day .countRunning;
       finished-tasks = ap (λ (l : List ℕ). at l Standing.finished) (q .standing-is) ∙ day .countEnded;
     }
 
-module _ (p : Plan) (new : New p) where
+-- calls of which one is looked at: the plan that it finds and the plan as it stands, by the rules
+module _ {w : List ℕ} (new : NewPlan w) (earlier : List Call) (opening : Call) (later : List Call)
+    (e : Calls w (earlier ++ opening ∷ later)) where
+  parts : Calls w earlier × Calls (leftBy w earlier) (opening ∷ later)
+  parts = calls-split earlier (opening ∷ later) w e
+
+  found : planOf (leftBy w earlier) ≡ days.after none (asked earlier)
+  found = left-is earlier w (parts .0) ∙ ap (λ (s : State). days.after s (asked earlier)) (new-empty new)
+
+  stands : planOf (leftBy w (earlier ++ opening ∷ later)) ≡ days.after none (asked earlier ++ asked (opening ∷ later))
+  stands =
+      left-is (earlier ++ opening ∷ later) w e
+      ∙ ap₂ (λ (s : State) (l : List rules.Asking). days.after s l) (new-empty new) (asked-append earlier (opening ∷ later))
+
   -- a day among the calls
   day-of :
-      (earlier : List Call) (opening : Call) (later : List Call)
-      → Calls p (earlier ++ opening ∷ later)
-      → opensDay opening ≡ true
+      opensDay opening ≡ true
       → nextPlan (opening ∷ later) ≡ false
-      → DayHolds (meaning (left p (earlier ++ opening ∷ later))) (happened (opening ∷ later))
-      × SamePlan (meaning (left p earlier)) (meaning (left p (earlier ++ opening ∷ later)))
+      → DayOfCalls (leftBy w earlier) (leftBy w (earlier ++ opening ∷ later)) (history (opening ∷ later))
   unfolding Calls asked
-  day-of earlier opening later e opens next =
-      let parts = calls-split earlier (opening ∷ later) p e in
-      let found : meaning (left p earlier) ≡ days.after none (asked earlier) =
-      left-is earlier p (parts .0) ∙ ap (λ (s : State). days.after s (asked earlier)) (new .empty)
-      in
-      let stands : meaning (left p (earlier ++ opening ∷ later)) ≡ days.after none (asked earlier ++ asked (opening ∷ later)) =
-      left-is (earlier ++ opening ∷ later) p e
-      ∙ ap₂ (λ (s : State) (l : List rules.Asking). days.after s l) (new .empty) (asked-append earlier (opening ∷ later))
-      in
-      let log-is : happened (opening ∷ later) ≡ days.log (days.after none (asked earlier)) (asked (opening ∷ later)) =
-      happened-is (opening ∷ later) (left p earlier) (parts .1) ∙ ap (λ (s : State). days.log s (asked (opening ∷ later))) found
+  day-of opens next =
+      let log-is : history (opening ∷ later) ≡ days.log (days.after none (asked earlier)) (asked (opening ∷ later)) =
+      history-is (opening ∷ later) (leftBy w earlier) (parts .1) ∙ ap (λ (s : State). days.log s (asked (opening ∷ later))) found
       in
       let begins : days.opensDay (days.after none (asked earlier)) (opening .asking) ≡ true =
       ap (λ (s : State). days.opensDay s (opening .asking)) (sym found) ∙ sym (opens-day-is (parts .1 .0)) ∙ opens
       in
       let none-next : days.nextPlan (days.after none (asked earlier)) (asked (opening ∷ later)) ≡ false =
       ap (λ (s : State). days.nextPlan s (asked (opening ∷ later))) (sym found)
-      ∙ sym (next-plan-is (opening ∷ later) (left p earlier) (parts .1))
+      ∙ sym (next-plan-is (opening ∷ later) (leftBy w earlier) (parts .1))
       ∙ next
-      in (
-        subst (λ (s : State). DayHolds s (happened (opening ∷ later))) (sym stands)
-            (subst (λ (l : List days.Event). DayHolds (days.after none (asked earlier ++ asked (opening ∷ later))) l) (sym log-is)
-            (theorem .days (asked earlier) (opening .asking) (asked later) begins none-next)),
-        subst (λ (s : State). SamePlan s (meaning (left p (earlier ++ opening ∷ later)))) (sym found)
-            (subst (λ (s : State). SamePlan (days.after none (asked earlier)) s) (sym stands)
-            (theorem .plans (asked earlier) (opening .asking) (asked later) begins none-next)),
-      )
-
-  calls-hold : (calls : List Call) → Calls p calls → CallsHold p calls
-  calls-hold calls e =
-      let leaves : meaning (left p calls) ≡ days.after none (asked calls) =
-      left-is calls p e ∙ ap (λ (s : State). days.after s (asked calls)) (new .empty)
+      in
+      let day : DayHolds (planOf (leftBy w (earlier ++ opening ∷ later))) (history (opening ∷ later)) =
+      subst₂ (λ (s : State) (l : List days.Event). DayHolds s l) (sym stands) (sym log-is)
+      (theorem .days (asked earlier) (opening .asking) (asked later) begins none-next)
       in
       record {
-        answered = received-are calls p e ∙ ap (λ (s : State). days.answers s (asked calls)) (new .empty);
-        leaves = leaves;
-        led = left-led calls p e (new .led);
-        questions =
-            λ q. (
-              q .phase-is ∙ ap (λ (s : State). s .phase) leaves,
-              q .booked-is ∙ ap questions.booked leaves,
-              q .in-use-is ∙ ap questions.inUse leaves,
-              q .fullness-is ∙ ap questions.fullness leaves,
-              q .standing-is ∙ ap questions.standing leaves,
-            );
-        days =
-            λ earlier opening later split opens next.
-            let day : DayHolds (meaning (left p calls)) (happened (opening ∷ later))
-            × SamePlan (meaning (left p earlier)) (meaning (left p calls)) =
-            subst
-            (λ (l : List Call).
-            DayHolds (meaning (left p l)) (happened (opening ∷ later)) × SamePlan (meaning (left p earlier)) (meaning (left p l)))
-            (sym split) (day-of earlier opening later (subst (λ (l : List Call). Calls p l) split e) opens next)
-            in
-            (day .0, day .1, λ q. answers-hold (left p calls) (happened (opening ∷ later)) (day .0) q);
+        day = day;
+        orders =
+            subst (λ (s : State). OrdersHold s) (sym stands)
+            (theorem .orders (asked earlier) (opening .asking) (asked later) begins none-next);
+        plan =
+            subst₂ (λ (s t : State). SamePlan s t) (sym found) (sym stands)
+            (theorem .plans (asked earlier) (opening .asking) (asked later) begins none-next);
+        places =
+            subst₂ (λ (s t : State). t .chilled .bound ≡ s .chilled .bound) (sym found) (sym stands)
+            (theorem .places (asked earlier) (opening .asking) (asked later) begins none-next);
+        questions = answers-hold (leftBy w (earlier ++ opening ∷ later)) (history (opening ∷ later)) day;
       }
 
+  -- a plan that one of the calls opens
+  plan-of :
+      (n p m used : ℕ)
+      → accepted opening ≡ true
+      → decode (opening .asking .stream) (opening .asking .place) ≡ read (plan n p m) used
+      → nextPlan later ≡ false
+      → OpenedWith n p m (planOf (leftBy w (earlier ++ opening ∷ later)))
+  unfolding Calls asked days.after
+  plan-of n p m used granted bytes next =
+      subst (λ (s : State). OpenedWith n p m s)
+      (ap (λ (s : State). days.after s (asked (opening ∷ later))) found
+      ∙ sym (after-append (asked earlier) (asked (opening ∷ later)) none)
+      ∙ sym stands)
+      (opened-stays (asked later) (rules.command (planOf (leftBy w earlier)) (opening .asking) .state)
+      (opened-first (planOf (leftBy w earlier)) (opening .asking) used (sym (accepted-is (parts .1 .0)) ∙ granted) bytes)
+      (ap (λ (s : State). days.nextPlan s (asked later)) (sym (state-is (parts .1 .0)))
+      ∙ sym (next-plan-is later (opening .left) (parts .1 .1))
+      ∙ next))
+
 pub every-call-holds : EveryCallHolds
-every-call-holds p new calls e = calls-hold p new calls e
+every-call-holds w new calls e =
+    let leaves : planOf (leftBy w calls) ≡ days.after none (asked calls) =
+    left-is calls w e ∙ ap (λ (s : State). days.after s (asked calls)) (new-empty new)
+    in
+    record {
+      answered = received-are calls w e ∙ ap (λ (s : State). days.answers s (asked calls)) (new-empty new);
+      leaves = leaves;
+      valid = left-valid calls w e (new-valid new);
+      questions =
+          λ q. (
+            q .phase-is ∙ ap (λ (s : State). s .phase) leaves,
+            q .booked-is ∙ ap questions.booked leaves,
+            q .in-use-is ∙ ap questions.inUse leaves,
+            q .fullness-is ∙ ap questions.fullness leaves,
+            q .standing-is ∙ ap questions.standing leaves,
+          );
+      plans =
+          λ earlier opening later n p m used split granted bytes next.
+          subst (λ (l : List Call). OpenedWith n p m (planOf (leftBy w l))) (sym split)
+          (plan-of new earlier opening later (subst (λ (l : List Call). Calls w l) split e) n p m used granted bytes next);
+      days =
+          λ earlier opening later split opens next.
+          subst (λ (l : List Call). DayOfCalls (leftBy w earlier) (leftBy w l) (history (opening ∷ later))) (sym split)
+          (day-of new earlier opening later (subst (λ (l : List Call). Calls w l) split e) opens next);
+    }

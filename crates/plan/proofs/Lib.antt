@@ -1,43 +1,23 @@
--- Laws of what the code keeps.
--- the arrays
-pub mod Front
-pub mod Entries
+-- Laws of the commands.
+pub mod Clearing
 pub mod Placing
+pub mod Ordering
+pub mod Obeying
+pub mod Opening
 pub mod Meant
--- what a task needs and holds, and who is ready
-pub mod Weighing
-pub mod Held
-pub mod Unended
-pub mod ReadyIn
-pub mod Using
-pub mod Idle
--- questions
-pub mod Counting
-pub mod Asked
--- sharing out, booking ahead and ending, one turn after the other
-pub mod Way
-pub mod Turning
-pub mod Ending
--- starting
-pub mod First
-pub mod Blocks
-pub mod Picks
-pub mod Begun
-pub mod Chosen
+pub mod Past
+pub mod Adding
+pub mod Same
 pub mod Advancing
 pub mod Proceeding
-pub mod Reporting
-pub mod Settling
-pub mod Parts
+pub mod Days
 pub mod Beginning
+pub mod Reporting
+pub mod Appending
 pub mod Responding
-pub mod Successive
--- every list of calls
+pub mod Counting
+pub mod Questions
+pub mod NewPlan
+pub mod Opened
 pub mod Demand
-pub mod Ways
--- a plan as it is built
-pub mod Obeying
-pub mod Blank
-pub mod Opening
-pub mod Adding
-pub mod Ordering
+pub mod WorkedCalls

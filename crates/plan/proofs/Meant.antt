@@ -1,4 +1,4 @@
--- What a sound plan means: the lists of its meaning have for each task what its arrays have.
+-- What a sound plan means: the lists of its meaning have for each task what its columns have.
 use mathlib.Core.Path.{_≡_, sym, ap, fun-ext, subst, _∙_}
 use mathlib.Core.Logic.{⊎-elim}
 use mathlib.Core.List.{List}
@@ -12,110 +12,117 @@ use Rattle.rules.specs.Lists.{at}
 use Rattle.rules.specs.Need.{need}
 use Rattle.rules.specs.Phase
 use Rattle.rules.specs.State.{needs}
+use Rattle.rules.specs.Reachable.{Reachable}
+use Rattle.rules.specs.Invariant.{Valid, Roomy}
 use Rattle.rules.proofs.Tests.{le-or-lt}
 use Rattle.rules.proofs.Sums.{only-true}
-use Rattle.rules.proofs.Turns.{Valid}
-use Rattle.rules.proofs.Balance.{Roomy}
 use Rattle.rules.proofs.InDay.{booksOf, needs-roomy}
 use Rattle.rules.proofs.Reaching.{lives}
-use Rattle.plan.specs.Meaning.{Plan, dayRows, meaning}
-use Rattle.plan.specs.Kept.{front, booksIn, Going}
+use Rattle.words.specs.Contents.{Contents}
+use Rattle.store.specs.Rows.{rowsOf, books, activationOf}
+use Rattle.store.specs.Kept.{Kept}
+use Rattle.store.proofs.Rows.{rows-is}
+use Rattle.plan.specs.Meaning.{dayRows, meaning}
 use Rattle.plan.specs.Sound.{Unused, Sound}
-use Rattle.plan.specs.Led.{Led}
-use Rattle.plan.proofs.Front.{front-is}
 
 -- the entries given so far are all that a column says
-pub given-is : (rows : ℕ) (l : List ℕ) → Unused rows l → at (take rows l) ≡ at l
-given-is rows l unused =
+pub given-is : (given : ℕ) (l : List ℕ) → Unused given l → at (take given l) ≡ at l
+given-is given l unused =
     fun-ext
     (λ a.
     ⊎-elim
-    (λ (h : rows ≤ a).
-    List·getD-eq-default (take rows l) 0 (let t = length-take rows l in omega arith) ∙ sym (unused .later a h))
-    (λ (h : a < rows). getD-take rows l a 0 h)
-    (le-or-lt rows a))
+    (λ (h : given ≤ a).
+    List·getD-eq-default (take given l) 0 (let t = length-take given l in omega arith) ∙ sym (unused .later a h))
+    (λ (h : a < given). getD-take given l a 0 h)
+    (le-or-lt given a))
 
-module _ (p : Plan) (sound : Sound p) where
+module _ (c : Contents) (sound : Sound c) where
   -- the columns of the plan, in any phase
-  pub parents-meant : at (meaning p .parents) ≡ at (p .parents)
-  parents-meant = given-is (p .rows) (p .parents) (sound .parents)
+  pub parents-meant : at (meaning c .parents) ≡ at (c .parents)
+  parents-meant = given-is (c .given) (c .parents) (sound .parents)
 
-  pub works-meant : at (meaning p .memory .works) ≡ at (p .works)
-  works-meant = given-is (p .rows) (p .works) (sound .works)
+  pub works-meant : at (meaning c .chilled .works) ≡ at (c .chilled .works)
+  works-meant = given-is (c .given) (c .chilled .works) (sound .works)
 
-  pub outs-meant : at (meaning p .memory .outs) ≡ at (p .outs)
-  outs-meant = given-is (p .rows) (p .outs) (sound .outs)
+  pub outs-meant : at (meaning c .chilled .outs) ≡ at (c .chilled .outs)
+  outs-meant = given-is (c .given) (c .chilled .outs) (sound .outs)
 
   -- the needs, by the columns
-  pub needs-columns : needs (meaning p) ≡ need (p .size) (at (p .parents)) (at (p .works)) (at (p .outs))
+  pub needs-columns :
+      needs (meaning c) ≡ need (c .size) (at (c .parents)) (at (c .chilled .works)) (at (c .chilled .outs))
   needs-columns = rw (parents-meant, works-meant, outs-meant)
 
+  -- every parent is a task or nobody
+  pub parents-small : Reachable (meaning c) → (i : ℕ) → at (c .parents) i ≤ c .size
+  parents-small reached =
+      subst (λ (f : ℕ → ℕ). (i : ℕ) → f i ≤ c .size) parents-meant (lives reached .formed .parents)
+
 -- in a day its columns have an entry for each task, and one for nobody
-pub day-rows : (p : Plan) → Phase.running ≤ p .phase → dayRows p ≡ suc (p .size)
-day-rows p day = only-true (leb Phase.running (p .phase)) (suc (p .size)) (le-leb Phase.running (p .phase) day)
+pub day-rows : (c : Contents) → Phase.running ≤ c .phase → dayRows c ≡ suc (c .size)
+day-rows c day = only-true (leb Phase.running (c .phase)) (suc (c .size)) (le-leb Phase.running (c .phase) day)
 
-module _ (p : Plan) (sound : Sound p) (day : Phase.running ≤ p .phase) where
-  -- the lists of the day are the fronts of the arrays
-  pub standings-front : meaning p .standings ≡ front (p .size) (p .standings)
-  standings-front = ap (λ (r : ℕ). take r (p .standings)) (day-rows p day)
+module _ (c : Contents) (sound : Sound c) (day : Phase.running ≤ c .phase) where
+  -- the lists of the day are the rows of the tasks
+  pub standings-rows : meaning c .standings ≡ rowsOf (c .size) (c .standings)
+  standings-rows = ap (λ (r : ℕ). take r (c .standings)) (day-rows c day)
 
-  pub booked-front : meaning p .memory .booked ≡ front (p .size) (p .booked)
-  booked-front = ap (λ (r : ℕ). take r (p .booked)) (day-rows p day)
+  pub booked-rows : meaning c .chilled .booked ≡ rowsOf (c .size) (c .chilled .booked)
+  booked-rows = ap (λ (r : ℕ). take r (c .chilled .booked)) (day-rows c day)
 
-  pub books-front : booksOf (meaning p) ≡ booksIn (p .size) (p .standings) (p .booked)
-  books-front = rw (day-rows p day)
+  pub books-rows : booksOf (meaning c) ≡ books c
+  books-rows = rw (day-rows c day)
 
-  -- and have for each task what the arrays have
-  pub standings-meant : at (meaning p .standings) ≡ at (p .standings)
-  standings-meant = ap at standings-front ∙ front-is (p .size) (p .standings) (sound .day day .standings-quiet)
+  -- and have for each task what the columns have
+  pub standings-meant : at (meaning c .standings) ≡ at (c .standings)
+  standings-meant = ap at standings-rows ∙ rows-is (c .size) (c .standings) (sound .day day .cached .standings-zero)
 
   -- the needs are those that were weighed
-  pub needs-meant : needs (meaning p) ≡ at (p .needs)
-  needs-meant = needs-columns p sound ∙ sym (fun-ext (sound .day day .needed))
+  pub needs-meant : needs (meaning c) ≡ at (c .chilled .needs)
+  needs-meant = needs-columns c sound ∙ sym (fun-ext (sound .day day .cached .store .needed))
 
   -- the activation order is whole
-  pub activation-meant : meaning p .activation ≡ take (p .size) (p .activation)
-  activation-meant = ap (λ (k : ℕ). take k (p .activation)) (sound .day day .ranked-all)
+  pub activation-meant : meaning c .activation ≡ activationOf c
+  activation-meant = ap (λ (k : ℕ). take k (c .activation)) (sound .day day .ranked-all)
 
 -- a plan in its day that commands led to
-module _ (p : Plan) (led : Led p) (day : Phase.running ≤ p .phase) where
+module _ (c : Contents) (reached : Reachable (meaning c)) (sound : Sound c) (day : Phase.running ≤ c .phase) where
   -- its activation order holds each task once, before its parent
-  pub order-valid : Valid (p .size) (at (p .parents)) (take (p .size) (p .activation))
+  pub order-valid : Valid (c .size) (at (c .parents)) (activationOf c)
   order-valid =
-      rw (parents-meant p (led .sound), activation-meant p (led .sound) day) at
-      (lives (led .reached) .day day .1 .planned .valid)
+      rw (parents-meant c sound, activation-meant c sound day) at (lives reached .day day .1 .planned .valid)
 
-  -- and its books keep what holds of a day
-  pub still-going :
-      Going (p .size) (at (p .parents)) (at (p .needs)) (at (p .outs)) (take (p .size) (p .activation)) (p .bound)
-      (booksIn (p .size) (p .standings) (p .booked))
-  still-going =
-      let sound = led .sound in
-      let lived = lives (led .reached) in
-      let inDay = lived .day day .1 in
+  -- its books keep what holds of a day
+  pub still-kept : Kept c
+  still-kept =
+      let inDay = lives reached .day day .1 in
       record {
-        small = sound .small;
-        bounded = sound .bounded;
-        valid = order-valid;
-        parents = λ i. subst (λ (par : ℕ → ℕ). par i ≤ p .size) (parents-meant p sound) (lived .formed .parents i);
-        roomy =
-            subst (λ (par : ℕ → ℕ). Roomy (p .size) par (at (p .needs)) (at (p .outs))) (parents-meant p sound)
-            (subst (λ (need : ℕ → ℕ). Roomy (p .size) (at (meaning p .parents)) need (at (p .outs))) (needs-meant p sound day)
-            (subst (λ (out : ℕ → ℕ). Roomy (p .size) (at (meaning p .parents)) (needs (meaning p)) out) (outs-meant p sound)
-            (needs-roomy (meaning p))));
-        good =
-            rw (
-              needs-meant p sound day,
-              parents-meant p sound,
-              activation-meant p sound day,
-              outs-meant p sound,
-              books-front p sound day,
-            ) at (inDay .settled .good);
+        invariant =
+            record {
+              small = sound .small;
+              bounded = sound .bounded;
+              valid = order-valid;
+              parents = parents-small c sound reached;
+              roomy =
+                  subst (λ (par : ℕ → ℕ). Roomy (c .size) par (at (c .chilled .needs)) (at (c .chilled .outs))) (parents-meant c sound)
+                  (subst (λ (f : ℕ → ℕ). Roomy (c .size) (at (meaning c .parents)) f (at (c .chilled .outs)))
+                  (needs-meant c sound day)
+                  (subst (λ (out : ℕ → ℕ). Roomy (c .size) (at (meaning c .parents)) (needs (meaning c)) out) (outs-meant c sound)
+                  (needs-roomy (meaning c) (meaning c .chilled))));
+              good =
+                  rw (
+                    needs-meant c sound day,
+                    parents-meant c sound,
+                    activation-meant c sound day,
+                    outs-meant c sound,
+                    books-rows c sound day,
+                  ) at (inDay .settled .good);
+            };
+        cached = sound .day day .cached;
       }
 
   -- no more tasks run than there are processors
-  pub staffed : p .running ≤ p .processors
+  pub staffed : c .active ≤ c .processors
   staffed =
-      let r = led .sound .day day .kept .runs in
-      let s = rw (standings-front p (led .sound) day) at (lives (led .reached) .day day .1 .settled .staffed) in
+      let r = sound .day day .cached .runs in
+      let s = rw (standings-rows c sound day) at (lives reached .day day .1 .settled .staffed) in
       omega arith

@@ -1,5 +1,5 @@
--- Laws of a whole command in code: a refusal leaves the very plan, and one that starts nothing leaves what the rules say.
-use mathlib.Core.Path.{_≡_, refl, sym, ap, _∙_}
+-- Laws of a whole command in code: a refusal leaves the very words, and one that starts nothing leaves what the rules say.
+use mathlib.Core.Path.{_≡_, refl, sym, ap, subst, _∙_}
 use mathlib.Core.List.{List}
 use Prim.Native.Nat.{ℕ}
 use Rattle.rules.specs.Command as rules
@@ -7,9 +7,10 @@ use Rattle.rules.specs.Grounds.{ground}
 use Rattle.rules.specs.Obey.{Outcome, plain, obey}
 use Rattle.rules.specs.Answer as answers
 use Rattle.rules.proofs.Judging.{judge-refused, judge-accepted}
-use Rattle.plan.specs.Meaning.{Plan, Answer, Answered, meaning, answeredOf}
+use Rattle.words.specs.Contents.{Contents, contents}
+use Rattle.plan.specs.Meaning.{Answer, meaning, planOf, answeredOf}
 use Rattle.plan.specs.Sound.{Sound}
-use Rattle.plan.specs.Led.{Obeyed}
+use Rattle.plan.specs.ValidPlan.{Judged, Obeyed}
 
 -- the answer of a refusal, and of a command that starts nothing
 abbrev pub refused : ℕ → Answer
@@ -20,43 +21,60 @@ accepted used = record { number = 0; used = used; starts = 0; peak = 0; offers =
 
 -- a refusal leaves the plan and the start list
 pub refuses :
-    (p : Plan) (k : ℕ) (list : List ℕ) (a : Answer)
+    (c : Contents) (k : ℕ) (list : List ℕ) (a : Answer)
     → a ≡ refused k
-    → answeredOf (record { answer = a; plan = p }) list ≡ answers.refuse k (meaning p) list
+    → answeredOf a c list ≡ answers.refuse k (meaning c) list
 unfolding answers.refuse
-refuses p k list a e = ap (λ (b : Answer). answeredOf (record { answer = b; plan = p }) list) e
+refuses c k list a e = ap (λ (b : Answer). answeredOf b c list) e
 
 -- by the ground of the rules
 pub refusal :
-    {p : Plan} {c : rules.Command} {used : ℕ} {a : Answer} (k : ℕ)
-    → Sound p
+    {w : List ℕ} {c : rules.Command} {used : ℕ} {a : Answer} (k : ℕ)
+    → Sound (contents w)
     → a ≡ refused k
     → (k ≡ 0 → ⊥)
-    → ground (meaning p) c ≡ k
-    → Obeyed p c used (record { answer = a; plan = p })
-refusal {p = p} {c = c} {used = used} {a = a} k sound said some why list =
+    → ground (planOf w) c ≡ k
+    → Obeyed w c used a w
+refusal {w = w} {c = c} {used = used} {a = a} k sound said some why list =
     record {
-      same = refuses p k list a said ∙ sym (judge-refused (meaning p) c k used list why some);
+      same = refuses (contents w) k list a said ∙ sym (judge-refused (planOf w) c k used list why some);
       sound = sound;
       refused = λ _. refl;
     }
 
 -- a plain answer with the plan that the rules leave
 pub acceptance :
-    {p : Plan} {c : rules.Command} {used : ℕ} {r : Answered}
-    → ground (meaning p) c ≡ 0
-    → r .answer ≡ accepted used
-    → obey (meaning p) c ≡ plain (meaning (r .plan))
-    → Sound (r .plan)
-    → Obeyed p c used r
+    {w w′ : List ℕ} {c : rules.Command} {used : ℕ} {a : Answer} {left : Contents}
+    → ground (planOf w) c ≡ 0
+    → a ≡ accepted used
+    → contents w′ ≡ left
+    → obey (planOf w) c ≡ plain (meaning left)
+    → Sound left
+    → Obeyed w c used a w′
 unfolding answers.accept answers.front
-acceptance {p = p} {c = c} {used = used} {r = r} none said left sound list =
+acceptance {w = w} {w′ = w′} {c = c} {used = used} {a = a} none said is means sound list =
     record {
       same =
-          ap (λ (a : Answer). answeredOf (record { answer = a; plan = r .plan }) list) said
+          ap (λ (b : Answer). answeredOf b (contents w′) list) said
+          ∙ ap (λ (l : Contents). answeredOf (accepted used) l list) is
           ∙ sym
-          (judge-accepted (meaning p) c used list none
-          ∙ ap (λ (o : Outcome). answers.accept o used list) left);
+          (judge-accepted (planOf w) c used list none
+          ∙ ap (λ (o : Outcome). answers.accept o used list) means);
+      sound = subst (λ (l : Contents). Sound l) (sym is) sound;
+      refused = λ d. absurd (d (ap (λ (b : Answer). b .number) said));
+    }
+
+-- an accepted command that may start tasks
+pub judged :
+    {w w′ : List ℕ} {c : rules.Command} {used : ℕ} {list list′ : List ℕ} {a : Answer}
+    → ground (planOf w) c ≡ 0
+    → a .number ≡ 0
+    → answeredOf a (contents w′) list′ ≡ answers.accept (obey (planOf w) c) used list
+    → Sound (contents w′)
+    → Judged w c used list a w′ list′
+judged {w = w} {c = c} {used = used} {list = list} none accepts same sound =
+    record {
+      same = same ∙ sym (judge-accepted (planOf w) c used list none);
       sound = sound;
-      refused = λ d. absurd (d (ap (λ (a : Answer). a .number) said));
+      refused = λ d. absurd (d accepts);
     }

@@ -1,290 +1,189 @@
--- Laws of 03 and 04: one task more in an order keeps a plan sound, and is the next in that order of the rules.
-use mathlib.Core.Path.{_≡_, sym, ap, _∙_}
+-- Laws of 03 and 04: the ground against one task more in an order.
+use mathlib.Core.Path.{_≡_, refl, sym, ap, _∙_}
 use mathlib.Core.Bool.{true, false, not, _&&_}
 use mathlib.Core.List.{List}
-use Prim.Native.Nat.{ℕ, suc, _+_, _≤_, _<_}
+use Prim.Native.Nat.{ℕ, _+_, _*_, _≤_, _<_}
 use native.Mathlib.Omega.{arith}
 use lib.Dec.{eqb, leb, ltb}
-use lib.ListN.{length, take, set, length-set}
-use lib.Seq.{length-take-le}
-use borrow.Author.Tests.{eqb-true, leb-true, ltb-true, not-true}
-use Rattle.rules.specs.Limits.{maxTasks}
-use Rattle.rules.specs.Lists.{mem}
+use lib.ListN.{take, set}
+use borrow.Author.Tests.{eqb-true, leb-true, ltb-true, not-true, eq-eqb, ne-eqb, lt-ltb, le-ltb}
+use Rattle.rules.specs.Lists.{at, mem}
 use Rattle.rules.specs.Phase
-use Rattle.rules.specs.Command as rules
-use Rattle.rules.specs.Grounds.{inTurn, inLimits, within, demand, ownGround, ground}
-use Rattle.rules.specs.Obey.{plain, withOrders, obey}
+use Rattle.rules.specs.Grounds.{within, demand}
 use Rattle.rules.proofs.Tests.{and-true}
 use Rattle.rules.proofs.Formed.{demand-none}
-use Rattle.plan.specs.Meaning.{Plan, meaning}
-use Rattle.plan.specs.Sound.{Noted, Sound}
-use Rattle.plan.specs.Place.{Sought}
-use Rattle.plan.specs.Order.{nextGround}
-use Rattle.plan.proofs.Placing.{appended, append-noted}
+use Rattle.words.specs.Layout.{row, headBase, entries}
+use Rattle.words.specs.Views.{column, part}
+use Rattle.words.proofs.Views.{column-at, part-at}
+use Rattle.words.specs.Contents.{headWord}
+use Rattle.plan.specs.Meaning.{Answer}
+use Rattle.plan.specs.Order.{nextGround, groundAt, Sought, OrderAt, Appended}
+use Rattle.plan.proofs.Placing.{Listed, seen, unseen}
 
--- the grounds of the rules are those that the code looks for, since the order is as long as its count
-count-ground :
-    (phase size count i : ℕ) (order : List ℕ)
-    → count ≤ length order
-    → demand (eqb phase Phase.orders && ltb (length (take count order)) size) 3
-    (demand (within i size) 4 (demand (not (mem i (take count order))) 5 0))
-    ≡ nextGround phase size order count i
-unfolding nextGround
-count-ground phase size count i order h =
-    ap
-    (λ (k : ℕ).
-    demand (eqb phase Phase.orders && ltb k size) 3
-    (demand (within i size) 4 (demand (not (mem i (take count order))) 5 0)))
-    (length-take-le count order h)
+module _ {base k count task : ℕ} {w : List ℕ} (s : Sought base k count task w) where
+  listed : Listed (part base entries w) (column k w) count task
+  listed = record { within = s .within; noted = s .noted }
 
-pub activation-ground :
-    (p : Plan) (i k : ℕ)
-    → Sound p
-    → k ≡ nextGround (p .phase) (p .size) (p .activation) (p .ranked) i
-    → ground (meaning p) (rules.activation i) ≡ k
-unfolding ground inTurn inLimits ownGround
-activation-ground p i k sound e =
-    let few = sound .activation .few in
-    let small = sound .small in
-    let long = sound .lengths .activation in
-    count-ground (p .phase) (p .size) (p .ranked) i (p .activation) (omega arith) ∙ sym e
+  noted-is : at w (row * task + k) ≡ at (column k w) task
+  noted-is = column-at k w task (let h = s .within .high in omega arith)
 
-pub execution-ground :
-    (p : Plan) (i k : ℕ)
-    → Sound p
-    → k ≡ nextGround (p .phase) (p .size) (p .execution) (p .placed) i
-    → ground (meaning p) (rules.execution i) ≡ k
-unfolding ground inTurn inLimits ownGround
-execution-ground p i k sound e =
-    let few = sound .execution .few in
-    let small = sound .small in
-    let long = sound .lengths .execution in
-    count-ground (p .phase) (p .size) (p .placed) i (p .execution) (omega arith) ∙ sym e
+  pub contains-not :
+      (place : ℕ) → place ≡ at w (row * task + k) → count ≤ place → false ≡ mem task (take count (part base entries w))
+  contains-not place e past =
+      let n = noted-is in
+      sym (unseen (part base entries w) (column k w) count task listed (omega arith))
 
--- what is known of a task against which there is no ground
-pub record Allowed (phase size : ℕ) (order : List ℕ) (count i : ℕ) : Type 0 where
+  pub place-in : (place : ℕ) → place ≡ at w (row * task + k) → (count ≤ place → ⊥) → base + place < 18497
+  place-in place e h = let b = s .base-in in let f = s .few in omega arith
+
+  pub contains-there :
+      (place found : ℕ)
+      → place ≡ at w (row * task + k)
+      → (count ≤ place → ⊥)
+      → found ≡ at w (base + place)
+      → eqb found task ≡ mem task (take count (part base entries w))
+  contains-there place found e h f =
+      let n = noted-is in
+      let few = s .few in
+      let same : place ≡ at (column k w) task = e ∙ noted-is in
+      ap (λ (v : ℕ). eqb v task)
+      (f ∙ part-at base entries w place (omega arith) ∙ ap (at (part base entries w)) same)
+      ∙ seen (part base entries w) (column k w) count task listed (omega arith)
+
+pub sought :
+    {counted base k size count task : ℕ} {w : List ℕ}
+    → OrderAt counted base k w
+    → size ≡ at w (16400 + 1)
+    → count ≡ at w (16400 + counted)
+    → within task size ≡ true
+    → Sought base k count task w
+sought {counted} {base} {k} {size} {count} {task} o e f limits =
+    let ends = and-true (leb 1 task) (leb task size) limits in
+    let few = o .noted .few in
+    let small = o .small in
+    let high = leb-true task size (ends .1) in
+    record {
+      base-in = o .base-in;
+      k-in = o .k-in;
+      few = omega arith;
+      within = record { low = leb-true 1 task (ends .0); high = omega arith };
+      noted = λ p h. o .noted .noted p (omega arith);
+    }
+
+-- each way out of the tests, by what was read
+module _ (counted base task : ℕ) (w : List ℕ) {phase : ℕ} (is-phase : phase ≡ headWord 0 w) where
+  pub other-phase : (phase ≡ Phase.orders → ⊥) → 3 ≡ groundAt counted base w task
+  unfolding nextGround
+  other-phase d = rw (ne-eqb (headWord 0 w) Phase.orders (λ e. d (is-phase ∙ e)))
+
+  module _ {size count : ℕ} (turn : phase ≡ Phase.orders) (is-size : size ≡ headWord 1 w) (is-count : count ≡ headWord counted w) where
+    pub whole-order : size ≤ count → 3 ≡ groundAt counted base w task
+    unfolding nextGround
+    whole-order h =
+        rw (
+          eq-eqb (headWord 0 w) Phase.orders (sym is-phase ∙ turn),
+          le-ltb (headWord counted w) (headWord 1 w) (omega arith),
+        )
+
+    module _ (room : (size ≤ count) → ⊥) where
+      pub outside : within task size ≡ false → 4 ≡ groundAt counted base w task
+      unfolding nextGround
+      outside limits =
+          rw (
+            eq-eqb (headWord 0 w) Phase.orders (sym is-phase ∙ turn),
+            lt-ltb (headWord counted w) (headWord 1 w) (omega arith),
+            ap (within task) (sym is-size) ∙ limits,
+          )
+
+      module _ (limits : within task size ≡ true) where
+        pub again : true ≡ mem task (take count (part base entries w)) → 5 ≡ groundAt counted base w task
+        unfolding nextGround
+        again stands =
+            rw (
+              eq-eqb (headWord 0 w) Phase.orders (sym is-phase ∙ turn),
+              lt-ltb (headWord counted w) (headWord 1 w) (omega arith),
+              ap (within task) (sym is-size) ∙ limits,
+              ap (λ (c : ℕ). mem task (take c (part base entries w))) (sym is-count) ∙ sym stands,
+            )
+
+        pub no-ground : false ≡ mem task (take count (part base entries w)) → 0 ≡ groundAt counted base w task
+        unfolding nextGround
+        no-ground stands =
+            rw (
+              eq-eqb (headWord 0 w) Phase.orders (sym is-phase ∙ turn),
+              lt-ltb (headWord counted w) (headWord 1 w) (omega arith),
+              ap (within task) (sym is-size) ∙ limits,
+              ap (λ (c : ℕ). mem task (take c (part base entries w))) (sym is-count) ∙ sym stands,
+            )
+
+-- the words are written where there is no ground
+pub record Allowed (phase size : ℕ) (order : List ℕ) (count task : ℕ) : Type 0 where
   pub turn : phase ≡ Phase.orders
   pub room : count < size
-  pub low : 1 ≤ i
-  pub high : i ≤ size
-  pub new : mem i (take count order) ≡ false
+  pub low : 1 ≤ task
+  pub high : task ≤ size
+  pub new : mem task (take count order) ≡ false
 
 pub allowed :
-    (phase size : ℕ) (order : List ℕ) (count i k : ℕ)
-    → k ≡ nextGround phase size order count i
-    → k ≡ 0
-    → Allowed phase size order count i
+    (phase size : ℕ) (order : List ℕ) (count task : ℕ)
+    → nextGround phase size order count task ≡ 0
+    → Allowed phase size order count task
 unfolding nextGround
-allowed phase size order count i k e zero =
-    let none : nextGround phase size order count i ≡ 0 = sym e ∙ zero in
+allowed phase size order count task none =
     let turn =
     demand-none (eqb phase Phase.orders && ltb count size) 3
-    (demand (within i size) 4 (demand (not (mem i (take count order))) 5 0)) (λ q. omega arith) none
+    (demand (within task size) 4 (demand (not (mem task (take count order))) 5 0)) (λ q. omega arith) none
     in
     let both = and-true (eqb phase Phase.orders) (ltb count size) (turn .0) in
     let limits =
-    demand-none (within i size) 4 (demand (not (mem i (take count order))) 5 0) (λ q. omega arith) (turn .1)
+    demand-none (within task size) 4 (demand (not (mem task (take count order))) 5 0) (λ q. omega arith) (turn .1)
     in
-    let ends = and-true (leb 1 i) (leb i size) (limits .0) in
-    let own = demand-none (not (mem i (take count order))) 5 0 (λ q. omega arith) (limits .1) in
+    let ends = and-true (leb 1 task) (leb task size) (limits .0) in
+    let own = demand-none (not (mem task (take count order))) 5 0 (λ q. omega arith) (limits .1) in
     record {
       turn = eqb-true phase Phase.orders (both .0);
       room = ltb-true count size (both .1);
-      low = leb-true 1 i (ends .0);
-      high = leb-true i size (ends .1);
-      new = not-true (mem i (take count order)) (own .0);
+      low = leb-true 1 task (ends .0);
+      high = leb-true task size (ends .1);
+      new = not-true (mem task (take count order)) (own .0);
     }
 
--- such a task is looked for in the order
-pub sought :
-    (size count i : ℕ) (order places : List ℕ)
-    → size ≤ maxTasks
-    → Noted size count order places
-    → within i size ≡ true
-    → Sought order places count i
-sought size count i order places small noted limits =
-    let ends = and-true (leb 1 i) (leb i size) limits in
-    let few = noted .few in
-    let high = leb-true i size (ends .1) in
-    record {
-      few = omega arith;
-      within = record { low = leb-true 1 i (ends .0); high = omega arith };
-      noted = noted .noted;
-    }
+module _ {counted base k task : ℕ} {w : List ℕ} (o : OrderAt counted base k w) {ground : ℕ}
+    (is-ground : ground ≡ groundAt counted base w task) where
+  pub append-refused :
+      {a : Answer} {used : ℕ}
+      → (ground ≡ 0 → ⊥)
+      → a ≡ record { number = ground; used = 0; starts = 0; peak = 0; offers = 0 }
+      → Appended counted base k task used w a w
+  append-refused d e =
+      record {
+        refused =
+            λ _.
+            (e ∙ ap (λ (g : ℕ). record { number = g; used = 0; starts = 0; peak = 0; offers = 0 }) is-ground, refl);
+        accepted = λ z. absurd (d (is-ground ∙ z));
+      }
 
--- one task more in an order, with its place
-order-more :
-    (phase size count i : ℕ) (order places : List ℕ)
-    → size ≤ maxTasks
-    → length order ≡ maxTasks
-    → length places ≡ suc maxTasks
-    → Noted size count order places
-    → Allowed phase size order count i
-    → Noted size (count + 1) (set order count i) (set places i count)
-order-more phase size count i order places small long wide noted allow =
-    let room = allow .room in
-    let high = allow .high in
-    record {
-      few = omega arith;
-      noted = append-noted order places count i (omega arith) (omega arith) (allow .new) (noted .noted);
-    }
+  pub append-allowed : ground ≡ 0 → Allowed (headWord 0 w) (headWord 1 w) (part base entries w) (headWord counted w) task
+  append-allowed z =
+      allowed (headWord 0 w) (headWord 1 w) (part base entries w) (headWord counted w) task (sym is-ground ∙ z)
 
--- a plan with one task more in its activation order, and in its execution order
-abbrev pub ranking : Plan → ℕ → Plan
-ranking p i =
-    record {
-      phase = p .phase;
-      size = p .size;
-      processors = p .processors;
-      bound = p .bound;
-      rows = p .rows;
-      ranked = p .ranked + 1;
-      placed = p .placed;
-      next = p .next;
-      running = p .running;
-      finished = p .finished;
-      total = p .total;
-      used = p .used;
-      parents = p .parents;
-      works = p .works;
-      outs = p .outs;
-      activation = set (p .activation) (p .ranked) i;
-      execution = p .execution;
-      ranks = set (p .ranks) i (p .ranked);
-      places = p .places;
-      needs = p .needs;
-      booked = p .booked;
-      standings = p .standings;
-      figures = p .figures;
-      unfed = p .unfed;
-      blocks = p .blocks;
-    }
-
-abbrev pub placing : Plan → ℕ → Plan
-placing p i =
-    record {
-      phase = p .phase;
-      size = p .size;
-      processors = p .processors;
-      bound = p .bound;
-      rows = p .rows;
-      ranked = p .ranked;
-      placed = p .placed + 1;
-      next = p .next;
-      running = p .running;
-      finished = p .finished;
-      total = p .total;
-      used = p .used;
-      parents = p .parents;
-      works = p .works;
-      outs = p .outs;
-      activation = p .activation;
-      execution = set (p .execution) (p .placed) i;
-      ranks = p .ranks;
-      places = set (p .places) i (p .placed);
-      needs = p .needs;
-      booked = p .booked;
-      standings = p .standings;
-      figures = p .figures;
-      unfed = p .unfed;
-      blocks = p .blocks;
-    }
-
-pub ranking-sound :
-    (p : Plan) (i : ℕ)
-    → Sound p
-    → Allowed (p .phase) (p .size) (p .activation) (p .ranked) i
-    → Sound (ranking p i)
-ranking-sound p i sound allow =
-    let long = sound .lengths in
-    let given = sound .given in
-    let turn = allow .turn in
-    record {
-      named = sound .named;
-      small = sound .small;
-      few = sound .few;
-      bounded = sound .bounded;
-      lengths =
-          record {
-            parents = long .parents;
-            works = long .works;
-            outs = long .outs;
-            activation = length-set (p .activation) (p .ranked) i ∙ long .activation;
-            execution = long .execution;
-            ranks = length-set (p .ranks) i (p .ranked) ∙ long .ranks;
-            places = long .places;
-          };
-      light = sound .light;
-      parents = sound .parents;
-      works = sound .works;
-      outs = sound .outs;
-      given = record { unopened = given .unopened; in-steps = given .in-steps; whole = given .whole; some = given .some };
-      activation =
-          order-more (p .phase) (p .size) (p .ranked) i (p .activation) (p .ranks) (sound .small) (long .activation)
-          (long .ranks) (sound .activation) allow;
-      execution = sound .execution;
-      day = λ h. absurd (omega arith);
-    }
-
-pub placing-sound :
-    (p : Plan) (i : ℕ)
-    → Sound p
-    → Allowed (p .phase) (p .size) (p .execution) (p .placed) i
-    → Sound (placing p i)
-placing-sound p i sound allow =
-    let long = sound .lengths in
-    let given = sound .given in
-    let turn = allow .turn in
-    record {
-      named = sound .named;
-      small = sound .small;
-      few = sound .few;
-      bounded = sound .bounded;
-      lengths =
-          record {
-            parents = long .parents;
-            works = long .works;
-            outs = long .outs;
-            activation = long .activation;
-            execution = length-set (p .execution) (p .placed) i ∙ long .execution;
-            ranks = long .ranks;
-            places = length-set (p .places) i (p .placed) ∙ long .places;
-          };
-      light = sound .light;
-      parents = sound .parents;
-      works = sound .works;
-      outs = sound .outs;
-      given = record { unopened = given .unopened; in-steps = given .in-steps; whole = given .whole; some = given .some };
-      activation = sound .activation;
-      execution =
-          order-more (p .phase) (p .size) (p .placed) i (p .execution) (p .places) (sound .small) (long .execution)
-          (long .places) (sound .execution) allow;
-      day = λ h. absurd (omega arith);
-    }
-
--- it is the plan of the rules with that order
-pub ranking-means :
-    (p : Plan) (i : ℕ)
-    → Sound p
-    → Allowed (p .phase) (p .size) (p .activation) (p .ranked) i
-    → obey (meaning p) (rules.activation i) ≡ plain (meaning (ranking p i))
-unfolding obey withOrders
-ranking-means p i sound allow =
-    let room = allow .room in
-    let small = sound .small in
-    let long = sound .lengths .activation in
-    ap (λ (l : List ℕ). plain (withOrders (meaning p) l (take (p .placed) (p .execution))))
-    (sym (appended (p .activation) (p .activation) (p .ranked) i (omega arith)))
-
-pub placing-means :
-    (p : Plan) (i : ℕ)
-    → Sound p
-    → Allowed (p .phase) (p .size) (p .execution) (p .placed) i
-    → obey (meaning p) (rules.execution i) ≡ plain (meaning (placing p i))
-unfolding obey withOrders
-placing-means p i sound allow =
-    let room = allow .room in
-    let small = sound .small in
-    let long = sound .lengths .execution in
-    ap (λ (l : List ℕ). plain (withOrders (meaning p) (take (p .ranked) (p .activation)) l))
-    (sym (appended (p .execution) (p .execution) (p .placed) i (omega arith)))
+  pub append-accepted :
+      {a : Answer} {used count : ℕ} {w₁ w₂ w₃ : List ℕ}
+      → ground ≡ 0
+      → count ≡ headWord counted w
+      → w₁ ≡ set w (base + count) task
+      → w₂ ≡ set w₁ (row * task + k) count
+      → w₃ ≡ set w₂ (headBase + counted) (count + 1)
+      → a ≡ record { number = 0; used = used; starts = 0; peak = 0; offers = 0 }
+      → Appended counted base k task used w a w₃
+  append-accepted {count = count} z is-count one two three e =
+      record {
+        refused = λ d. absurd (d (sym is-ground ∙ z));
+        accepted =
+            λ _. (
+              e,
+              three
+                  ∙ ap (λ (v : List ℕ). set v (headBase + counted) (count + 1)) (two ∙ ap (λ (v : List ℕ). set v (row * task + k) count) one)
+                  ∙ ap (λ (c : ℕ). set (set (set w (base + c) task) (row * task + k) c) (headBase + counted) (c + 1)) is-count,
+            );
+      }

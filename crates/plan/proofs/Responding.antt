@@ -7,7 +7,7 @@ use lib.ListN.{length}
 use borrow.Author.Tests.{lt-ltb, le-ltb}
 use Rattle.rules.specs.Limits.{leastStarts}
 use Rattle.rules.specs.State.{State}
-use Rattle.rules.specs.Command.{Command, Decoded, refused, read}
+use Rattle.rules.specs.Command.{Command, Decoded, refused, read, decode}
 use Rattle.rules.specs.Reachable.{Reachable, next}
 use Rattle.rules.specs.Answer as rules
 use Rattle.rules.proofs.Reaching.{is-read}
@@ -15,26 +15,27 @@ use Rattle.codec.specs.Meaning.{commandOf, decoded}
 use Rattle.codec.specs.declared.Command as commands
 use Rattle.codec.specs.declared.Decoded as codec
 use Rattle.codec.specs.declared.Decoded.the-variants.{Refused, Read}
-use Rattle.plan.specs.Meaning.{Plan, Answer, Answered, meaning, answeredOf}
+use Rattle.words.specs.Contents.{contents}
+use Rattle.plan.specs.Meaning.{Answer, planOf, answeredOf}
 use Rattle.plan.specs.Sound.{Sound}
-use Rattle.plan.specs.Led.{Led, Obeyed, Judged, Responded}
+use Rattle.plan.specs.ValidPlan.{ValidPlan, Obeyed, Judged, Responded, Commanded}
 use Rattle.plan.proofs.Obeying as obeying
 
 -- an answer of the rules that leaves a sound plan is all that is asked
 responded :
-    (p : Plan) (d : Decoded) (list : List ℕ) (r : Answered) (list′ : List ℕ)
-    → Led p
-    → answeredOf r list′ ≡ rules.respond (meaning p) d list
-    → Sound (r .plan)
-    → ((r .answer .number ≡ 0 → ⊥) → r .plan ≡ p)
-    → Responded p d list r list′
-responded p d list r list′ led same sound very =
+    (w : List ℕ) (d : Decoded) (list : List ℕ) (a : Answer) (w′ list′ : List ℕ)
+    → ValidPlan w
+    → answeredOf a (contents w′) list′ ≡ rules.respond (planOf w) d list
+    → Sound (contents w′)
+    → ((a .number ≡ 0 → ⊥) → w′ ≡ w)
+    → Responded w d list a w′ list′
+responded w d list a w′ list′ valid same sound very =
     record {
       same = same;
-      led =
+      valid =
           record {
             reached =
-                subst (λ (s : State). Reachable s) (sym (ap (λ (a : rules.Answered). a .state) same)) (next d list (led .reached));
+                subst (λ (s : State). Reachable s) (sym (ap (λ (r : rules.Answered). r .state) same)) (next d list (valid .reached));
             sound = sound;
           };
       refused = very;
@@ -42,80 +43,92 @@ responded p d list r list′ led same sound very =
 
 -- too short a start list
 pub short-list :
-    (p : Plan) (d : Decoded) (list : List ℕ) (a : Answer)
-    → Led p
-    → length list < leastStarts
+    (w : List ℕ) (asking : rules.Asking) (a : Answer)
+    → ValidPlan w
+    → length (asking .list) < leastStarts
     → a ≡ obeying.refused 10
-    → Responded p d list (record { answer = a; plan = p }) list
-unfolding rules.respond
-short-list p d list a led short e =
-    responded p d list (record { answer = a; plan = p }) list led
-    (obeying.refuses p 10 list a e
-    ∙ ap
-    (λ (t : Bool).
-    cond t (rules.refuse 10 (meaning p) list)
-    (elim d [ refused k ↦ rules.refuse k (meaning p) list | read c used ↦ rules.judge (meaning p) c used list ]))
-    (sym (lt-ltb (length list) leastStarts short)))
-    (led .sound) (λ _. refl)
+    → Commanded w asking a w (asking .list)
+unfolding rules.respond rules.command
+short-list w asking a valid short e =
+    record {
+      same =
+          obeying.refuses (contents w) 10 (asking .list) a e
+          ∙ ap
+          (λ (t : Bool).
+          cond t (rules.refuse 10 (planOf w) (asking .list))
+          (elim (decode (asking .stream) (asking .place)) [
+            | refused k ↦ rules.refuse k (planOf w) (asking .list)
+            | read c used ↦ rules.judge (planOf w) c used (asking .list)
+          ]))
+          (sym (lt-ltb (length (asking .list)) leastStarts short));
+      valid = valid;
+      refused = λ _. refl;
+    }
+
+-- what was decoded from the bytes
+pub as-commanded :
+    {w : List ℕ} {asking : rules.Asking} {a : Answer} {w′ list′ : List ℕ} {d : Decoded}
+    → d ≡ decode (asking .stream) (asking .place)
+    → Responded w d (asking .list) a w′ list′
+    → Commanded w asking a w′ list′
+unfolding rules.command
+as-commanded {w = w} {asking = asking} e r =
+    record {
+      same = r .same ∙ ap (λ (d : Decoded). rules.respond (planOf w) d (asking .list)) e;
+      valid = r .valid;
+      refused = r .refused;
+    }
 
 -- what is no command
 pub not-a-command :
-    (p : Plan) (k : ℕ) (list : List ℕ) (a : Answer)
-    → Led p
+    (w : List ℕ) (k : ℕ) (list : List ℕ) (a : Answer)
+    → ValidPlan w
     → leastStarts ≤ length list
     → a ≡ obeying.refused k
-    → Responded p (refused k) list (record { answer = a; plan = p }) list
+    → Responded w (refused k) list a w list
 unfolding rules.respond
-not-a-command p k list a led room e =
-    responded p (refused k) list (record { answer = a; plan = p }) list led
-    (obeying.refuses p k list a e
-    ∙ ap (λ (t : Bool). cond t (rules.refuse 10 (meaning p) list) (rules.refuse k (meaning p) list))
+not-a-command w k list a valid room e =
+    responded w (refused k) list a w list valid
+    (obeying.refuses (contents w) k list a e
+    ∙ ap (λ (t : Bool). cond t (rules.refuse 10 (planOf w) list) (rules.refuse k (planOf w) list))
     (sym (le-ltb (length list) leastStarts room)))
-    (led .sound) (λ _. refl)
+    (valid .sound) (λ _. refl)
 
 -- a command that may start tasks, and one that starts none
 pub a-start :
-    {p : Plan} {c : Command} {used : ℕ} {list list′ : List ℕ} {r : Answered}
-    → Led p
+    {w : List ℕ} {c : Command} {used : ℕ} {list list′ : List ℕ} {a : Answer} {w′ : List ℕ}
+    → ValidPlan w
     → leastStarts ≤ length list
-    → Judged p c used list r list′
-    → Responded p (read c used) list r list′
-a-start {p = p} {c = c} {used = used} {list = list} {list′ = list′} {r = r} led room s =
-    responded p (read c used) list r list′ led
-    (s .same ∙ sym (is-read (meaning p) c used list (le-ltb (length list) leastStarts room))) (s .sound) (s .refused)
+    → Judged w c used list a w′ list′
+    → Responded w (read c used) list a w′ list′
+a-start {w = w} {c = c} {used = used} {list = list} {list′ = list′} {a = a} {w′ = w′} valid room s =
+    responded w (read c used) list a w′ list′ valid
+    (s .same ∙ sym (is-read (planOf w) c used list (le-ltb (length list) leastStarts room))) (s .sound) (s .refused)
 
 pub no-start :
-    {p : Plan} {c : Command} {used : ℕ} {r : Answered}
+    {w : List ℕ} {c : Command} {used : ℕ} {a : Answer} {w′ : List ℕ}
     → (list : List ℕ)
-    → Led p
+    → ValidPlan w
     → leastStarts ≤ length list
-    → Obeyed p c used r
-    → Responded p (read c used) list r list
-no-start list led room o = a-start led room (o list)
-
--- what is answered to a decoded command is answered to what it was decoded from
-pub read-as :
-    {p : Plan} {d d′ : Decoded} {list list′ : List ℕ} {r : Answered}
-    → Responded p d list r list′
-    → d ≡ d′
-    → Responded p d′ list r list′
-read-as {p = p} {list = list} {list′ = list′} {r = r} h e = subst (λ (d : Decoded). Responded p d list r list′) e h
+    → Obeyed w c used a w′
+    → Responded w (read c used) list a w′ list
+no-start list valid room o = a-start valid room (o list)
 
 -- what was decoded, as the match on it found
 pub as-refused :
-    {p : Plan} {asked : codec.Decoded} {k : ℕ} {list list′ : List ℕ} {r : Answered}
+    {w : List ℕ} {asked : codec.Decoded} {k : ℕ} {list : List ℕ} {a : Answer} {w′ list′ : List ℕ}
     → asked ≡ Refused k
-    → Responded p (refused k) list r list′
-    → Responded p (decoded asked) list r list′
-as-refused {p = p} {list = list} {list′ = list′} {r = r} e h =
-    subst (λ (d : codec.Decoded). Responded p (decoded d) list r list′) (sym e) h
+    → Responded w (refused k) list a w′ list′
+    → Responded w (decoded asked) list a w′ list′
+as-refused {w = w} {list = list} {a = a} {w′ = w′} {list′ = list′} e h =
+    subst (λ (d : codec.Decoded). Responded w (decoded d) list a w′ list′) (sym e) h
 
 pub as-read :
-    {p : Plan} {asked : codec.Decoded} {c known : commands.Command} {used : ℕ} {list list′ : List ℕ} {r : Answered}
+    {w : List ℕ} {asked : codec.Decoded} {c known : commands.Command} {used : ℕ} {list : List ℕ} {a : Answer} {w′ list′ : List ℕ}
     → asked ≡ Read c used
     → c ≡ known
-    → Responded p (read (commandOf known) used) list r list′
-    → Responded p (decoded asked) list r list′
-as-read {p = p} {used = used} {list = list} {list′ = list′} {r = r} e f h =
-    subst (λ (d : codec.Decoded). Responded p (decoded d) list r list′) (sym e)
-    (subst (λ (k : commands.Command). Responded p (read (commandOf k) used) list r list′) (sym f) h)
+    → Responded w (read (commandOf known) used) list a w′ list′
+    → Responded w (decoded asked) list a w′ list′
+as-read {w = w} {used = used} {list = list} {a = a} {w′ = w′} {list′ = list′} e f h =
+    subst (λ (d : codec.Decoded). Responded w (decoded d) list a w′ list′) (sym e)
+    (subst (λ (k : commands.Command). Responded w (read (commandOf k) used) list a w′ list′) (sym f) h)

@@ -1,85 +1,81 @@
--- Calls of the command function, one after another, by what its contract and the others' say of each.
+-- Calls of the command function, one after another, by its contract; what a new plan is, and what the questions answer, by theirs.
 use mathlib.Core.Path.{_≡_}
-use mathlib.Core.Bool.{Bool, false, cond, _&&_, _||_}
+use mathlib.Core.Bool.{Bool, false, _||_}
 use mathlib.Core.List.{List, [], _∷_, _++_, map}
 use Prim.Native.Nat.{ℕ}
-use lib.Dec.{eqb}
-use lib.ListN.{take}
-use Rattle.rules.specs.Command.{decode}
-use Rattle.rules.specs.State.{none}
+use lib.ListN.{replicate}
 use Rattle.rules.specs.Answer as rules
 use Rattle.rules.specs.Question as questions
-use Rattle.rules.specs.Day.{Event, started, ended, isBegin, isPlan, reported}
-use Rattle.codec.specs.Meaning.{decoded}
-use Rattle.codec.specs.declared.Decoded.{Decoded}
-use Rattle.plan.specs.Meaning.{Plan, Answered, meaning, answeredOf}
-use Rattle.plan.specs.Led.{Led, Responded}
+use Rattle.rules.specs.Day as days
+use Rattle.words.specs.Layout.{words}
+use Rattle.words.specs.Contents.{contents}
+use Rattle.plan.specs.Meaning.{Answer, planOf, answeredOf}
+use Rattle.plan.specs.ValidPlan.{Commanded}
 
--- one call: what was asked, on any bytes at any place with any start list, and what the caller received
+-- one call: what was asked, on any bytes at any place with any start list, and what the caller received: the answer, and the words of
+-- the plan and the start list as they are then
 pub record Call : Type 0 where
   pub asking : rules.Asking
-  pub result : Answered
+  pub answer : Answer
+  pub left : List ℕ
   pub list : List ℕ
 
--- what the decoder and the command function ensure of a call on the plan p
-pub record Ensured (p : Plan) (c : Call) : Type 0 where
-  pub read : Decoded
-  pub told : decoded read ≡ decode (c .asking .stream) (c .asking .place)
-  pub responded : Responded p (decoded read) (c .asking .list) (c .result) (c .list)
+-- what the command function ensures of a call on the words w
+abbrev pub CallContract : List ℕ → Call → Type 0
+CallContract w c = Commanded w (c .asking) (c .answer) (c .left) (c .list)
 
 -- "Each finds the plan as the one before left it"
-unfoldable pub Calls : Plan → List Call → Type 0
-Calls p [] = Unit {0}
-Calls p (c ∷ later) = Ensured p c × Calls (c .result .plan) later
+unfoldable pub Calls : List ℕ → List Call → Type 0
+Calls w [] = Unit {0}
+Calls w (c ∷ later) = CallContract w c × Calls (c .left) later
 
--- the plan that a list of calls leaves
-unfoldable pub left : Plan → List Call → Plan
-left p [] = p
-left p (c ∷ later) = left (c .result .plan) later
+-- the words that a list of calls leaves
+unfoldable pub leftBy : List ℕ → List Call → List ℕ
+leftBy w [] = w
+leftBy w (c ∷ later) = leftBy (c .left) later
 
--- what was asked, and all that was received
+-- all that was received with a call, and with a list of calls, and what was asked
+abbrev pub received : Call → rules.Answered
+received c = answeredOf (c .answer) (contents (c .left)) (c .list)
+
 unfoldable pub asked : List Call → List rules.Asking
 asked calls = map (λ c. c .asking) calls
 
-unfoldable pub received : List Call → List rules.Answered
-received calls = map (λ c. answeredOf (c .result) (c .list)) calls
+unfoldable pub allReceived : List Call → List rules.Answered
+allReceived calls = map received calls
 
--- a call is accepted; it opens a day, or a plan
-unfoldable pub accepted : Call → Bool
-accepted c = eqb (c .result .answer .number) 0
+-- a call that is accepted, one that opens a day and one that opens a plan, by the bytes that were asked and what was received
+abbrev pub accepted : Call → Bool
+accepted c = days.accepts (received c)
 
-unfoldable pub opensDay : Call → Bool
-opensDay c = accepted c && isBegin (decode (c .asking .stream) (c .asking .place))
+abbrev pub opensDay : Call → Bool
+opensDay c = days.beginsDay (c .asking) (received c)
 
-unfoldable pub opensPlan : Call → Bool
-opensPlan c = accepted c && isPlan (decode (c .asking .stream) (c .asking .place))
+abbrev pub opensPlan : Call → Bool
+opensPlan c = days.beginsPlan (c .asking) (received c)
 
 unfoldable pub nextPlan : List Call → Bool
 nextPlan [] = false
 nextPlan (c ∷ later) = opensPlan c || nextPlan later
 
--- what happened, by the bytes that were asked and by what the calls answered and wrote
-unfoldable pub happened : List Call → List Event
-happened [] = []
-happened (c ∷ later) =
-    cond (accepted c)
-    (map ended (reported (decode (c .asking .stream) (c .asking .place))) ++ map started (take (c .result .answer .starts) (c .list))) []
-    ++ happened later
+-- what happened with a list of calls, in order
+unfoldable pub history : List Call → List days.Event
+history [] = []
+history (c ∷ later) = days.happens (c .asking) (received c) ++ history later
 
--- a plan as `Plan::new` gives it
-pub record New (p : Plan) : Type 0 where
-  pub led : Led p
-  pub empty : meaning p ≡ none
+-- words as `Plan::new` gives them
+abbrev pub NewPlan : List ℕ → Type 0
+NewPlan w = w ≡ replicate words 0
 
--- what the questions ensure of their answers
-pub record Told (p : Plan) : Type 0 where
+-- answers to the questions, asked of the words w, as each question ensures its own
+pub record Answers (w : List ℕ) : Type 0 where
   pub phase : ℕ
   pub booked : ℕ
   pub inUse : ℕ
   pub fullness : ℕ
   pub standing : List ℕ
-  pub phase-is : phase ≡ meaning p .phase
-  pub booked-is : booked ≡ questions.booked (meaning p)
-  pub in-use-is : inUse ≡ questions.inUse (meaning p)
-  pub fullness-is : fullness ≡ questions.fullness (meaning p)
-  pub standing-is : standing ≡ questions.standing (meaning p)
+  pub phase-is : phase ≡ planOf w .phase
+  pub booked-is : booked ≡ questions.booked (planOf w)
+  pub in-use-is : inUse ≡ questions.inUse (planOf w)
+  pub fullness-is : fullness ≡ questions.fullness (planOf w)
+  pub standing-is : standing ≡ questions.standing (planOf w)

@@ -1,4 +1,4 @@
--- What the code's plan and answers mean in the rules.
+-- What the words of a plan and the answers of the code mean in the rules.
 use mathlib.Core.List.{List}
 use Prim.Native.Nat.{ℕ, suc}
 use lib.Dec.{leb}
@@ -7,38 +7,41 @@ use Rattle.rules.specs.Sums.{only}
 use Rattle.rules.specs.Phase
 use Rattle.rules.specs.State.{State}
 use Rattle.rules.specs.Answer as rules
-pub use Rattle.plan.specs.declared.plan.Plan.{Plan}
+use Rattle.words.specs.Contents.{Contents, contents}
 pub use Rattle.plan.specs.declared.answer.Answer.{Answer}
-pub use Rattle.plan.specs.declared.answer.Answered.{Answered}
 
 -- how many entries the columns of a day have: one for nobody and one for each task, from BEGIN on
-abbrev pub dayRows : Plan → ℕ
-dayRows p = only (leb Phase.running (p .phase)) (suc (p .size))
+abbrev pub dayRows : Contents → ℕ
+dayRows c = only (leb Phase.running (c .phase)) (suc (c .size))
 
--- a plan of the code is the plan of the rules whose lists are the entries given so far
-abbrev pub meaning : Plan → State
-meaning p =
+-- the plan of the rules whose lists are the entries given so far
+abbrev pub meaning : Contents → State
+meaning c =
     record {
-      phase = p .phase;
-      size = p .size;
-      processors = p .processors;
-      parents = take (p .rows) (p .parents);
-      activation = take (p .ranked) (p .activation);
-      execution = take (p .placed) (p .execution);
-      standings = take (dayRows p) (p .standings);
-      memory =
+      phase = c .phase;
+      size = c .size;
+      processors = c .processors;
+      parents = take (c .given) (c .parents);
+      activation = take (c .ranked) (c .activation);
+      execution = take (c .placed) (c .execution);
+      standings = take (dayRows c) (c .standings);
+      chilled =
           record {
-            bound = p .bound;
-            works = take (p .rows) (p .works);
-            outs = take (p .rows) (p .outs);
-            booked = take (dayRows p) (p .booked);
+            bound = c .chilled .bound;
+            works = take (c .given) (c .chilled .works);
+            outs = take (c .given) (c .chilled .outs);
+            booked = take (dayRows c) (c .chilled .booked);
           };
     }
+
+-- the plan in some words
+abbrev pub planOf : List ℕ → State
+planOf w = meaning (contents w)
 
 abbrev pub answerOf : Answer → rules.Answer
 answerOf a =
     record { number = a .number; used = a .used; starts = a .starts; peak = a .peak; offers = a .offers }
 
 -- an answer, with the plan and the start list afterwards
-abbrev pub answeredOf : Answered → List ℕ → rules.Answered
-answeredOf r list = record { answer = answerOf (r .answer); state = meaning (r .plan); list = list }
+abbrev pub answeredOf : Answer → Contents → List ℕ → rules.Answered
+answeredOf a c list = record { answer = answerOf a; state = meaning c; list = list }

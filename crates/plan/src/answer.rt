@@ -1,21 +1,15 @@
 // What a command answers.
 ghost use mathlib.Core.Path.{_≡_};
-use crate::plan::Plan;
 
 // "An accepted command answers number 0, the bytes used and how many steps it starts. The peak is
 // answered by BEGIN only, offers by DONE only; elsewhere both are 0."
+#[repr(C)]
 pub struct Answer {
     pub number: u8,
     pub used: usize,
     pub starts: usize,
     pub peak: u64,
     pub offers: usize,
-}
-
-// An answer with the plan that the command leaves.
-pub struct Answered {
-    pub answer: Answer,
-    pub plan: Plan,
 }
 
 impl Answer {

@@ -1,111 +1,66 @@
 // BEGIN: the day begins, if the plan is in order and fits.
+ghost use mathlib.Core.Path.{_≡_};
 ghost use Prim.Native.Nat.{_≤_};
 ghost use lib.ListN.{length};
 ghost use Rattle.rules.specs.Command as rules;
 ghost use Rattle.rules.specs.Limits.{leastStarts};
-ghost use Rattle.plan.specs.Led.{Led, Judged};
+ghost use Rattle.words.specs.Contents.{contents};
+ghost use Rattle.plan.specs.ValidPlan.{ValidPlan, Judged};
+ghost use Rattle.plan.specs.Day.{begins, MayBegin, Begun};
 use crate::advance::advance;
 use crate::answer::Answer;
-use crate::answer::Answered;
-use crate::numbers::Numbers;
-use crate::plan::Plan;
-use crate::weigh::weigh;
-use peak::survey;
+use survey::prepare;
+use survey::survey;
+use words::cell;
+use words::plan::Plan;
+use words::set_cell;
 
-pub(crate) fn begin(mut plan: Plan, used: usize, starts: &mut [u16]) -> Answered
-    requires { ⌜ Led plan × (leastStarts ≤ length (now starts)) ⌝ }
-    ensures { λ r. ⌜ Judged plan rules.begin used (now (starts .entry)) r (now (starts .exit)) ⌝ }
+// Whether both orders are whole and the plan waits for its BEGIN.
+fn is_in_turn(plan: &[u32; Plan::WORDS]) -> bool
+    ensures { λ r. ⌜ r ≡ begins (contents (now (plan .entry))) ⌝ }
 {
-    if plan.phase != Plan::ORDERS {
-        return Answered {
-            answer: Answer::refused(3),
-            plan,
-        };
+    if cell(plan, Plan::HEAD, Plan::PHASE) != Plan::ORDERS {
+        return false;
     }
-    if plan.ranked != plan.size {
-        return Answered {
-            answer: Answer::refused(3),
-            plan,
-        };
+    let size = cell(plan, Plan::HEAD, Plan::SIZE);
+    if cell(plan, Plan::HEAD, Plan::RANKED) != size {
+        return false;
     }
-    if plan.placed != plan.size {
-        return Answered {
-            answer: Answer::refused(3),
-            plan,
-        };
+    cell(plan, Plan::HEAD, Plan::PLACED) == size
+}
+
+// The day begins: booking ahead and starting follow.
+fn start_day(plan: &mut [u32; Plan::WORDS], starts: &mut [u16]) -> usize
+    requires { ⌜ MayBegin (contents (now plan)) (now starts) ⌝ }
+    ensures { λ r. ⌜ Begun (contents (now (plan .entry))) (contents (now (plan .exit))) (now (starts .entry)) (now (starts .exit)) r ⌝ }
+{
+    prepare(plan);
+    let started = advance(plan, starts);
+    set_cell(plan, Plan::HEAD, Plan::PHASE, Plan::RUNNING);
+    started
+}
+
+pub(crate) fn begin(plan: &mut [u32; Plan::WORDS], used: usize, starts: &mut [u16]) -> Answer
+    requires { ⌜ ValidPlan (now plan) × (leastStarts ≤ length (now starts)) ⌝ }
+    ensures { λ r. ⌜ Judged (now (plan .entry)) rules.begin used (now (starts .entry)) r (now (plan .exit)) (now (starts .exit)) ⌝ }
+{
+    if !is_in_turn(plan) {
+        return Answer::refused(3);
     }
-    let surveyed = survey(
-        plan.size,
-        &plan.parents,
-        &plan.works,
-        &plan.outs,
-        &plan.activation,
-    );
+    let surveyed = survey(plan);
     if surveyed.number != 0 {
-        return Answered {
-            answer: Answer::refused(surveyed.number),
-            plan,
-        };
+        return Answer::refused(surveyed.number);
     }
-    if (plan.bound as u64) < surveyed.peak {
-        return Answered {
-            answer: Answer::refused(9),
-            plan,
-        };
+    let bound = cell(plan, Plan::HEAD, Plan::CHILLED + Plan::BOUND);
+    if (bound as u64) < surveyed.peak {
+        return Answer::refused(9);
     }
-    let mut needs = [0u32; Plan::PLACES];
-    let mut unfed = [0u16; Plan::PLACES];
-    weigh(
-        plan.size,
-        &plan.parents,
-        &plan.works,
-        &plan.outs,
-        &mut needs,
-        &mut unfed,
-    );
-    let mut booked = [0u32; Plan::PLACES];
-    let mut figures = [0u32; Plan::PLACES];
-    let mut standings = [0u8; Plan::PLACES];
-    let mut blocks = [0u16; Plan::BLOCKS];
-    let begun = advance(
-        plan.size,
-        plan.processors,
-        plan.bound,
-        &plan.parents,
-        &plan.works,
-        &plan.outs,
-        &needs,
-        &plan.activation,
-        &plan.execution,
-        &plan.places,
-        &unfed,
-        &mut booked,
-        &mut figures,
-        &mut standings,
-        &mut blocks,
-        Numbers::new(),
-        starts,
-    );
-    plan.phase = Plan::RUNNING;
-    plan.needs = needs;
-    plan.unfed = unfed;
-    plan.booked = booked;
-    plan.figures = figures;
-    plan.standings = standings;
-    plan.blocks = blocks;
-    plan.next = begun.numbers.next;
-    plan.running = begun.numbers.running;
-    plan.finished = begun.numbers.finished;
-    plan.total = begun.numbers.booked;
-    plan.used = begun.numbers.used;
-    Answered {
-        answer: Answer {
-            number: 0,
-            used,
-            starts: begun.count,
-            peak: surveyed.peak,
-            offers: 0,
-        },
-        plan,
+    let started = start_day(plan, starts);
+    Answer {
+        number: 0,
+        used,
+        starts: started,
+        peak: surveyed.peak,
+        offers: 0,
     }
 }

@@ -1,22 +1,16 @@
-// The plan of a kitchen's day: commands in, answers out.
+// The commands of a plan and the questions that it answers, where its words stand.
 mod advance;
-mod ahead;
 pub mod answer;
 mod begin;
-mod climb;
-mod finish;
-mod numbers;
 mod obey;
 mod open;
 mod order;
-mod place;
-pub mod plan;
 mod question;
-mod ready;
 mod report;
-pub mod reports;
-mod settle;
-mod start;
-mod weigh;
 
 pub use obey::command;
+pub use question::booked;
+pub use question::fullness;
+pub use question::in_use;
+pub use question::phase;
+pub use question::standing;

@@ -1,37 +1,30 @@
-// One command of a plan.
+// One command, asked in bytes.
+ghost use Prim.Native.Nat.{_≤_};
+ghost use lib.ListN.{length};
+ghost use Rattle.rules.specs.Limits.{leastStarts};
 ghost use Rattle.codec.specs.Meaning.{decoded};
-ghost use Rattle.plan.specs.Led.{Led, Responded};
+ghost use Rattle.plan.specs.ValidPlan.{ValidPlan, Responded, Commanded};
 use crate::answer::Answer;
-use crate::answer::Answered;
 use crate::begin::begin;
 use crate::open::add_task;
 use crate::open::open;
 use crate::order::place;
 use crate::order::rank;
-use crate::plan::Plan;
 use crate::report::report;
 use codec::Command;
 use codec::Decoded;
+use codec::decode;
+use words::plan::Plan;
 
-// The answer to a decoded command, and the plan that it leaves; the tasks that it starts stand at
-// the front of the start list.
-pub fn command(plan: Plan, asked: Decoded, starts: &mut [u16]) -> Answered
-    requires { ⌜ Led plan ⌝ }
-    ensures { λ r. ⌜ Responded plan (decoded asked) (now (starts .entry)) r (now (starts .exit)) ⌝ }
+// The answer to what was decoded.
+fn obey(plan: &mut [u32; Plan::WORDS], asked: Decoded, starts: &mut [u16]) -> Answer
+    requires { ⌜ ValidPlan (now plan) × (leastStarts ≤ length (now starts)) ⌝ }
+    ensures { λ r. ⌜ Responded (now (plan .entry)) (decoded asked) (now (starts .entry)) r (now (plan .exit)) (now (starts .exit)) ⌝ }
 {
-    if starts.len() < Plan::LEAST_STARTS {
-        return Answered {
-            answer: Answer::refused(10),
-            plan,
-        };
-    }
     match asked {
-        Decoded::Refused(number) => Answered {
-            answer: Answer::refused(number),
-            plan,
-        },
+        Decoded::Refused(number) => Answer::refused(number),
         Decoded::Read { command, used } => match command {
-            Command::Plan { n, p, bound } => open(plan, n as usize, p as usize, bound, used),
+            Command::Plan { n, p, bound } => open(plan, n, p, bound, used),
             Command::Task { parent, work, out } => add_task(plan, parent, work, out, used),
             Command::Activation(task) => rank(plan, task, used),
             Command::Execution(task) => place(plan, task, used),
@@ -39,4 +32,22 @@ pub fn command(plan: Plan, asked: Decoded, starts: &mut [u16]) -> Answered
             Command::Done(task) => report(plan, task, used, starts),
         },
     }
+}
+
+// The answer to the command at a place of a stream; the plan is changed where it stands, and the
+// tasks that it starts stand at the front of the start list.
+pub fn command(
+    plan: &mut [u32; Plan::WORDS],
+    stream: &[u8],
+    place: usize,
+    starts: &mut [u16],
+) -> Answer
+    requires { ⌜ ValidPlan (now plan) ⌝ }
+    ensures { λ r. ⌜ Commanded (now (plan .entry)) (record { stream = now (stream .entry); place = place; list = now (starts .entry) }) r (now (plan .exit)) (now (starts .exit)) ⌝ }
+{
+    if starts.len() < Plan::LEAST_STARTS {
+        return Answer::refused(10);
+    }
+    let asked = decode(stream, place);
+    obey(plan, asked, starts)
 }

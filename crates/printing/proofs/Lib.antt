@@ -2,3 +2,4 @@
 pub mod Printed
 pub mod Taking
 pub mod Within
+pub mod Calls

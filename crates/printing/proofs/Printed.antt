@@ -2,6 +2,7 @@
 use mathlib.Core.Path.{_≡_, sym, ap, subst, _∙_}
 use mathlib.Core.List.{List, []}
 use Prim.Native.Nat.{ℕ}
+use native.Mathlib.Omega.{arith}
 use lib.ListN.{take}
 use Rattle.rules.specs.Answer as rules
 use Rattle.rules.specs.Text.{beginLine, doneLine, line, acceptedLine}
@@ -11,19 +12,20 @@ use Rattle.codec.specs.declared.Command.{Command}
 use Rattle.codec.specs.declared.Command.the-variants.{Begin, Done}
 use Rattle.codec.specs.declared.Decoded.{Decoded}
 use Rattle.codec.specs.declared.Decoded.the-variants.{Refused, Read}
-use Rattle.lines.specs.Written.{Written}
-use Rattle.lines.proofs.Pieces.{nothing, whole}
+use Rattle.put.proofs.Pieces.{nothing, whole}
+use Rattle.lines.specs.Line.{Line}
 
 -- a text by another name
-pub as-text : {text text′ buffer buffer′ : List ℕ} {n : ℕ}
+pub as-text : {text text′ buffer buffer′ : List ℕ} {count n : ℕ}
     → text′ ≡ text
-    → Written text buffer buffer′ n
-    → Written text′ buffer buffer′ n
-as-text {buffer = buffer} {buffer′ = buffer′} {n = n} e w = subst (λ (t : List ℕ). Written t buffer buffer′ n) (sym e) w
+    → Line text count buffer buffer′ n
+    → Line text′ count buffer buffer′ n
+as-text {buffer = buffer} {buffer′ = buffer′} {count = count} {n = n} e w =
+    subst (λ (t : List ℕ). Line t count buffer buffer′ n) (sym e) w
 
 -- no text leaves the buffer as it was
-pub no-text : (buffer : List ℕ) → Written [] buffer buffer 0
-no-text buffer = whole (nothing 0 buffer)
+pub no-text : (count : ℕ) (buffer : List ℕ) → Line [] count buffer buffer 0
+no-text count buffer = record { written = whole (nothing 0 buffer); short = λ _. omega arith }
 
 -- nothing was read
 pub of-refused : {asked : Decoded} {k : ℕ} (a : rules.Answered) → asked ≡ Refused k → acceptedLine (decoded asked) a ≡ []

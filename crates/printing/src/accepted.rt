@@ -1,29 +1,33 @@
 // The line of an accepted command.
 ghost use Rattle.rules.specs.Text.{acceptedLine};
 ghost use Rattle.codec.specs.Meaning.{decoded};
-ghost use Rattle.plan.specs.Meaning.{meaning, answerOf};
-ghost use Rattle.plan.specs.Led.{Led};
-ghost use Rattle.lines.specs.Written.{Written};
+ghost use Rattle.words.specs.Contents.{contents};
+ghost use Rattle.plan.specs.Meaning.{answeredOf};
+ghost use Rattle.plan.specs.ValidPlan.{ValidPlan};
+ghost use Rattle.lines.specs.Line.{Line};
 use codec::Command;
 use codec::Decoded;
 use lines::begin_line;
 use lines::done_line;
 use plan::answer::Answer;
-use plan::plan::Plan;
+use plan::booked;
+use plan::fullness;
+use plan::in_use;
+use words::plan::Plan;
 
 // It is put to the front of the buffer: a line of BEGIN or DONE, and nothing for the others. The
 // figures are those of the plan that the command leaves.
 pub(crate) fn accepted_line(
+    plan: &[u32; Plan::WORDS],
     asked: Decoded,
     answer: Answer,
-    plan: Plan,
     starts: &[u16],
     buffer: &mut [u8],
 ) -> usize
-    requires { ⌜ Led plan ⌝ }
-    ensures { λ r. ⌜ Written
-        (acceptedLine (decoded asked) (record { answer = answerOf answer; state = meaning plan; list = now (starts .entry) }))
-        (now (buffer .entry)) (now (buffer .exit)) r ⌝ }
+    requires { ⌜ ValidPlan (now plan) ⌝ }
+    ensures { λ r. ⌜ Line
+        (acceptedLine (decoded asked) (answeredOf answer (contents (now (plan .entry))) (now (starts .entry))))
+        (answer .starts) (now (buffer .entry)) (now (buffer .exit)) r ⌝ }
 {
     match asked {
         Decoded::Refused(_) => 0,
@@ -43,9 +47,9 @@ pub(crate) fn accepted_line(
             Command::Begin => begin_line(
                 buffer,
                 answer.peak,
-                plan.booked(),
-                plan.in_use(),
-                plan.fullness(),
+                booked(plan),
+                in_use(plan),
+                fullness(plan),
                 starts,
                 answer.starts,
             ),
@@ -53,9 +57,9 @@ pub(crate) fn accepted_line(
                 buffer,
                 task,
                 answer.offers,
-                plan.booked(),
-                plan.in_use(),
-                plan.fullness(),
+                booked(plan),
+                in_use(plan),
+                fullness(plan),
                 starts,
                 answer.starts,
             ),

@@ -4,20 +4,19 @@ mod accepted;
 ghost use mathlib.Core.Path.{_≡_};
 ghost use Rattle.rules.specs.Printer as rules;
 ghost use Rattle.codec.specs.Meaning.{decoded};
-ghost use Rattle.plan.specs.Meaning.{meaning};
-ghost use Rattle.plan.specs.Led.{Led};
+ghost use Rattle.plan.specs.Meaning.{planOf};
+ghost use Rattle.plan.specs.ValidPlan.{ValidPlan};
 ghost use Rattle.printing.specs.Taken.{Taken};
 use accepted::accepted_line;
 use codec::Decoded;
+use codec::decode;
 use lines::refused_line;
-use plan::plan::Plan;
-use reader::next_at;
-use service::serve;
+use plan::command;
+use words::plan::Plan;
 
-// What a turn leaves: the plan, the bytes of the input that it used, the bytes of the buffer that
-// it wrote, and its verdict.
+// What a turn answers: the bytes of the input that it used, the bytes of the buffer that it wrote,
+// and its verdict.
 pub struct Turned {
-    pub plan: Plan,
     pub used: usize,
     pub written: usize,
     pub verdict: u8,
@@ -32,11 +31,10 @@ impl Turned {
     pub const STOPS: u8 = 2;
 
     // Nothing is used or written.
-    fn idle(verdict: u8, plan: Plan) -> Self
-        ensures { λ r. ⌜ r ≡ record { plan = plan; used = 0; written = 0; verdict = verdict } ⌝ }
+    fn idle(verdict: u8) -> Self
+        ensures { λ r. ⌜ r ≡ record { used = 0; written = 0; verdict = verdict } ⌝ }
     {
         Turned {
-            plan,
             used: 0,
             written: 0,
             verdict,
@@ -64,41 +62,37 @@ fn is_awaited(is_last: bool, asked: Decoded) -> bool
 // front of the buffer. That place is `offset` bytes from the start of the input; `is_last` says that
 // the input ends with this part.
 pub fn turn(
+    plan: &mut [u32; Plan::WORDS],
     part: &[u8],
     place: usize,
     offset: u64,
     is_last: bool,
-    plan: Plan,
     starts: &mut [u16],
     buffer: &mut [u8],
 ) -> Turned
-    requires { ⌜ Led plan ⌝ }
-    ensures { λ r. ⌜ Taken plan
-        (rules.turn (meaning plan) (record { stream = now (part .entry); place = place; list = now (starts .entry) }) offset «is_last»)
-        (now (buffer .entry)) r (now (starts .exit)) (now (buffer .exit)) ⌝ }
+    requires { ⌜ ValidPlan (now plan) ⌝ }
+    ensures { λ r. ⌜ Taken (now (plan .entry))
+        (rules.turn (planOf (now (plan .entry))) (record { stream = now (part .entry); place = place; list = now (starts .entry) }) offset «is_last»)
+        (now (buffer .entry)) r (now (plan .exit)) (now (starts .exit)) (now (buffer .exit)) ⌝ }
 {
-    let asked = next_at(part, place);
+    let asked = decode(part, place);
     if is_awaited(is_last, asked) {
-        return Turned::idle(Turned::WAITS, plan);
+        return Turned::idle(Turned::WAITS);
     }
     if part.len() <= place {
-        return Turned::idle(Turned::STOPS, plan);
+        return Turned::idle(Turned::STOPS);
     }
-    let result = serve(part, place, plan, starts);
-    let plan = result.plan;
-    let answer = result.answer;
+    let answer = command(plan, part, place, starts);
     if answer.number != 0 {
         return Turned {
-            plan,
             used: answer.used,
             written: refused_line(buffer, answer.number, offset),
             verdict: Turned::STOPS,
         };
     }
     Turned {
-        plan,
         used: answer.used,
-        written: accepted_line(asked, answer, plan, starts, buffer),
+        written: accepted_line(plan, asked, answer, starts, buffer),
         verdict: Turned::GOES_ON,
     }
 }

@@ -4,9 +4,11 @@ use mathlib.Core.List.{List, _++_}
 use Prim.Native.Nat.{ℕ, _+_, _-_, _≤_, _<_}
 use native.Mathlib.Numerals.{add-one}
 use native.Mathlib.Omega.{arith}
-use lib.Dec.{eqb}
+use lib.IntN.{ℤ}
 use lib.ListN.{length, take, drop, getD, set, length-drop}
-use lib.Seq.{paste, paste-suc, take-at, length-take-le, getD-append-add, getD-drop}
+use Rattle.rules.specs.Printer as rules
+use Rattle.io.specs.Counts.{clamped}
+use lib.Seq.{paste, paste-suc, take-at, take-all, length-take-le, getD-append-add, getD-drop}
 
 module _ (l : List ℕ) (place i : ℕ) (room : place + i < length l) where
   abbrev moved : List ℕ
@@ -47,8 +49,21 @@ front-stays l place filled left kept rest low high e e′ =
     let first = ap (take left) e′ ∙ take-at (take left (drop place l)) (drop (0 + left) l) left size in
     rw (← e) (take-at (take left kept) rest left (ap length first ∙ size) ∙ first)
 
--- none came where the number of bytes has not grown
-pub none-came : (left count n : ℕ) → left ≡ n → eqb count 0 ≡ eqb (left + count - n) 0
-none-came left count n e =
-    let e′ : left + count - n ≡ count = omega arith in
-    rw e′
+-- as many bytes as a read answered, behind those that went to the front
+pub came : (x : rules.Position) {y z : rules.Position} (got : ℤ) {room n count : ℕ}
+    → y ≡ rules.fronted x
+    → z ≡ rules.fed count y
+    → count ≡ clamped got n
+    → n ≡ room
+    → z ≡ rules.fed (clamped got room) (rules.fronted x)
+came x got {room} {n} {count} e e′ told same =
+    e′ ∙ ap (rules.fed count) e ∙ ap (λ (m : ℕ). rules.fed m (rules.fronted x)) (told ∙ ap (clamped got) same)
+
+-- how many entries there are behind the first n
+pub length-behind : (n : ℕ) (l : List ℕ) → length (take (length l - n) (drop n l)) ≡ length l - n
+length-behind n l = ap length (take-all (length l - n) (drop n l) (omega (arith, length-drop n l))) ∙ length-drop n l
+
+-- how many there are at the front
+pub left-over : (x : rules.Position) {y : rules.Position} {n : ℕ} → y ≡ rules.fronted x → n ≡ y .filled → n ≡ x .filled - x .place
+unfolding rules.fronted
+left-over x e e′ = e′ ∙ ap (λ (z : rules.Position). z .filled) e

@@ -1,25 +1,23 @@
 -- More input behind the bytes at hand.
 use mathlib.Core.Path.{_≡_}
-use mathlib.Core.Bool.{Bool}
 use mathlib.Core.List.{List}
-use Prim.Native.Nat.{ℕ, _-_, _≤_}
-use lib.Dec.{eqb}
+use Prim.Native.Nat.{ℕ, _-_}
 use lib.ListN.{length, take, drop}
-use Rattle.pump.specs.declared.room.Fed.{Fed}
-use Rattle.pump.specs.declared.room.Fed.the-variants.{Failed, Bytes}
+use Rattle.rules.specs.Printer as rules
+use Rattle.io.specs.Counts.{clamped}
+use Rattle.pump.specs.declared.position.Position.{Position}
+use Rattle.pump.specs.declared.room.Refilled.{Refilled}
+use Rattle.pump.specs.Standing.{positionOf}
 
--- where the read did not fail, no byte is lost, and those that came stand in the buffer; the input has ended where none came
-pub record Came (left room n : ℕ) (isLast : Bool) : Type 0 where
-  pub least : left ≤ n
-  pub most : n ≤ room
-  pub ended : isLast ≡ eqb (n - left) 0
+-- how many bytes are at hand from the next command on
+abbrev pub leftOf : Position → ℕ
+leftOf x = x .filled - x .place
 
-abbrev pub Told : ℕ → ℕ → Fed → Type 0
-Told left room Failed = Unit {0}
-Told left room (Bytes n isLast) = Came left room n isLast
-
--- the bytes from the place on stand at the front of the buffer, with what a read gave behind them
-pub record Filled (before : List ℕ) (place filled : ℕ) (after : List ℕ) (r : Fed) : Type 0 where
-  pub front : take (filled - place) after ≡ take (filled - place) (drop place before)
+pub record Filled (before : List ℕ) (x : Position) (after : List ℕ) (r : Refilled) : Type 0 where
+  -- they stand at the front of the buffer
+  pub front : take (leftOf x) after ≡ take (leftOf x) (drop (x .place) before)
   pub size : length after ≡ length before
-  pub told : Told (filled - place) (length before) r
+  -- and as many bytes as the read answered behind them, none where it failed, never more than there was room for
+  pub position :
+      positionOf (r .position)
+      ≡ rules.fed (clamped (r .got) (length before - leftOf x)) (rules.fronted (positionOf x))

@@ -1,2 +1,4 @@
--- What the contracts of this crate say of the bytes at hand.
+-- What the contracts of this crate say of the bytes at hand and of a step over them.
+pub mod Standing
+pub mod Stepped
 pub mod Filled

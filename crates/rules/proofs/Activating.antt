@@ -7,21 +7,11 @@ use lib.Dec.{eqb}
 use Rattle.rules.specs.Lists.{mem}
 use Rattle.rules.specs.Booking.{figure}
 use Rattle.rules.specs.Standing.{waiting, activated, finished}
+use Rattle.rules.specs.Invariant.{Tree, Shape, Active, Balanced, Roomy, arrived, pending}
 use Rattle.rules.proofs.Tests.{same-or-not}
 use Rattle.rules.proofs.Sums.{Task}
-use Rattle.rules.proofs.Tree.{Tree}
-use Rattle.rules.proofs.Shape.{Shape, Moved, was, stays, four-still, same-ended, child-before}
-use Rattle.rules.proofs.Balance.{
-  Active,
-  Balanced,
-  Roomy,
-  settled,
-  arrived,
-  pending,
-  arrived-pending,
-  arrived-same,
-  pending-same,
-}
+use Rattle.rules.proofs.Shape.{Moved, was, stays, four-still, same-ended, child-before}
+use Rattle.rules.proofs.Balance.{settled, arrived-pending, arrived-same, pending-same}
 use Rattle.rules.proofs.Giving.{Given, more, grows, filled, room}
 
 -- x is the first waiting task in rank, and becomes booked

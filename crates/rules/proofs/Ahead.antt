@@ -10,18 +10,18 @@ use lib.ListN.{set, length-set}
 use borrow.Author.Tests.{eqb-true, eqb-false, leb-true}
 use Rattle.rules.specs.Lists.{at, mem}
 use Rattle.rules.specs.Standing.{waiting, activated}
-use Rattle.rules.specs.Booking.{Books, total, lacks, allows, book, activate}
+use Rattle.rules.specs.Booking.{Books, total, missing, lacks, allows, book, activate}
+use Rattle.rules.specs.Invariant.{Valid, rankIn, Tree, Shape, Roomy, Stocked, Good}
 use Rattle.rules.proofs.Tests.{decide, same-or-not, or-cases}
 use Rattle.rules.proofs.Sums.{Task}
 use Rattle.rules.proofs.Orders.{mem-append, mem-rest, nobody}
-use Rattle.rules.proofs.Turns.{Valid}
-use Rattle.rules.proofs.Ranks.{rankIn, stands, entry, same-rank, in-front}
-use Rattle.rules.proofs.Tree.{Tree}
-use Rattle.rules.proofs.Balance.{Roomy, missing-is}
+use Rattle.rules.proofs.Ranks.{stands, entry, same-rank, in-front}
+use Rattle.rules.proofs.Shape.{Moved}
+use Rattle.rules.proofs.Balance.{missing-is}
 use Rattle.rules.proofs.Giving.{Given, gains}
 use Rattle.rules.proofs.Activating.{activating-shape, activating-balanced}
 use Rattle.rules.proofs.Branches.{activate-pass, activate-book, activate-stop}
-use Rattle.rules.proofs.Good.{Good, at-set, at-other, moved-by-set, given-by-set}
+use Rattle.rules.proofs.Entries.{at-set, at-other, moved-by-set, given-by-set}
 
 -- x waits, and nobody of lower rank does
 pub record FirstWaiting (n : ℕ) (rank st : ℕ → ℕ) (x : ℕ) : Type 0 where
@@ -38,6 +38,31 @@ pub record Activated (n : ℕ) (par rank need out : ℕ → ℕ) (bound : ℕ) (
   -- the first that still waits is not allowed
   pub halted : (x : ℕ) → FirstWaiting n rank (at (k′ .standings)) x → allows n par need bound k′ x ≡ false
 
+-- one store in which x gets what it misses, where that is within the bound
+pub book-stocked :
+    (n : ℕ) (par rank : ℕ → ℕ) (tree : Tree n par rank) (st st′ : ℕ → ℕ) (shape : Shape n par rank st) (x : ℕ)
+    → FirstWaiting n rank st x
+    → Moved n st st′ x activated
+    → (need out : ℕ → ℕ) (bound : ℕ) (b : List ℕ)
+    → Roomy n par need out
+    → Stocked n par need out bound st b
+    → total n (at b) + missing n par need st (at b) x ≤ bound
+    → Stocked n par need out bound st′ (set b x (at b x + missing n par need st (at b) x))
+unfolding total
+book-stocked n par rank tree st st′ shape x w moved need out bound b roomy stock fits =
+    let t = w .task in
+    let is = missing-is n par rank tree need out st (at b) shape [] 0 (stock .books) x t in
+    let given : Given n par need (at b) (at (set b x (at b x + missing n par need st (at b) x))) x =
+    rw is (given-by-set n par need b x (stock .sized) t)
+    in
+    record {
+      sized = length-set b x (at b x + missing n par need st (at b) x) ∙ stock .sized;
+      books =
+          activating-balanced n par rank tree st st′ shape x t (w .waits) (w .first) moved need out (at b) _ roomy (stock .books)
+          given;
+      within = (let sum = gains tree t given in omega arith);
+    }
+
 module _ (n : ℕ) (par : ℕ → ℕ) (order : List ℕ) (valid : Valid n par order) (tree : Tree n par (rankIn order))
     (need out : ℕ → ℕ) (roomy : Roomy n par need out) (bound : ℕ) where
   -- one task booked
@@ -47,27 +72,16 @@ module _ (n : ℕ) (par : ℕ → ℕ) (order : List ℕ) (valid : Valid n par o
       → FirstWaiting n (rankIn order) (at (k .standings)) x
       → allows n par need bound k x ≡ true
       → Good n par (rankIn order) need out bound (book n par need k x)
-  unfolding book lacks allows total
+  unfolding book lacks allows
   book-good k x good w a =
-      let t = w .task in
-      let moved = moved-by-set n (k .standings) x activated (good .sized .standings) t in
-      let is =
-      missing-is n par (rankIn order) tree need out (at (k .standings)) (at (k .booked)) (good .shape) [] 0 (good .books) x t
-      in
-      let given : Given n par need (at (k .booked)) (at (book n par need k x .booked)) x =
-      rw is (given-by-set n par need (k .booked) x (good .sized .booked) t)
-      in
+      let moved = moved-by-set n (k .standings) x activated (good .sized) (w .task) in
       record {
-        sized =
-            record {
-              standings = length-set (k .standings) x activated ∙ good .sized .standings;
-              booked = length-set (k .booked) x (at (k .booked) x + lacks n par need k x) ∙ good .sized .booked;
-            };
-        shape = activating-shape n par (rankIn order) tree (at (k .standings)) _ (good .shape) x t (w .waits) (w .first) moved;
-        books =
-            activating-balanced n par (rankIn order) tree (at (k .standings)) _ (good .shape) x t (w .waits) (w .first) moved need out
-            (at (k .booked)) _ roomy (good .books) given;
-        within = (let sum = gains tree t given in let fits = leb-true _ bound a in omega arith);
+        sized = length-set (k .standings) x activated ∙ good .sized;
+        shape =
+            activating-shape n par (rankIn order) tree (at (k .standings)) _ (good .shape) x (w .task) (w .waits) (w .first) moved;
+        stock =
+            book-stocked n par (rankIn order) tree (at (k .standings)) _ (good .shape) x w moved need out bound (k .booked) roomy
+            (good .stock) (leb-true _ bound a);
       }
 
   -- who stands in front of the rest of the order, with one more
@@ -97,7 +111,7 @@ module _ (n : ℕ) (par : ℕ → ℕ) (order : List ℕ) (valid : Valid n par o
       → ⊥
   unfolding book
   booked-busy pre x k t busy good =
-      let there = at-set n (k .standings) x activated (good .sized .standings) t in
+      let there = at-set n (k .standings) x activated (good .sized) t in
       one-more pre x (book n par need k x)
       (λ j m w.
       ⊎-elim
@@ -115,7 +129,7 @@ module _ (n : ℕ) (par : ℕ → ℕ) (order : List ℕ) (valid : Valid n par o
       → Activated n par (rankIn order) need out bound k k′
   unfolding book
   after-book x k first good done =
-      let there = at-set n (k .standings) x activated (good .sized .standings) (first .task) in
+      let there = at-set n (k .standings) x activated (good .sized) (first .task) in
       record {
         good = done .good;
         kept =

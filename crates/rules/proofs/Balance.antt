@@ -1,4 +1,4 @@
--- What holds of the books of a day in one store that is left open, over functions, and what follows from it.
+-- What follows from the balance of one store that is left open, over functions.
 use mathlib.Core.Path.{_≡_, sym, ap, _∙_}
 use mathlib.Core.Bool.{Bool, true, false, not, _&&_}
 use mathlib.Core.Logic.{⊎-elim}
@@ -10,21 +10,16 @@ use borrow.Author.Tests.{eqb-true, eqb-false, eq-eqb}
 use Rattle.rules.specs.Sums.{only, sumTo}
 use Rattle.rules.specs.Lists.{mem}
 use Rattle.rules.specs.Booking.{figure, childrenFigure, missing}
-use Rattle.rules.specs.Standing.{waiting, activated, running, finished}
+use Rattle.rules.specs.Standing.{running, finished}
+use Rattle.rules.specs.Invariant.{arrived, pending, Active, Balance, Balanced, Tree, up, Shape}
+use Rattle.rules.specs.Need.{children}
 use Rattle.rules.proofs.Tests.{decide}
 use Rattle.rules.proofs.Sums.{Task, sum-cong, sum-zero, only-and, only-zero, only-false, only-cong}
-use Rattle.rules.proofs.Tree.{Tree, up, figure-splits}
-use Rattle.rules.proofs.Children.{children, children-cong, children-le, children-zero, children-add}
-use Rattle.rules.proofs.Shape.{Shape, finished-below}
+use Rattle.rules.proofs.Tree.{figure-splits}
+use Rattle.rules.proofs.Children.{children-cong, children-le, children-zero, children-add}
+use Rattle.rules.proofs.Shape.{finished-below}
 
--- the outs of the ended children of a task, and those of its other children
-unfoldable pub arrived : (n : ℕ) (par out st : ℕ → ℕ) → ℕ → ℕ
-arrived n par out st i = children n par (λ c. only (eqb (st c) finished) (out c)) i
-
-unfoldable pub pending : (n : ℕ) (par out st : ℕ → ℕ) → ℕ → ℕ
-pending n par out st i = children n par (λ c. only (not (eqb (st c) finished)) (out c)) i
-
--- together they are the outs of its children
+-- what has arrived and what is to come are together the outs of the children
 pub arrived-pending :
     (n : ℕ) (par out st : ℕ → ℕ) (i : ℕ) → arrived n par out st i + pending n par out st i ≡ children n par out i
 unfolding arrived pending
@@ -37,32 +32,6 @@ arrived-pending n par out st i =
     either : (t : Bool) (x : ℕ) → x ≡ only t x + only (not t) x
     either true x = omega arith
     either false x = omega arith
-
--- what a store asks of the needs: room for what comes from the children and for what is left behind
-abbrev pub Roomy : (n : ℕ) (par need out : ℕ → ℕ) → Type 0
-Roomy n par need out = (i : ℕ) → Task n i → children n par out i + out i ≤ need i
-
--- i is booked or runs
-pub record Active (st : ℕ → ℕ) (i : ℕ) : Type 0 where
-  pub from : activated ≤ st i
-  pub to : st i ≤ running
-
--- the books, while r trays belong to nobody and are still owed to the tasks of a path
-pub record Balance (n : ℕ) (par need out st b : ℕ → ℕ) (path : List ℕ) (r : ℕ) : Type 0 where
-  -- a waiting task holds what its ended children left
-  pub waits : (i : ℕ) → Task n i → st i ≡ waiting → b i ≡ arrived n par out st i
-  -- so does a booked or running one, and perhaps more
-  pub keeps : (i : ℕ) → Task n i → Active st i → arrived n par out st i ≤ b i
-  -- with all below it, it holds its need
-  pub covered : (i : ℕ) → Task n i → Active st i → need i ≤ figure n par b i + only (mem i path) r
-  -- it has room for what is still to come from its children
-  pub capped : (i : ℕ) → Task n i → Active st i → b i + pending n par out st i ≤ need i
-  -- an ended task holds nothing
-  pub empty : (i : ℕ) → Task n i → st i ≡ finished → b i ≡ 0
-
--- the books between the parts of a command: nothing is owed
-abbrev pub Balanced : (n : ℕ) (par need out st b : ℕ → ℕ) → Type 0
-Balanced n par need out st b = Balance n par need out st b [] 0
 
 -- with nothing owed, a booked or running task and all below it hold its need
 pub settled :

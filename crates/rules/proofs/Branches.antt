@@ -7,7 +7,7 @@ use lib.Dec.{eqb}
 use lib.ListN.{set}
 use Rattle.rules.specs.Lists.{at, first}
 use Rattle.rules.specs.Standing.{waiting, running}
-use Rattle.rules.specs.Booking.{Books, allows, book, activate, ready, starts, chain, offer, gift, climb, dispatch}
+use Rattle.rules.specs.Booking.{Books, allows, book, activate, ready, starts, Share, spent, pass, release, offer, climb}
 
 module _ (n : ℕ) (par need : ℕ → ℕ) (bound : ℕ) (i : ℕ) (later : List ℕ) (s : Books) where
   -- booking ahead passes a task that does not wait, books one that is allowed, and stops at one that is not
@@ -44,19 +44,16 @@ module _ (n : ℕ) (par : ℕ → ℕ) (execution : List ℕ) (free : ℕ) (st :
   unfolding starts
   starts-one i e = rw (e, starts)
 
-module _ (n : ℕ) (par need st : ℕ → ℕ) (i : ℕ) (above : List ℕ) (r : ℕ) (b : List ℕ) where
+module _ (n : ℕ) (par need st : ℕ → ℕ) (i : ℕ) (above : List ℕ) (s : Share) where
   -- a climb stops at a waiting task or with nothing left, and offers to any other
   pub climb-stop :
-      (eqb (st i) waiting || eqb r 0) ≡ true
-      → climb n par need st (i ∷ above) r b ≡ record { offered = []; left = r; booked = b }
+      (eqb (st i) waiting || spent s) ≡ true → climb n par need st (i ∷ above) s ≡ record { offered = []; share = s }
   unfolding climb
   climb-stop e = rw (e, climb)
 
   pub climb-offer :
-      (eqb (st i) waiting || eqb r 0) ≡ false
-      → climb n par need st (i ∷ above) r b
-      ≡ offer i
-      (climb n par need st above (r - gift n par need b i) (set b i (at b i + gift n par need b i)))
+      (eqb (st i) waiting || spent s) ≡ false
+      → climb n par need st (i ∷ above) s ≡ offer i (climb n par need st above (pass n par need i s))
   unfolding climb
   climb-offer e = rw (e, climb)
 
@@ -71,17 +68,14 @@ module _ (test : ℕ → Bool) (x : ℕ) (later : List ℕ) where
   first-later e = rw (e, first)
 
 -- the booked trays of an ended task, with and without a parent
-module _ (n : ℕ) (par need st out : ℕ → ℕ) (b : List ℕ) (j : ℕ) where
-  pub dispatch-root :
-      eqb (par j) 0 ≡ true
-      → dispatch n par need st out b j ≡ record { offered = []; left = at b j; booked = set b j 0 }
-  unfolding dispatch climb
-  dispatch-root e = rw (e, dispatch)
+module _ (par out : ℕ → ℕ) (b : List ℕ) (j : ℕ) where
+  pub release-root : eqb (par j) 0 ≡ true → release par out b j ≡ record { left = at b j; booked = set b j 0 }
+  unfolding release
+  release-root e = rw (e, release)
 
-  pub dispatch-child :
+  pub release-child :
       eqb (par j) 0 ≡ false
-      → dispatch n par need st out b j
-      ≡ climb n par need st (chain n par (par j)) (at b j - out j)
-      (set (set b j 0) (par j) (at (set b j 0) (par j) + out j))
-  unfolding dispatch
-  dispatch-child e = rw (e, dispatch)
+      → release par out b j
+      ≡ record { left = at b j - out j; booked = set (set b j 0) (par j) (at (set b j 0) (par j) + out j) }
+  unfolding release
+  release-child e = rw (e, release)

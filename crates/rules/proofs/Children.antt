@@ -7,20 +7,12 @@ use native.Mathlib.Omega.{arith}
 use lib.Dec.{eqb}
 use borrow.Author.Tests.{eqb-true, eq-eqb, ne-eqb}
 use Rattle.rules.specs.Sums.{only, sumTo}
-use Rattle.rules.specs.Need.{childrenOut, resident}
+use Rattle.rules.specs.Need.{children, resident}
 use Rattle.rules.specs.Booking.{figure}
-use Rattle.rules.proofs.Tree.{Tree, figure-splits}
+use Rattle.rules.specs.Invariant.{Tree}
+use Rattle.rules.proofs.Tree.{figure-splits}
 use Rattle.rules.proofs.Tests.{same-or-not, eqb-sym}
 use Rattle.rules.proofs.Sums.{Task, sum-cong, sum-le, sum-add, sum-zero, sum-swap, sum-single, sum-change, only-sum, only-add, only-swap, only-zero, only-mono, only-cong, only-false}
-
--- the sum of f over the children of i
-unfoldable pub children : (n : ℕ) (par f : ℕ → ℕ) → ℕ → ℕ
-children n par f i = sumTo (λ c. only (eqb (par c) i) (f c)) n
-
--- the children's outs, as need has them
-pub children-out : (n : ℕ) (par out : ℕ → ℕ) (i : ℕ) → childrenOut n par out i ≡ children n par out i
-unfolding children childrenOut
-children-out n par out i = refl
 
 -- the figure of a task is its own part and the figures of its children
 pub figure-children :

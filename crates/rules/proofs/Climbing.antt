@@ -11,11 +11,12 @@ use Rattle.rules.specs.Sums.{only, sumTo}
 use Rattle.rules.specs.Lists.{mem}
 use Rattle.rules.specs.Booking.{chain, figure}
 use Rattle.rules.specs.Standing.{waiting, finished}
+use Rattle.rules.specs.Invariant.{Tree, up, Shape, Active, Balance, Balanced, Roomy}
 use Rattle.rules.proofs.Tests.{decide, fails, clash, same-or-not, or-cases}
 use Rattle.rules.proofs.Sums.{Task, only-true, only-false, only-zero}
-use Rattle.rules.proofs.Tree.{Tree, up, up-nobody, up-self, up-step, up-parent, up-rank, parent-task}
-use Rattle.rules.proofs.Shape.{Shape, child-before, child-not-waiting}
-use Rattle.rules.proofs.Balance.{Active, Balance, Balanced, Roomy, cleared}
+use Rattle.rules.proofs.Tree.{up-nobody, up-self, up-step, up-parent, up-rank, parent-task}
+use Rattle.rules.proofs.Shape.{child-before, child-not-waiting}
+use Rattle.rules.proofs.Balance.{cleared}
 use Rattle.rules.proofs.Giving.{Given, more, gains, grows, filled, room}
 
 -- a climb that has nothing left, or has come to a waiting task, owes nothing

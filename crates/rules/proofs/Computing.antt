@@ -1,11 +1,26 @@
 -- Opens the rules for computing: whoever unfolds `computing` may evaluate a command, a day or the printer.
-use Rattle.rules.specs.Sums.{sumTo, countTo}
+use Rattle.rules.specs.Sums.{sumTo, everyTo, countTo}
 use Rattle.rules.specs.Lists.{mem, first, largest}
-use Rattle.rules.specs.Need.{childrenOut, need, resident}
+use Rattle.rules.specs.Need.{children, need, resident}
 use Rattle.rules.specs.Need
 use Rattle.rules.specs.Peak.{sums, peak, roots, ordered}
 use Rattle.rules.specs.Standing.{count}
-use Rattle.rules.specs.Command.{little, number, bytes, table, decode}
+use Rattle.rules.specs.Command.{
+  forms,
+  find,
+  byteOf,
+  operandsOf,
+  widthsOf,
+  little,
+  number,
+  littles,
+  numbers,
+  room,
+  bytes,
+  readBy,
+  table,
+  decode,
+}
 use Rattle.rules.specs.Grounds.{inTurn, inLimits, peakOf, ownGround, ground}
 use Rattle.rules.specs.Booking.{
   chain,
@@ -21,8 +36,11 @@ use Rattle.rules.specs.Booking.{
   ready,
   start,
   free,
-  offer,
+  spent,
   gift,
+  pass,
+  release,
+  offer,
   climb,
   dispatch,
 }
@@ -65,11 +83,12 @@ use Rattle.rules.specs.Printer.{idle, said, answered, isAwaited, turn, p
 unfoldable pub computing : Unit {0}
 unfolding
     sumTo
+    everyTo
     countTo
     mem
     first
     largest
-    childrenOut
+    children
     need
     resident
     Need.inUse
@@ -78,9 +97,18 @@ unfolding
     roots
     ordered
     count
+    forms
+    find
+    byteOf
+    operandsOf
+    widthsOf
     little
     number
+    littles
+    numbers
+    room
     bytes
+    readBy
     table
     decode
     inTurn
@@ -102,8 +130,11 @@ unfolding
     Booking.starts
     start
     free
-    offer
+    spent
     gift
+    pass
+    release
+    offer
     climb
     dispatch
     opened

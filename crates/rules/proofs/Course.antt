@@ -26,32 +26,38 @@ use Rattle.rules.specs.Booking.{
   free,
 }
 use Rattle.rules.specs.Day.{Event, started}
+use Rattle.rules.specs.Invariant.{Valid, rankIn, Tree, Roomy, Good}
 use Rattle.rules.proofs.Tests.{same-or-not, eqb-above}
 use Rattle.rules.proofs.Sums.{Task, sum-cong}
 use Rattle.rules.proofs.Counts.{count-cong}
 use Rattle.rules.proofs.Orders.{all-in, nobody}
-use Rattle.rules.proofs.Turns.{Valid}
-use Rattle.rules.proofs.Ranks.{rankIn}
-use Rattle.rules.proofs.Tree.{Tree}
-use Rattle.rules.proofs.Balance.{Roomy}
-use Rattle.rules.proofs.Good.{Good}
 use Rattle.rules.proofs.Ahead.{FirstWaiting, Activated, activates}
 use Rattle.rules.proofs.Starts.{Startable, starts-startable, starts-length, starts-halt, start-count, start-good, start-kind}
 use Rattle.rules.proofs.Log.{Logged, InOrder, logged-same, starts-logged}
 
--- what a task lacks goes by who has ended
+-- what a task misses in a store goes by who has ended
+pub missing-same :
+    (n : ℕ) (par need st st′ b : ℕ → ℕ)
+    → ((c : ℕ) → Task n c → eqb (st′ c) finished ≡ eqb (st c) finished)
+    → (x : ℕ)
+    → missing n par need st′ b x ≡ missing n par need st b x
+unfolding missing childrenFigure
+missing-same n par need st st′ b same x =
+    ap (λ (f : ℕ). need x - (b x + f))
+    (sum-cong (λ c. only (eqb (par c) x && not (eqb (st′ c) finished)) (figure n par b c))
+    (λ c. only (eqb (par c) x && not (eqb (st c) finished)) (figure n par b c)) n
+    (λ c t. ap (λ (e : Bool). only (eqb (par c) x && not e) (figure n par b c)) (same c t)))
+
+-- and so does whether it may be booked
 pub allows-same :
     (n : ℕ) (par need : ℕ → ℕ) (bound : ℕ) (st st′ b : List ℕ)
     → ((c : ℕ) → Task n c → eqb (at st′ c) finished ≡ eqb (at st c) finished)
     → (x : ℕ)
     → allows n par need bound (record { standings = st′; booked = b }) x
     ≡ allows n par need bound (record { standings = st; booked = b }) x
-unfolding allows lacks missing childrenFigure
+unfolding allows lacks
 allows-same n par need bound st st′ b same x =
-    ap (λ (f : ℕ). leb (total n (at b) + (need x - (at b x + f))) bound)
-    (sum-cong (λ c. only (eqb (par c) x && not (eqb (at st′ c) finished)) (figure n par (at b) c))
-    (λ c. only (eqb (par c) x && not (eqb (at st c) finished)) (figure n par (at b) c)) n
-    (λ c t. ap (λ (e : Bool). only (eqb (par c) x && not e) (figure n par (at b) c)) (same c t)))
+    ap (λ (m : ℕ). leb (total n (at b) + m) bound) (missing-same n par need (at st) (at st′) (at b) same x)
 
 -- the books between two commands: the first waiting task does not fit, and processors are free only where nobody is ready
 pub record Settled (n : ℕ) (par rank need out : ℕ → ℕ) (bound processors : ℕ) (k : Books) : Type 0 where
@@ -102,7 +108,7 @@ module _ (n : ℕ) (par : ℕ → ℕ) (order : List ℕ) (valid : Valid n par o
   may-start = rw begun (starts-startable n par execution inside (free n processors (k₁ .standings)) (k₁ .standings))
 
   sized-ahead : length (k₁ .standings) ≡ suc n
-  sized-ahead = activated-ahead .good .sized .standings
+  sized-ahead = activated-ahead .good .sized
 
   pub kind : (i : ℕ) → (at (start l (k₁ .standings)) i ≡ at (k₁ .standings) i)
       ⊎ ((at (k₁ .standings) i ≡ activated) × (at (start l (k₁ .standings)) i ≡ running))

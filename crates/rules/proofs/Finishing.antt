@@ -9,21 +9,13 @@ use borrow.Author.Tests.{eqb-true, eq-eqb, ne-eqb}
 use Rattle.rules.specs.Sums.{only, sumTo}
 use Rattle.rules.specs.Booking.{chain, figure}
 use Rattle.rules.specs.Standing.{activated, running, finished}
+use Rattle.rules.specs.Invariant.{Tree, up, Shape, Active, Balance, Balanced, Roomy, arrived, pending}
 use Rattle.rules.proofs.Tests.{decide, same-or-not}
 use Rattle.rules.proofs.Sums.{Task, sum-change, sum-cong, only-true, only-false, only-cong}
-use Rattle.rules.proofs.Tree.{Tree, up, up-nobody, up-self, up-parent, parent-task, figure-change, figure-cong}
+use Rattle.rules.proofs.Tree.{up-nobody, up-self, up-parent, parent-task, figure-change, figure-cong}
 use Rattle.rules.proofs.Children.{children-change}
-use Rattle.rules.proofs.Shape.{Shape, Moved, was, behind-still, four-still, not-begun-above}
-use Rattle.rules.proofs.Balance.{
-  Active,
-  Balance,
-  Balanced,
-  Roomy,
-  settled,
-  arrived,
-  pending,
-  running-holds-need,
-}
+use Rattle.rules.proofs.Shape.{Moved, was, behind-still, four-still, not-begun-above}
+use Rattle.rules.proofs.Balance.{settled, running-holds-need}
 
 -- the trays of j are taken, its parent, if it has one, keeps its out, and r is left
 pub record Taken (n : ℕ) (par out b b₁ b′ : ℕ → ℕ) (j r kept : ℕ) : Type 0 where

@@ -1,20 +1,22 @@
--- What holds of every plan that commands led to: parents, orders and processors are in their limits, and no step stands twice.
-use mathlib.Core.Path.{_≡_, refl}
-use mathlib.Core.Bool.{Bool, true, false, not, _&&_}
+-- What holds of every plan that commands led to: its numbers are in their limits, its columns as long as its tasks are many, and
+-- no task stands twice in an order.
+use mathlib.Core.Path.{_≡_, refl, _∙_}
+use mathlib.Core.Bool.{Bool, true, false, not, cond, _&&_}
+use mathlib.Core.Logic.{⊎-elim}
 use mathlib.Core.List.{List, [], _∷_, _++_}
-use Prim.Native.Nat.{ℕ, zero, suc, _≤_}
+use Prim.Native.Nat.{ℕ, zero, suc, _+_, _≤_}
 use native.Mathlib.Omega.{arith}
-use lib.Dec.{eqb}
-use lib.ListN.{length}
-use borrow.Author.Tests.{eqb-true, leb-true, not-true}
-use Rattle.rules.specs.Limits.{maxTasks, maxProcessors}
+use lib.Dec.{eqb, leb}
+use lib.ListN.{length, length-append, List·getD-append}
+use borrow.Author.Tests.{eqb-true, eq-eqb, ne-eqb, leb-true, not-true}
+use Rattle.rules.specs.Limits.{maxTasks, maxProcessors, maxCount, maxBound}
 use Rattle.rules.specs.Lists.{at, mem, every, distinct}
 use Rattle.rules.specs.Phase
 use Rattle.rules.specs.State.{State, none}
 use Rattle.rules.specs.Command.{Command, plan, task, activation, execution, begin, done}
 use Rattle.rules.specs.Grounds.{inTurn, inLimits, within, demand, ownGround, ground}
-use Rattle.rules.specs.Obey.{opened, withTask, withOrders, withBooks, proceed, obey}
-use Rattle.rules.proofs.Tests.{and-true}
+use Rattle.rules.specs.Obey.{opened, withTask, withOrders, withBooks, proceed, phaseAfter, obey}
+use Rattle.rules.proofs.Tests.{and-true, same-or-not}
 use Rattle.rules.proofs.Orders.{within-task, every-snoc, distinct-snoc}
 
 -- no ground is left where a test holds and none of those behind it
@@ -35,8 +37,20 @@ no-ground s c e =
     let two = demand-none (inLimits s c) 4 (ownGround s c) (λ q. omega arith) (one .1) in
     record { turn = one .0; limits = two .0; own = two .1 }
 
+-- the columns of a plan: an entry for nobody, and one for each task that is given so far
+pub record Columns (s : State) : Type 0 where
+  pub works-long : length (s .chilled .works) ≡ length (s .parents)
+  pub outs-long : length (s .chilled .outs) ≡ length (s .parents)
+  pub nobody : (at (s .parents) 0 ≡ 0) × (at (s .chilled .works) 0 ≡ 0) × (at (s .chilled .outs) 0 ≡ 0)
+  pub in-steps : s .phase ≡ Phase.steps → (1 ≤ length (s .parents)) × (length (s .parents) ≤ s .size)
+  pub whole : Phase.orders ≤ s .phase → length (s .parents) ≡ suc (s .size)
+
 pub record Formed (s : State) : Type 0 where
+  pub sized : s .size ≤ maxTasks
   pub parents : (i : ℕ) → at (s .parents) i ≤ s .size
+  pub light : (i : ℕ) → (at (s .chilled .works) i ≤ maxCount) × (at (s .chilled .outs) i ≤ maxCount)
+  pub bounded : s .chilled .bound ≤ maxBound
+  pub columns : Columns s
   pub activation-inside : every (λ i. within i (s .size)) (s .activation) ≡ true
   pub activation-once : distinct (s .activation) ≡ true
   pub execution-inside : every (λ i. within i (s .size)) (s .execution) ≡ true
@@ -44,23 +58,10 @@ pub record Formed (s : State) : Type 0 where
   pub staffed : (s .phase ≡ Phase.empty → ⊥) → 1 ≤ s .processors
   pub limited : s .processors ≤ maxProcessors
 
--- the empty plan
-pub none-formed : Formed none
-unfolding every distinct
-none-formed =
-    record {
-      parents = λ i. nothing i;
-      activation-inside = refl;
-      activation-once = refl;
-      execution-inside = refl;
-      execution-once = refl;
-      staffed = λ d. absurd (d refl);
-      limited = omega arith;
-    }
-  where
-    nothing : (i : ℕ) → at [] i ≤ 0
-    nothing zero = omega arith
-    nothing (suc i) = omega arith
+-- a column without entries
+none-at : (limit i : ℕ) → at [] i ≤ limit
+none-at limit zero = omega arith
+none-at limit (suc i) = omega arith
 
 -- one entry more in a list of limited entries
 at-snoc : (l : List ℕ) (x limit : ℕ) → ((i : ℕ) → at l i ≤ limit) → x ≤ limit → (i : ℕ) → at (l ++ (x ∷ [])) i ≤ limit
@@ -69,16 +70,62 @@ at-snoc [] x limit h b (suc i) = omega arith
 at-snoc (y ∷ l) x limit h b zero = h 0
 at-snoc (y ∷ l) x limit h b (suc i) = at-snoc l x limit (λ k. h (suc k)) b i
 
+-- a column with the entry for nobody alone
+nobody-at : (limit i : ℕ) → at (0 ∷ []) i ≤ limit
+nobody-at limit = at-snoc [] 0 limit (none-at limit) (omega arith)
+
+-- the empty plan
+pub none-formed : Formed none
+unfolding every distinct
+none-formed =
+    record {
+      sized = omega arith;
+      parents = none-at 0;
+      light = λ i. (none-at maxCount i, none-at maxCount i);
+      bounded = omega arith;
+      columns =
+          record {
+            works-long = refl;
+            outs-long = refl;
+            nobody = (refl, refl, refl);
+            in-steps = λ e. absurd (omega arith);
+            whole = λ h. absurd (omega arith);
+          };
+      activation-inside = refl;
+      activation-once = refl;
+      execution-inside = refl;
+      execution-once = refl;
+      staffed = λ d. absurd (d refl);
+      limited = omega arith;
+    }
+
 -- the entry is not in that order yet
 new-entry : (x : ℕ) (l : List ℕ) → demand (not (mem x l)) 5 0 ≡ 0 → mem x l ≡ false
 new-entry x l e = not-true (mem x l) (demand-none (not (mem x l)) 5 0 (λ q. omega arith) e .0)
 
 -- the day does not touch the plan
-pub with-books-formed : (s : State) (phase : ℕ) (st b : List ℕ) → 1 ≤ s .processors → Formed s → Formed (withBooks s phase st b)
+pub with-books-formed :
+    (s : State) (phase : ℕ) (st b : List ℕ)
+    → 1 ≤ s .processors
+    → Phase.orders ≤ s .phase
+    → Phase.orders ≤ phase
+    → Formed s
+    → Formed (withBooks s phase st b)
 unfolding withBooks
-with-books-formed s phase st b p h =
+with-books-formed s phase st b p before after h =
     record {
+      sized = h .sized;
       parents = h .parents;
+      light = h .light;
+      bounded = h .bounded;
+      columns =
+          record {
+            works-long = h .columns .works-long;
+            outs-long = h .columns .outs-long;
+            nobody = h .columns .nobody;
+            in-steps = λ e. absurd (omega arith);
+            whole = λ _. h .columns .whole before;
+          };
       activation-inside = h .activation-inside;
       activation-once = h .activation-once;
       execution-inside = h .execution-inside;
@@ -87,18 +134,69 @@ with-books-formed s phase st b p h =
       limited = h .limited;
     }
 
--- in a phase other than empty
-not-empty : (phase k : ℕ) → 1 ≤ k → eqb phase k ≡ true → phase ≡ 0 → ⊥
-not-empty phase k h e z = let q = eqb-true phase k e in omega arith
+-- the phase after a report
+after-report : (s : State) (j : ℕ) → Phase.orders ≤ phaseAfter s j
+unfolding phaseAfter
+after-report s j = go (eqb (at (s .parents) j) 0)
+  where
+    go : (t : Bool) → Phase.orders ≤ cond t Phase.over Phase.running
+    go true = omega arith
+    go false = omega arith
+
+-- the phase after a task says whether it was the last
+task-more : (given size : ℕ) → cond (eqb given size) Phase.orders Phase.steps ≡ Phase.steps → given ≡ size → ⊥
+task-more given size p e = let q = rw (eq-eqb given size e) at p in omega arith
+
+task-last : (given size : ℕ) → Phase.orders ≤ cond (eqb given size) Phase.orders Phase.steps → given ≡ size
+task-last given size p =
+    ⊎-elim (λ e. e) (λ d. let q = rw (ne-eqb given size d) at p in absurd (omega arith)) (same-or-not given size)
+
+below : (a b : ℕ) → a ≤ b → (a ≡ b → ⊥) → a + 1 ≤ b
+below a b h d = omega arith
+
+-- STEP adds an entry to each column
+task-columns :
+    (s : State) (parent work out : ℕ) → s .phase ≡ Phase.steps → Columns s → Columns (withTask s parent work out)
+unfolding withTask
+task-columns s parent work out steps h =
+    let given = length (s .parents) in
+    let some = h .in-steps steps .0 in
+    let works = h .works-long in
+    let outs = h .outs-long in
+    record {
+      works-long = simp length-append (omega arith);
+      outs-long = simp length-append (omega arith);
+      nobody = (
+        List·getD-append (s .parents) (parent ∷ []) 0 0 some ∙ h .nobody .0,
+        List·getD-append (s .chilled .works) (work ∷ []) 0 0 (omega arith) ∙ h .nobody .1,
+        List·getD-append (s .chilled .outs) (out ∷ []) 0 0 (omega arith) ∙ h .nobody .2,
+      );
+      in-steps = λ e.
+          (let room = below given (s .size) (h .in-steps steps .1) (task-more given (s .size) e) in simp length-append (omega arith, omega arith));
+      whole = λ e. (let all = task-last given (s .size) e in simp length-append (omega arith));
+    }
 
 -- an accepted command keeps it
 pub obey-formed : (s : State) (c : Command) → Accepted s c → Formed s → Formed (obey s c .state)
 unfolding obey opened withTask withOrders inTurn inLimits ownGround every distinct proceed
 obey-formed s (plan n p bound) a h =
-    let both = and-true (within n maxTasks) (within p maxProcessors) (a .limits) in
+    let limits = and-true (within n maxTasks && within p maxProcessors) (leb bound maxBound) (a .limits) in
+    let both = and-true (within n maxTasks) (within p maxProcessors) (limits .0) in
+    let tasks = within-task maxTasks n (both .0) in
     let between = within-task maxProcessors p (both .1) in
     record {
-      parents = λ i. nothing i;
+      sized = tasks .high;
+      parents = nobody-at n;
+      light = λ i. (nobody-at maxCount i, nobody-at maxCount i);
+      bounded = leb-true bound maxBound (limits .1);
+      columns =
+          record {
+            works-long = refl;
+            outs-long = refl;
+            nobody = (refl, refl, refl);
+            in-steps = λ _. (omega arith, tasks .low);
+            whole = λ e. absurd (omega arith);
+          };
       activation-inside = refl;
       activation-once = refl;
       execution-inside = refl;
@@ -106,23 +204,39 @@ obey-formed s (plan n p bound) a h =
       staffed = λ _. between .low;
       limited = between .high;
     }
-  where
-    nothing : (i : ℕ) → at (0 ∷ []) i ≤ n
-    nothing zero = omega arith
-    nothing (suc i) = omega arith
 obey-formed s (task parent work out) a h =
+    let limits = and-true (leb parent (s .size) && leb work maxCount) (leb out maxCount) (a .limits) in
+    let both = and-true (leb parent (s .size)) (leb work maxCount) (limits .0) in
     record {
-      parents = at-snoc (s .parents) parent (s .size) (h .parents) (leb-true parent (s .size) (a .limits));
+      sized = h .sized;
+      parents = at-snoc (s .parents) parent (s .size) (h .parents) (leb-true parent (s .size) (both .0));
+      light = λ i. (
+        at-snoc (s .chilled .works) work maxCount (λ k. h .light k .0) (leb-true work maxCount (both .1)) i,
+        at-snoc (s .chilled .outs) out maxCount (λ k. h .light k .1) (leb-true out maxCount (limits .1)) i,
+      );
+      bounded = h .bounded;
+      columns = task-columns s parent work out (eqb-true (s .phase) Phase.steps (a .turn)) (h .columns);
       activation-inside = h .activation-inside;
       activation-once = h .activation-once;
       execution-inside = h .execution-inside;
       execution-once = h .execution-once;
-      staffed = λ _. h .staffed (not-empty (s .phase) Phase.steps (omega arith) (a .turn));
+      staffed = λ _. h .staffed (λ e. let now = eqb-true (s .phase) Phase.steps (a .turn) in omega arith);
       limited = h .limited;
     }
 obey-formed s (activation i) a h =
     record {
+      sized = h .sized;
       parents = h .parents;
+      light = h .light;
+      bounded = h .bounded;
+      columns =
+          record {
+            works-long = h .columns .works-long;
+            outs-long = h .columns .outs-long;
+            nobody = h .columns .nobody;
+            in-steps = h .columns .in-steps;
+            whole = h .columns .whole;
+          };
       activation-inside = every-snoc (λ k. within k (s .size)) (s .activation) i (h .activation-inside) (a .limits);
       activation-once = distinct-snoc (s .activation) i (h .activation-once) (new-entry i (s .activation) (a .own));
       execution-inside = h .execution-inside;
@@ -132,7 +246,18 @@ obey-formed s (activation i) a h =
     }
 obey-formed s (execution i) a h =
     record {
+      sized = h .sized;
       parents = h .parents;
+      light = h .light;
+      bounded = h .bounded;
+      columns =
+          record {
+            works-long = h .columns .works-long;
+            outs-long = h .columns .outs-long;
+            nobody = h .columns .nobody;
+            in-steps = h .columns .in-steps;
+            whole = h .columns .whole;
+          };
       activation-inside = h .activation-inside;
       activation-once = h .activation-once;
       execution-inside = every-snoc (λ k. within k (s .size)) (s .execution) i (h .execution-inside) (a .limits);
@@ -143,6 +268,8 @@ obey-formed s (execution i) a h =
 obey-formed s begin a h =
     let ph = and-true (eqb (s .phase) Phase.orders && eqb (length (s .activation)) (s .size)) (eqb (length (s .execution)) (s .size)) (a .turn) in
     let or = and-true (eqb (s .phase) Phase.orders) (eqb (length (s .activation)) (s .size)) (ph .0) in
-    with-books-formed s _ _ _ (h .staffed (not-empty (s .phase) Phase.orders (omega arith) (or .0))) h
+    let now = eqb-true (s .phase) Phase.orders (or .0) in
+    with-books-formed s _ _ _ (h .staffed (λ e. omega arith)) (omega arith) (omega arith) h
 obey-formed s (done j) a h =
-    with-books-formed s _ _ _ (h .staffed (not-empty (s .phase) Phase.running (omega arith) (a .turn))) h
+    let now = eqb-true (s .phase) Phase.running (a .turn) in
+    with-books-formed s _ _ _ (h .staffed (λ e. omega arith)) (omega arith) (after-report s j) h

@@ -6,11 +6,12 @@ use native.Mathlib.Omega.{arith}
 use Rattle.rules.specs.Sums.{only, sumTo}
 use Rattle.rules.specs.Booking.{figure}
 use Rattle.rules.specs.Standing.{finished}
+use Rattle.rules.specs.Invariant.{Tree, up, Roomy, pending}
 use Rattle.rules.proofs.Tests.{same-or-not, le-or-lt}
 use Rattle.rules.proofs.Sums.{Task, sum-change, only-true}
-use Rattle.rules.proofs.Tree.{Tree, up, up-self, figure-change}
+use Rattle.rules.proofs.Tree.{up-self, figure-change}
 use Rattle.rules.proofs.Children.{figure-children}
-use Rattle.rules.proofs.Balance.{Roomy, pending, pending-covered}
+use Rattle.rules.proofs.Balance.{pending-covered}
 
 -- x is given its need less its subtree figure, and the others keep what they have
 pub record Given (n : ℕ) (par need b b′ : ℕ → ℕ) (x : ℕ) : Type 0 where

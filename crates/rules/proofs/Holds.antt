@@ -11,24 +11,27 @@ use borrow.Author.Tests.{eqb-true, eq-eqb, ne-eqb, le-leb}
 use Rattle.rules.specs.Sums.{only, countTo}
 use Rattle.rules.specs.Lists.{at, mem, every}
 use Rattle.rules.specs.Need
+use Rattle.rules.specs.Peak.{peak}
 use Rattle.rules.specs.Phase
 use Rattle.rules.specs.Standing.{activated, running, finished, count, counts}
-use Rattle.rules.specs.State.{State, needs}
+use Rattle.rules.specs.State.{Store, State, needsIn}
 use Rattle.rules.specs.Grounds.{within, peakOf}
-use Rattle.rules.specs.Booking.{total, lacks, allows, ready, fed}
+use Rattle.rules.specs.Booking.{total, missing, lacks, allows, ready, fed}
 use Rattle.rules.specs.Question
 use Rattle.rules.specs.Day.{Event, starts, ends}
-use Rattle.rules.specs.Theorem.{runs, usedBy, DayHolds}
+use Rattle.rules.specs.Theorem.{runs, usedBy, StoreHolds, DayHolds}
+use Rattle.rules.specs.Invariant.{rankIn, Stocked}
 use Rattle.rules.proofs.Tests.{clash, same-or-not, or-left, or-right, and-both}
 use Rattle.rules.proofs.Sums.{Task, sum-cong, sum-zero, counted, none-counted, count-le, count-all, only-le, only-mono, only-true, only-false}
 use Rattle.rules.proofs.Counts.{count-full, count-cong}
 use Rattle.rules.proofs.Orders.{within-task, every-mem, sum-members, sum-length}
 use Rattle.rules.proofs.Peaks.{resident-cong}
-use Rattle.rules.proofs.Ranks.{rankIn, stands}
+use Rattle.rules.proofs.Ranks.{stands}
 use Rattle.rules.proofs.Tree.{parent-task}
 use Rattle.rules.proofs.Roots.{some-root}
 use Rattle.rules.proofs.Balance.{running-holds-need}
 use Rattle.rules.proofs.Usage.{hasEnded, hasBegun, in-use-within}
+use Rattle.rules.proofs.Questions.{runsOrEnded, in-use-named}
 use Rattle.rules.proofs.Progress.{Stuck, waits-or-ended}
 use Rattle.rules.proofs.Waiting.{Found, first-waiting, found-first, found-fits}
 use Rattle.rules.proofs.Starts.{children-fed}
@@ -68,20 +71,119 @@ module _ (s : State) (happened : List Event) (day : InDay s happened) where
             (day .settled .busy (omega arith) i t);
       }
 
-  -- then the first waiting task would fit, and it does not; so all have ended
+  -- one store
+  module _ (store : Store)
+      (stock : Stocked (s .size) (at (s .parents)) (needsIn s store) (at (store .outs)) (store .bound) (at (s .standings)) (store .booked)) where
+    -- where nobody runs, the first waiting task would fit
+    fits-there :
+        peak (s .size) (at (s .parents)) (at (store .works)) (at (store .outs)) (s .activation) ≤ store .bound
+        → count (s .size) (at (s .standings)) running ≡ 0
+        → (found : Found (at (s .standings)) (s .activation))
+        → total (s .size) (at (store .booked))
+        + missing (s .size) (at (s .parents)) (needsIn s store) (at (s .standings)) (at (store .booked)) (found .x)
+        ≤ store .bound
+    fits-there bound none found =
+        let fits =
+        found-fits (s .size) (at (s .parents)) (s .activation) (day .planned .valid) (tree s (day .planned)) (at (s .standings))
+        (day .settled .good .shape) found (stuck none) (at (store .works)) (at (store .outs)) (at (store .booked))
+        (needs-roomy s store) (stock .books)
+        in
+        omega arith
+
+    -- trays in use by the standings, where `begun` says which tasks have started
+    abbrev inUseWith : (ℕ → Bool) → ℕ
+    inUseWith begun =
+        Need.inUse (s .size) (at (s .parents)) (at (store .works)) (at (store .outs)) (hasEnded (at (s .standings))) begun
+
+    -- what is answered: "0 outside running"
+    abbrev answered : ℕ → ℕ
+    answered v = only (Question.isRunning s) v
+
+    -- in use, by what happened and by the standings
+    used-is : usedBy s store happened ≡ inUseWith (hasBegun (at (s .standings)))
+    unfolding usedBy Need.inUse
+    used-is =
+        let t = tree s (day .planned) in
+        ap₂ (λ (a b : ℕ). a + b)
+        (sum-cong (λ i. only (mem i (starts happened) && not (mem i (ends happened))) (needsIn s store i))
+        (λ i. only (hasBegun (at (s .standings)) i && not (hasEnded (at (s .standings)) i)) (needsIn s store i)) (s .size)
+        (λ i u.
+        ap₂ (λ (a b : Bool). only (a && not b) (needsIn s store i)) (day .logged .begun i u) (day .logged .done i u)))
+        (resident-cong (s .size) (at (s .parents)) (at (store .outs)) (λ i. mem i (ends happened)) (hasEnded (at (s .standings)))
+        (λ i. mem i (starts happened)) (hasBegun (at (s .standings))) (λ i u. day .logged .done i u)
+        (λ i u d.
+        day .logged .begun (at (s .parents) i) (parent-task (s .size) (at (s .parents)) (rankIn (s .activation)) t i u d)))
+
+    in-use-booked : inUseWith (hasBegun (at (s .standings))) ≤ total (s .size) (at (store .booked))
+    in-use-booked =
+        in-use-within (s .size) (at (s .parents)) (rankIn (s .activation)) (tree s (day .planned)) (at (store .works))
+        (at (store .outs)) (at (s .standings)) (at (store .booked)) (day .settled .good .shape) (stock .books)
+
+    -- at the end nothing is booked
+    nothing-booked : ((i : ℕ) → Task (s .size) i → at (s .standings) i ≡ finished) → total (s .size) (at (store .booked)) ≡ 0
+    unfolding total
+    nothing-booked h = sum-zero (at (store .booked)) (s .size) (λ i t. stock .books .empty i t (h i t))
+
+    -- the same by the names of the standings
+    by-names : inUseWith (runsOrEnded (at (s .standings))) ≡ inUseWith (hasBegun (at (s .standings)))
+    by-names =
+        in-use-named (s .size) (at (s .parents)) (at (store .works)) (at (store .outs)) (at (s .standings))
+        (day .settled .good .shape .four) (λ i _. day .planned .formed .parents i)
+
+    used : answered (inUseWith (runsOrEnded (at (s .standings)))) ≡ usedBy s store happened
+    unfolding Question.isRunning
+    used = by-closing (day .closing)
+      where
+        by-closing :
+            Closing s
+            → only (eqb (s .phase) Phase.running) (inUseWith (runsOrEnded (at (s .standings)))) ≡ usedBy s store happened
+        by-closing (open-day p h) = only-true (eqb (s .phase) Phase.running) _ (eq-eqb (s .phase) Phase.running p) ∙ by-names ∙ sym used-is
+        by-closing (closed p h) =
+            only-false (eqb (s .phase) Phase.running) _ (ne-eqb (s .phase) Phase.running (λ q. omega arith))
+            ∙ (let u = used-is in let w = in-use-booked in let z = nothing-booked h in omega arith)
+
+    -- what is answered for booked trays is their sum: at the end there are none
+    summed : answered (total (s .size) (at (store .booked))) ≡ total (s .size) (at (store .booked))
+    unfolding Question.isRunning
+    summed = by-closing (day .closing)
+      where
+        by-closing :
+            Closing s
+            → only (eqb (s .phase) Phase.running) (total (s .size) (at (store .booked))) ≡ total (s .size) (at (store .booked))
+        by-closing (open-day p h) = only-true (eqb (s .phase) Phase.running) _ (eq-eqb (s .phase) Phase.running p)
+        by-closing (closed p h) =
+            only-false (eqb (s .phase) Phase.running) _ (ne-eqb (s .phase) Phase.running (λ q. omega arith))
+            ∙ sym (nothing-booked h)
+
+    store-holds :
+        StoreHolds s happened store (answered (total (s .size) (at (store .booked))))
+        (answered (inUseWith (runsOrEnded (at (s .standings)))))
+    store-holds =
+        record {
+          used = used;
+          summed = summed;
+          covered =
+              only-mono (Question.isRunning s) _ (total (s .size) (at (store .booked))) (λ _. rw by-names in-use-booked);
+          within =
+              (let o = only-le (Question.isRunning s) (total (s .size) (at (store .booked))) in
+              let w = stock .within in
+              omega arith);
+          exact =
+              λ i t r.
+              running-holds-need (s .size) (at (s .parents)) (rankIn (s .activation)) (tree s (day .planned)) (needsIn s store)
+              (at (store .outs)) (at (s .standings)) (at (store .booked)) (day .settled .good .shape) (stock .books) i t
+              (eqb-true (at (s .standings) i) running (sym (runs-is i t) ∙ r));
+        }
+
+  -- the first waiting task would fit, and it does not; so all have ended
   stuck-at : count (s .size) (at (s .standings)) running ≡ 0 → Found (at (s .standings)) (s .activation) → ⊥
   unfolding allows lacks peakOf
   stuck-at none found =
-      let valid = day .planned .valid in
-      let t = tree s (day .planned) in
-      let shape = day .settled .good .shape in
-      let first = found-first (s .size) (at (s .parents)) (s .activation) valid t (at (s .standings)) shape found in
-      let fits =
-      found-fits (s .size) (at (s .parents)) (s .activation) valid t (at (s .standings)) shape found (stuck none)
-      (at (s .memory .works)) (at (s .memory .outs)) (at (s .memory .booked)) (needs-roomy s) (day .settled .good .books)
-      in
-      let bound = day .planned .fits in
-      clash (le-leb _ (s .memory .bound) (omega arith)) (day .settled .halted (found .x) first)
+      clash
+      (le-leb _ (s .chilled .bound) (fits-there (s .chilled) (day .settled .good .stock) (day .planned .fits) none found))
+      (day .settled .halted (found .x)
+      (found-first (s .size) (at (s .parents)) (s .activation) (day .planned .valid) (tree s (day .planned)) (at (s .standings))
+      (day .settled .good .shape) found))
 
   nobody-runs : count (s .size) (at (s .standings)) running ≡ 0 → (i : ℕ) → Task (s .size) i → at (s .standings) i ≡ finished
   nobody-runs none i t =
@@ -164,59 +266,6 @@ module _ (s : State) (happened : List Event) (day : InDay s happened) where
       )
       by-closing (closed p h) = ((λ q. absurd (omega arith)), (λ few. let e = ended-all h in absurd (omega arith)))
 
-  -- in use, by what happened and by the standings
-  used-is :
-      usedBy s happened
-      ≡ Need.inUse (s .size) (at (s .parents)) (at (s .memory .works)) (at (s .memory .outs)) (hasEnded (at (s .standings)))
-      (hasBegun (at (s .standings)))
-  unfolding usedBy Need.inUse
-  used-is =
-      let t = tree s (day .planned) in
-      ap₂ (λ (a b : ℕ). a + b)
-      (sum-cong (λ i. only (mem i (starts happened) && not (mem i (ends happened))) (needs s i))
-      (λ i. only (hasBegun (at (s .standings)) i && not (hasEnded (at (s .standings)) i)) (needs s i)) (s .size)
-      (λ i u.
-      ap₂ (λ (a b : Bool). only (a && not b) (needs s i)) (day .logged .begun i u) (day .logged .done i u)))
-      (resident-cong (s .size) (at (s .parents)) (at (s .memory .outs)) (λ i. mem i (ends happened)) (hasEnded (at (s .standings)))
-      (λ i. mem i (starts happened)) (hasBegun (at (s .standings))) (λ i u. day .logged .done i u)
-      (λ i u d.
-      day .logged .begun (at (s .parents) i) (parent-task (s .size) (at (s .parents)) (rankIn (s .activation)) t i u d)))
-
-  in-use-booked :
-      Need.inUse (s .size) (at (s .parents)) (at (s .memory .works)) (at (s .memory .outs)) (hasEnded (at (s .standings)))
-      (hasBegun (at (s .standings)))
-      ≤ total (s .size) (at (s .memory .booked))
-  in-use-booked =
-      in-use-within (s .size) (at (s .parents)) (rankIn (s .activation)) (tree s (day .planned)) (at (s .memory .works))
-      (at (s .memory .outs)) (at (s .standings)) (at (s .memory .booked)) (day .settled .good .shape) (day .settled .good .books)
-
-  -- at the end nothing is booked
-  nothing-booked : ((i : ℕ) → Task (s .size) i → at (s .standings) i ≡ finished) → total (s .size) (at (s .memory .booked)) ≡ 0
-  unfolding total
-  nothing-booked h =
-      sum-zero (at (s .memory .booked)) (s .size) (λ i t. day .settled .good .books .empty i t (h i t))
-
-  used : Question.inUse s ≡ usedBy s happened
-  unfolding Question.inUse Question.isRunning
-  used = by-closing (day .closing)
-    where
-      by-closing : Closing s → Question.inUse s ≡ usedBy s happened
-      by-closing (open-day p h) = only-true (eqb (s .phase) Phase.running) _ (eq-eqb (s .phase) Phase.running p) ∙ sym used-is
-      by-closing (closed p h) =
-          only-false (eqb (s .phase) Phase.running) _ (ne-eqb (s .phase) Phase.running (λ q. omega arith))
-          ∙ (let u = used-is in let w = in-use-booked in let z = nothing-booked h in omega arith)
-
-  -- what is answered for booked trays is their sum: at the end there are none
-  summed : Question.booked s ≡ total (s .size) (at (s .memory .booked))
-  unfolding Question.booked Question.isRunning
-  summed = by-closing (day .closing)
-    where
-      by-closing : Closing s → Question.booked s ≡ total (s .size) (at (s .memory .booked))
-      by-closing (open-day p h) = only-true (eqb (s .phase) Phase.running) _ (eq-eqb (s .phase) Phase.running p)
-      by-closing (closed p h) =
-          only-false (eqb (s .phase) Phase.running) _ (ne-eqb (s .phase) Phase.running (λ q. omega arith))
-          ∙ sym (nothing-booked h)
-
   -- in a day the four counts are answered
   standing-is : Question.standing s ≡ counts (s .size) (at (s .standings))
   unfolding Question.standing Question.isRunning
@@ -257,19 +306,8 @@ module _ (s : State) (happened : List Event) (day : InDay s happened) where
             );
         running = until-over;
         over = over;
-        used = used;
-        summed = summed;
         countRunning = ap (λ (l : List ℕ). at l running) standing-is ∙ sym runners;
         countEnded = ap (λ (l : List ℕ). at l finished) standing-is ∙ sym reports;
-        covered = only-mono (Question.isRunning s) _ (total (s .size) (at (s .memory .booked))) (λ _. in-use-booked);
-        within =
-            (let o = only-le (Question.isRunning s) (total (s .size) (at (s .memory .booked))) in
-            let w = day .settled .good .within in
-            omega arith);
         staffed = (let same = runners in let few = day .settled .staffed in omega arith);
-        exact =
-            λ i t r.
-            running-holds-need (s .size) (at (s .parents)) (rankIn (s .activation)) (tree s (day .planned)) (needs s)
-            (at (s .memory .outs)) (at (s .standings)) (at (s .memory .booked)) (day .settled .good .shape)
-            (day .settled .good .books) i t (eqb-true (at (s .standings) i) running (sym (runs-is i t) ∙ r));
+        store = store-holds (s .chilled) (day .settled .good .stock);
       }

@@ -13,20 +13,19 @@ use Rattle.rules.specs.Need.{need}
 use Rattle.rules.specs.Peak.{roots, ordered}
 use Rattle.rules.specs.Phase
 use Rattle.rules.specs.Standing.{waiting, running, finished, count}
-use Rattle.rules.specs.State.{State, needs}
+use Rattle.rules.specs.State.{Store, State, needsIn, needs}
 use Rattle.rules.specs.Command.{begin}
 use Rattle.rules.specs.Grounds.{inTurn, demand, peakOf, ownGround}
 use Rattle.rules.specs.Booking.{Books, total}
 use Rattle.rules.specs.Obey.{withBooks, ahead, begun, proceed, fresh}
 use Rattle.rules.specs.Day.{Event, started}
+use Rattle.rules.specs.Theorem.{OrdersHold}
+use Rattle.rules.specs.Invariant.{Valid, rankIn, Tree, Roomy, arrived, Stocked, Good}
 use Rattle.rules.proofs.Tests.{and-true}
 use Rattle.rules.proofs.Sums.{Task, sum-zero, count-none, only-false}
-use Rattle.rules.proofs.Turns.{Valid}
-use Rattle.rules.proofs.Ranks.{rankIn, tree-of}
-use Rattle.rules.proofs.Tree.{Tree}
-use Rattle.rules.proofs.Children.{children-out, children-zero}
-use Rattle.rules.proofs.Balance.{Roomy, arrived}
-use Rattle.rules.proofs.Good.{Good}
+use Rattle.rules.proofs.Orders.{each-once}
+use Rattle.rules.proofs.Ranks.{tree-of}
+use Rattle.rules.proofs.Children.{children-zero}
 use Rattle.rules.proofs.Course.{Settled, Coursed, coursed}
 use Rattle.rules.proofs.Log.{Logged, InOrder}
 use Rattle.rules.proofs.Formed.{Formed, Accepted, demand-none, with-books-formed}
@@ -34,15 +33,16 @@ use Rattle.rules.proofs.Formed.{Formed, Accepted, demand-none, with-boo
 -- the plan as BEGIN found it in order, and the bound in force above its peak
 pub record Planned (s : State) : Type 0 where
   pub formed : Formed s
+  pub given : Phase.orders ≤ s .phase
   pub valid : Valid (s .size) (at (s .parents)) (s .activation)
   pub executed : length (s .execution) ≡ s .size
   pub rooted : roots (s .size) (at (s .parents)) ≡ 1
   pub staffed : 1 ≤ s .processors
-  pub fits : peakOf s ≤ s .memory .bound
+  pub fits : peakOf s ≤ s .chilled .bound
 
 -- the books of a plan
 abbrev pub booksOf : State → Books
-booksOf s = record { standings = s .standings; booked = s .memory .booked }
+booksOf s = record { standings = s .standings; booked = s .chilled .booked }
 
 -- the root has not ended, or all have
 pub data Closing (s : State) : Type 0 where
@@ -52,21 +52,24 @@ pub data Closing (s : State) : Type 0 where
       → Closing s
   closed : s .phase ≡ Phase.over → ((i : ℕ) → Task (s .size) i → at (s .standings) i ≡ finished) → Closing s
 
+-- the phase is then one of the day
+in-its-day : {s : State} → Closing s → Phase.orders ≤ s .phase
+in-its-day (open-day e _) = omega arith
+in-its-day (closed e _) = omega arith
+
 pub record InDay (s : State) (happened : List Event) : Type 0 where
   pub planned : Planned s
   pub settled :
-      Settled (s .size) (at (s .parents)) (rankIn (s .activation)) (needs s) (at (s .memory .outs)) (s .memory .bound)
+      Settled (s .size) (at (s .parents)) (rankIn (s .activation)) (needs s) (at (s .chilled .outs)) (s .chilled .bound)
       (s .processors) (booksOf s)
   pub logged : Logged (s .size) (at (s .standings)) happened
   pub order : InOrder (s .size) (at (s .parents)) happened
   pub closing : Closing s
 
--- the needs leave room for the children's outs and the own out
-pub needs-roomy : (s : State) → Roomy (s .size) (at (s .parents)) (needs s) (at (s .memory .outs))
+-- the needs in a store leave room for the children's outs and the own out
+pub needs-roomy : (s : State) (store : Store) → Roomy (s .size) (at (s .parents)) (needsIn s store) (at (store .outs))
 unfolding need
-needs-roomy s i t =
-    let c = children-out (s .size) (at (s .parents)) (at (s .memory .outs)) i in
-    omega arith
+needs-roomy s store i t = omega arith
 
 -- a planned plan is a tree by the places of its activation order
 pub tree : (s : State) → Planned s → Tree (s .size) (at (s .parents)) (rankIn (s .activation))
@@ -76,18 +79,14 @@ tree s p = tree-of (s .size) (at (s .parents)) (s .activation) (p .valid) (λ i 
 fresh-at : (n i : ℕ) → Task n i → at (replicate (suc n) 0) i ≡ 0
 fresh-at n i t = getD-replicate (suc n) i 0 0 (omega arith)
 
-pub fresh-good :
-    (n : ℕ) (par rank need out : ℕ → ℕ) (bound : ℕ) → Good n par rank need out bound (fresh n)
-unfolding fresh total arrived
-fresh-good n par rank need out bound =
+-- a store of which nothing is booked
+fresh-stocked :
+    (n : ℕ) (par need out : ℕ → ℕ) (bound : ℕ)
+    → Stocked n par need out bound (at (replicate (suc n) waiting)) (replicate (suc n) 0)
+unfolding total arrived
+fresh-stocked n par need out bound =
     record {
-      sized = record { standings = length-replicate (suc n) waiting; booked = length-replicate (suc n) 0 };
-      shape =
-          record {
-            behind = λ i j t u h w. fresh-at n j u;
-            fed = λ i c t u e r. let z = fresh-at n i t in absurd (omega arith);
-            four = λ i t. let z = fresh-at n i t in omega arith;
-          };
+      sized = length-replicate (suc n) 0;
       books =
           record {
             waits =
@@ -105,6 +104,21 @@ fresh-good n par rank need out bound =
           };
       within =
           (let z : sumTo (at (replicate (suc n) 0)) n ≡ 0 = sum-zero (at (replicate (suc n) 0)) n (λ i t. fresh-at n i t) in omega arith);
+    }
+
+pub fresh-good :
+    (n : ℕ) (par rank need out : ℕ → ℕ) (bound : ℕ) → Good n par rank need out bound (fresh n)
+unfolding fresh
+fresh-good n par rank need out bound =
+    record {
+      sized = length-replicate (suc n) waiting;
+      shape =
+          record {
+            behind = λ i j t u h w. fresh-at n j u;
+            fed = λ i c t u e r. let z = fresh-at n i t in absurd (omega arith);
+            four = λ i t. let z = fresh-at n i t in omega arith;
+          };
+      stock = fresh-stocked n par need out bound;
     }
 
 -- everybody waits, and nobody runs
@@ -129,17 +143,18 @@ begin-planned s formed a =
     let early = and-true (eqb (s .phase) Phase.orders) (eqb (length (s .activation)) (s .size)) (turn .0) in
     let seven =
     demand-none (eqb (roots (s .size) (at (s .parents))) 1) 7
-    (demand (ordered (at (s .parents)) (s .activation)) 8 (demand (leb (peakOf s) (s .memory .bound)) 9 0))
+    (demand (ordered (at (s .parents)) (s .activation)) 8 (demand (leb (peakOf s) (s .chilled .bound)) 9 0))
     (λ q. omega arith) (a .own)
     in
     let eight =
-    demand-none (ordered (at (s .parents)) (s .activation)) 8 (demand (leb (peakOf s) (s .memory .bound)) 9 0)
+    demand-none (ordered (at (s .parents)) (s .activation)) 8 (demand (leb (peakOf s) (s .chilled .bound)) 9 0)
     (λ q. omega arith) (seven .1)
     in
-    let nine = demand-none (leb (peakOf s) (s .memory .bound)) 9 0 (λ q. omega arith) (eight .1) in
+    let nine = demand-none (leb (peakOf s) (s .chilled .bound)) 9 0 (λ q. omega arith) (eight .1) in
     let phase = eqb-true (s .phase) Phase.orders (early .0) in
     record {
       formed = formed;
+      given = omega arith;
       valid =
           record {
             inside = formed .activation-inside;
@@ -150,16 +165,26 @@ begin-planned s formed a =
       executed = eqb-true (length (s .execution)) (s .size) (turn .1);
       rooted = eqb-true (roots (s .size) (at (s .parents))) 1 (seven .0);
       staffed = formed .staffed (λ z. omega arith);
-      fits = leb-true (peakOf s) (s .memory .bound) (nine .0);
+      fits = leb-true (peakOf s) (s .chilled .bound) (nine .0);
+    }
+
+-- both orders of such a plan are what they must be
+pub orders-hold : (s : State) → Planned s → OrdersHold s
+orders-hold s p =
+    record {
+      activation = each-once (s .size) (s .activation) (p .valid .inside) (p .valid .once) (p .valid .whole);
+      execution = each-once (s .size) (s .execution) (p .formed .execution-inside) (p .formed .execution-once) (p .executed);
+      upward = p .valid .upward;
     }
 
 -- the plan itself stays as it was in its day
 pub books-planned :
-    (s : State) (phase : ℕ) (st b : List ℕ) → Planned s → Planned (withBooks s phase st b)
+    (s : State) (phase : ℕ) (st b : List ℕ) → Phase.orders ≤ phase → Planned s → Planned (withBooks s phase st b)
 unfolding withBooks peakOf
-books-planned s phase st b p =
+books-planned s phase st b later p =
     record {
-      formed = with-books-formed s phase st b (p .staffed) (p .formed);
+      formed = with-books-formed s phase st b (p .staffed) (p .given) later (p .formed);
+      given = later;
       valid = p .valid;
       executed = p .executed;
       rooted = p .rooted;
@@ -169,15 +194,15 @@ books-planned s phase st b p =
 
 -- booking ahead and starting, from books in which what holds of the day is kept
 module _ (s : State) (p : Planned s) (phase : ℕ) (k : Books) (peak offers : ℕ)
-    (good : Good (s .size) (at (s .parents)) (rankIn (s .activation)) (needs s) (at (s .memory .outs)) (s .memory .bound) k)
+    (good : Good (s .size) (at (s .parents)) (rankIn (s .activation)) (needs s) (at (s .chilled .outs)) (s .chilled .bound) k)
     (few : count (s .size) (at (k .standings)) running ≤ s .processors) where
   pub proceeds :
-      Coursed (s .size) (at (s .parents)) (rankIn (s .activation)) (needs s) (at (s .memory .outs)) (s .memory .bound)
+      Coursed (s .size) (at (s .parents)) (rankIn (s .activation)) (needs s) (at (s .chilled .outs)) (s .chilled .bound)
       (s .processors) k (booksOf (proceed s phase k peak offers .state)) (proceed s phase k peak offers .started)
   unfolding proceed withBooks ahead begun
   proceeds =
-      coursed (s .size) (at (s .parents)) (s .activation) (p .valid) (tree s p) (needs s) (at (s .memory .outs)) (needs-roomy s)
-      (s .memory .bound) (s .processors) (s .execution) (p .formed .execution-inside) (p .formed .execution-once) (p .executed) k
+      coursed (s .size) (at (s .parents)) (s .activation) (p .valid) (tree s p) (needs s) (at (s .chilled .outs)) (needs-roomy s (s .chilled))
+      (s .chilled .bound) (s .processors) (s .execution) (p .formed .execution-inside) (p .formed .execution-once) (p .executed) k
       (ahead s k) good few refl (begun s (ahead s k)) refl
 
   pub proceed-in-day :
@@ -190,7 +215,7 @@ module _ (s : State) (p : Planned s) (phase : ℕ) (k : Books) (peak offers : �
   proceed-in-day happened logged order closing =
       let log = proceeds .logged happened logged order in
       record {
-        planned = books-planned s phase _ _ p;
+        planned = books-planned s phase _ _ (in-its-day closing) p;
         settled = proceeds .settled;
         logged = log .0;
         order = log .1;

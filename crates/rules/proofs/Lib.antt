@@ -28,7 +28,7 @@ pub mod Usage
 pub mod Progress
 pub mod Roots
 -- the parts of a command, over lists
-pub mod Good
+pub mod Entries
 pub mod Ahead
 pub mod Waiting
 pub mod Starts
@@ -41,6 +41,7 @@ pub mod Course
 pub mod InDay
 pub mod Opening
 pub mod Reporting
+pub mod Questions
 pub mod Holds
 pub mod Staying
 pub mod Steps
@@ -48,8 +49,12 @@ pub mod Refusals
 pub mod Askings
 pub mod Theorem
 pub mod Reaching
+-- a stream given to an empty plan
+pub mod Stream
 -- the day printer
+pub mod Lengths
 pub mod Parts
 pub mod Printed
+pub mod Stepped
 -- a worked day
 pub mod Worked

@@ -17,7 +17,7 @@ use Rattle.rules.specs.Theorem.{runs}
 use Rattle.rules.proofs.Tests.{same-or-not, or-right, or-none, eqb-above}
 use Rattle.rules.proofs.Sums.{Task}
 use Rattle.rules.proofs.Orders.{mem-append, mem-here, mem-later, mem-none, every-snoc, distinct-snoc, task-within}
-use Rattle.rules.proofs.Good.{at-set, at-other}
+use Rattle.rules.proofs.Entries.{at-set, at-other}
 use Rattle.rules.proofs.Starts.{Startable}
 
 -- starts and ends of what happens one after the other

@@ -1,8 +1,10 @@
--- The † table and the table of the grounds hold, and plan A prints its four lines: all by computation.
+-- The † table, the table of the grounds and that of other sentences hold, and plan A prints its four lines: all by computation.
 use mathlib.Core.Path.{_≡_, refl}
 use mathlib.Core.Bool.{true}
 use mathlib.Core.List.{[], _∷_, _++_}
+use Rattle.rules.specs.Lists.{every, distinct}
 use Rattle.rules.specs.Command.{begin}
+use Rattle.rules.specs.Desk.{deskGround, deskAnswer, column, desk}
 use Rattle.rules.specs.Text.{ascii}
 use Rattle.rules.specs.Printer.{print}
 use Rattle.rules.specs.Marked.{
@@ -23,6 +25,10 @@ use Rattle.rules.specs.Marked.{
   dayC,
   single,
   marked,
+  recordsA,
+  rootsOnly,
+  surveyed,
+  sentences,
   same,
   holds,
   dayA,
@@ -38,6 +44,35 @@ marked-holds = refl
 pub grounds-hold : holds grounds ≡ true
 unfolding computing ask asks inOrder inOrders tasksA planA reading short told refusal grounds same holds
 grounds-hold = refl
+
+-- each of the other sentences holds in its case
+pub sentences-hold : holds sentences ≡ true
+unfolding
+    computing
+    every
+    distinct
+    deskGround
+    deskAnswer
+    column
+    desk
+    ask
+    asks
+    last
+    inOrder
+    tasksA
+    planA
+    single
+    dayA
+    short
+    told
+    refusal
+    recordsA
+    rootsOnly
+    surveyed
+    sentences
+    same
+    holds
+sentences-hold = refl
 
 -- "Choosing by activation order where the execution order should choose": with execution order 2, 1, 3 step 2 starts first
 pub execution-chooses :

@@ -12,9 +12,8 @@ use Rattle.rules.specs.Command.{begin}
 use Rattle.rules.specs.Grounds.{peakOf}
 use Rattle.rules.specs.Obey.{fresh, withBooks, proceed, obey}
 use Rattle.rules.specs.Day.{started}
+use Rattle.rules.specs.Invariant.{rankIn, Good}
 use Rattle.rules.proofs.Tests.{clash}
-use Rattle.rules.proofs.Ranks.{rankIn}
-use Rattle.rules.proofs.Good.{Good}
 use Rattle.rules.proofs.Log.{nothing-logged, nothing-in-order}
 use Rattle.rules.proofs.Formed.{Formed, Accepted}
 use Rattle.rules.proofs.InDay.{
@@ -33,7 +32,7 @@ use Rattle.rules.proofs.InDay.{
 -- the root has not ended at once
 still-open :
     (s : State) (p : Planned s)
-    → Good (s .size) (at (s .parents)) (rankIn (s .activation)) (needs s) (at (s .memory .outs)) (s .memory .bound) (fresh (s .size))
+    → Good (s .size) (at (s .parents)) (rankIn (s .activation)) (needs s) (at (s .chilled .outs)) (s .chilled .bound) (fresh (s .size))
     → count (s .size) (at (fresh (s .size) .standings)) running ≤ s .processors
     → Closing (proceed s Phase.running (fresh (s .size)) (peakOf s) 0 .state)
 unfolding proceed withBooks
@@ -50,7 +49,7 @@ unfolding obey
 begin-in-day s formed a =
     let p = begin-planned s formed a in
     let good =
-    fresh-good (s .size) (at (s .parents)) (rankIn (s .activation)) (needs s) (at (s .memory .outs)) (s .memory .bound)
+    fresh-good (s .size) (at (s .parents)) (rankIn (s .activation)) (needs s) (at (s .chilled .outs)) (s .chilled .bound)
     in
     let few : count (s .size) (at (fresh (s .size) .standings)) running ≤ s .processors =
     (let z = fresh-idle (s .size) in omega arith)

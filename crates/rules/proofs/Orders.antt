@@ -1,6 +1,6 @@
 -- Laws of lists of tasks as orders: who stands in a list and where, and lists that hold every task once.
 use mathlib.Core.Path.{_≡_, refl, sym, ap, _∙_}
-use mathlib.Core.Bool.{Bool, true, false, not, cond, _&&_, _||_, and-assoc, or-assoc, or-comm, or-true}
+use mathlib.Core.Bool.{Bool, true, false, not, _&&_, _||_, and-assoc, or-assoc, or-comm, or-true}
 use mathlib.Core.List.{List, [], _∷_, _++_}
 use mathlib.Core.Logic.{⊎-elim}
 use Prim.Native.Nat.{ℕ, zero, suc, _+_, _<_}
@@ -9,8 +9,8 @@ use lib.Dec.{eqb, leb}
 use lib.ListN.{length, getD}
 use borrow.Author.Tests.{eq-eqb, ne-eqb, leb-true, le-leb, not-true}
 use Rattle.rules.specs.Sums.{only, sumTo, countTo}
-use Rattle.rules.specs.Lists.{mem, every, distinct}
-use Rattle.rules.specs.Peak.{ordered}
+use Rattle.rules.specs.Lists.{mem, every, distinct, place}
+use Rattle.rules.specs.Peak.{EachOnce, ordered}
 use Rattle.rules.specs.Grounds.{within}
 use Rattle.rules.proofs.Tests.{clash, fails, same-or-not, or-false, and-true, and-both}
 use Rattle.rules.proofs.Sums.{
@@ -199,11 +199,6 @@ distinct-split pre x post e =
       apart = λ i h. sym (mem-later i x post (other i h)) ∙ a .apart i h;
     }
 
--- where x first stands, counted from 0; the list's length where it does not
-unfoldable pub place : ℕ → List ℕ → ℕ
-place x [] = 0
-place x (y ∷ l) = cond (eqb x y) 0 (suc (place x l))
-
 pub place-here : (x y : ℕ) (l : List ℕ) → x ≡ y → place x (y ∷ l) ≡ 0
 unfolding place
 place-here x y l q = rw (eq-eqb x y q)
@@ -307,6 +302,20 @@ pub all-in :
 unfolding countTo
 all-in n l inside once whole =
     count-full (λ i. mem i l) n (sym (sum-members (λ _. 1) n l inside once) ∙ sum-length l ∙ whole)
+
+-- so such a list holds each task once
+pub each-once :
+    (n : ℕ) (l : List ℕ)
+    → every (λ i. within i n) l ≡ true
+    → distinct l ≡ true
+    → length l ≡ n
+    → EachOnce n l
+each-once n l inside once whole =
+    record {
+      tasks = λ i m. within-task n i (every-mem (λ k. within k n) l i inside m);
+      each = all-in n l inside once whole;
+      once = once;
+    }
 
 -- a sum along such a list is the sum over the tasks
 pub sum-along :

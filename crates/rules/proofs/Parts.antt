@@ -2,32 +2,22 @@
 use mathlib.Core.Path.{_≡_, refl, sym, ap, _∙_}
 use mathlib.Core.Bool.{Bool, true, false, cond, true≢false}
 use mathlib.Core.List.{List, [], _∷_, _++_, append-nil}
+use mathlib.Core.Option.{Option, none, some}
 use mathlib.Core.Logic.{⊎-elim}
-use Prim.Native.Nat.{ℕ, zero, suc, _+_, _≤_, _<_}
+use Prim.Native.Nat.{ℕ, suc, _+_, _≤_, _<_}
 use native.Mathlib.Nat.{zero-add, suc-add}
 use native.Mathlib.Omega.{arith}
 use borrow.Author.Tests.{ltb-false, le-ltb, le-leb, lt-leb}
-use lib.Dec.{eqb, leb, ltb}
-use lib.ListN.{length, drop, length-append, length-drop, List·getD-append}
+use lib.Dec.{leb, ltb}
+use lib.ListN.{length, drop, length-append, List·getD-append}
 use lib.Seq.{drop-append-le}
 use Rattle.rules.specs.Lists.{at}
 use Rattle.rules.specs.State.{State}
-use Rattle.rules.specs.Command.{
-  Command,
-  activation,
-  execution,
-  done,
-  number,
-  Decoded,
-  refused,
-  read,
-  whole,
-  table,
-  decode,
-}
+use Rattle.rules.specs.Command.{Command, Form, forms, find, room, Decoded, refused, read, whole, readBy, table, decode}
 use Rattle.rules.specs.Answer.{Asking, command}
 use Rattle.rules.specs.Printer.{waits, idle, isAwaited, turn}
 use Rattle.rules.proofs.Tests.{fails, le-or-lt}
+use Rattle.rules.proofs.Number.{numbers-more}
 use Rattle.rules.proofs.Bytes.{past}
 
 -- the bytes ahead of the part do not count
@@ -38,26 +28,9 @@ behind (x ∷ before) part place =
     ∙ past x (before ++ part) (length before + place)
     ∙ behind before part place
 
--- a number in bytes that have come
-number-more : (width : ℕ) (given after : List ℕ) → width ≤ length given → number width (given ++ after) ≡ number width given
-unfolding number
-number-more zero given after h = refl
-number-more (suc width) [] after h = absurd (omega arith)
-number-more (suc width) (x ∷ given) after h = rw (number-more width given after (omega arith))
-
-number-at : (skip width : ℕ) (given after : List ℕ)
-    → skip + width ≤ length given
-    → number width (drop skip (given ++ after)) ≡ number width (drop skip given)
-number-at skip width given after h =
-    rw (drop-append-le skip given after (omega arith)) (number-more width (drop skip given) after (omega (arith, length-drop skip given)))
-
 -- what is no longer awaited is not changed by what comes after it
 abbrev Same : Decoded → Decoded → Type 0
 Same d d′ = isAwaited false d ≡ false → d′ ≡ d
-
-either : (t : Bool) {a b a′ b′ : Decoded} → Same a a′ → Same b b′ → Same (cond t a b) (cond t a′ b′)
-either true h h′ = h
-either false h h′ = h′
 
 module _ (given after : List ℕ) where
   whole-more : (width : ℕ) (c c′ : Command) → (width ≤ length given → c′ ≡ c) → Same (whole given width c) (whole (given ++ after) width c′)
@@ -71,26 +44,15 @@ module _ (given after : List ℕ) where
           rw (le-ltb (length (given ++ after)) width (simp length-append (omega arith)), same l)
 
   table-more : (byte : ℕ) → Same (table byte given) (table byte (given ++ after))
-  unfolding table isAwaited
-  table-more byte =
-      either (eqb byte 1)
-      (whole-more 7 _ _
-      (λ l. rw (
-        number-more 2 given after (omega arith),
-        number-at 2 1 given after (omega arith),
-        number-at 3 4 given after (omega arith),
-      )))
-      (either (eqb byte 2)
-      (whole-more 6 _ _
-      (λ l. rw (
-        number-more 2 given after (omega arith),
-        number-at 2 2 given after (omega arith),
-        number-at 4 2 given after (omega arith),
-      )))
-      (either (eqb byte 3) (whole-more 2 _ _ (λ l. ap activation (number-more 2 given after l)))
-      (either (eqb byte 4) (whole-more 2 _ _ (λ l. ap execution (number-more 2 given after l)))
-      (either (eqb byte 5) (whole-more 0 _ _ (λ l. refl))
-      (either (eqb byte 6) (whole-more 2 _ _ (λ l. ap done (number-more 2 given after l))) (λ e. refl))))))
+  unfolding table readBy
+  table-more byte = go (find forms byte)
+    where
+      go : (line : Option Form)
+          → Same (elim line [ none ↦ refused 2 | some f ↦ readBy f given ])
+          (elim line [ none ↦ refused 2 | some f ↦ readBy f (given ++ after) ])
+      go none = λ e. refl
+      go (some f) =
+          whole-more (room (f .widths)) _ _ (λ l. ap (f .means) (numbers-more (f .widths) given after l))
 
 -- a command that is not awaited stands among the bytes that have come
 came : (part : List ℕ) (place : ℕ) → isAwaited false (decode part place) ≡ false → place < length part

@@ -9,12 +9,13 @@ use lib.Dec.{eqb}
 use borrow.Author.Tests.{eq-eqb, ne-eqb}
 use Rattle.rules.specs.Sums.{only, sumTo}
 use Rattle.rules.specs.Lists.{mem, largest}
-use Rattle.rules.specs.Need.{childrenOut, need, resident}
+use Rattle.rules.specs.Need.{children, need, resident}
 use Rattle.rules.specs.Peak.{sums, peak}
+use Rattle.rules.specs.Invariant.{Valid}
 use Rattle.rules.proofs.Tests.{same-or-not}
 use Rattle.rules.proofs.Sums.{Task, sum-cong, sum-le, sum-add, sum-zero, sum-change, only-le}
 use Rattle.rules.proofs.Orders.{mem-here, mem-later, mem-among}
-use Rattle.rules.proofs.Turns.{Valid, Left, Turn, left-split, left-next, left-turn}
+use Rattle.rules.proofs.Turns.{Left, Turn, left-split, left-next, left-turn}
 
 -- what one task has in the store
 abbrev lying : (par out : ℕ → ℕ) (ended begun : ℕ → Bool) → ℕ → ℕ
@@ -96,8 +97,8 @@ level-snoc n par out l x =
 children-leave :
     (n : ℕ) (par out : ℕ → ℕ) (ended : List ℕ) (x : ℕ)
     → Turn n par ended x
-    → childrenOut n par out x + resident n par out (λ i. mem i ended) (λ i. mem i (x ∷ ended)) ≡ level n par out ended
-unfolding childrenOut resident level
+    → children n par out x + resident n par out (λ i. mem i ended) (λ i. mem i (x ∷ ended)) ≡ level n par out ended
+unfolding children resident level
 children-leave n par out ended x turn =
     sym (sum-add (λ c. only (eqb (par c) x) (out c)) (lying par out (λ i. mem i ended) (λ i. mem i (x ∷ ended))) n)
     ∙ sum-cong
@@ -136,7 +137,7 @@ turn-sum n par work out ended x turn = omega (arith, children-leave n par out en
 pub turn-level :
     (n : ℕ) (par out : ℕ → ℕ) (ended : List ℕ) (x : ℕ)
     → Turn n par ended x
-    → level n par out (x ∷ ended) + childrenOut n par out x ≡ level n par out ended + kept par out x
+    → level n par out (x ∷ ended) + children n par out x ≡ level n par out ended + kept par out x
 turn-level n par out ended x turn =
     omega (arith, children-leave n par out ended x turn, own-comes n par out ended x turn)
 
@@ -144,7 +145,7 @@ turn-level n par out ended x turn =
 unfoldable pub running : (n : ℕ) (par work out : ℕ → ℕ) → ℕ → List ℕ → ℕ
 running n par work out h [] = 0
 running n par work out h (x ∷ later) =
-    max (h + work x + out x) (running n par work out (h + kept par out x - childrenOut n par out x) later)
+    max (h + work x + out x) (running n par work out (h + kept par out x - children n par out x) later)
 
 running-is :
     (n : ℕ) (par work out : ℕ → ℕ) (ended later : List ℕ)
@@ -154,7 +155,7 @@ unfolding largest sums running
 running-is n par work out ended [] r = refl
 running-is n par work out ended (x ∷ later) r =
     let turn = left-turn n par ended x later r in
-    let after : level n par out (x ∷ ended) ≡ level n par out ended + kept par out x - childrenOut n par out x
+    let after : level n par out (x ∷ ended) ≡ level n par out ended + kept par out x - children n par out x
     = omega (arith, turn-level n par out ended x turn) in
     ap₂ max (turn-sum n par work out ended x turn)
     (running-is n par work out (x ∷ ended) later (left-next n par ended x later r)

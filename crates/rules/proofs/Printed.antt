@@ -3,14 +3,13 @@ use mathlib.Core.Path.{_≡_, refl, sym, ap, subst, _∙_}
 use mathlib.Core.Bool.{Bool, true, false, cond}
 use mathlib.Core.List.{List, [], _++_, append-nil}
 use mathlib.Core.Logic.{⊎-elim}
-use Prim.Native.Nat.{ℕ, zero, suc, _+_, _-_, _≤_, _<_}
+use Prim.Native.Nat.{ℕ, zero, suc, _+_, _≤_, _<_}
 use native.Mathlib.Omega.{arith}
 use borrow.Author.Tests.{le-ltb, eqb-true, eq-eqb, le-leb, lt-leb}
 use lib.Dec.{eqb, leb, ltb}
 use lib.ListN.{length, take, drop, replicate}
 use lib.Seq.{take-append-seam}
 use Rattle.rules.specs.Limits.{leastStarts}
-use Rattle.rules.specs.Lists.{at}
 use Rattle.rules.specs.State.{State, none}
 use Rattle.rules.specs.Command.{
   Command,
@@ -23,13 +22,11 @@ use Rattle.rules.specs.Command.{
   Decoded,
   refused,
   read,
-  whole,
-  table,
   decode,
 }
 use Rattle.rules.specs.Grounds.{ground}
 use Rattle.rules.specs.Obey.{Outcome, obey}
-use Rattle.rules.specs.Answer.{Answered, refuse, front, accept, judge, respond, command}
+use Rattle.rules.specs.Answer.{Answered, Asking, refuse, front, accept, judge, respond, command}
 use Rattle.rules.specs.Text.{line, acceptedLine}
 use Rattle.rules.specs.Printer.{
   goesOn,
@@ -51,6 +48,7 @@ use Rattle.rules.specs.Printer.{
   stops-at,
 }
 use Rattle.rules.proofs.Tests.{clash, le-or-lt}
+use Rattle.rules.proofs.Bytes.{Counts, decode-counts}
 use Rattle.rules.proofs.Parts.{as-whole}
 
 -- two answers that differ only in what stands behind the starts in their lists
@@ -144,39 +142,6 @@ turn-alike s stream place list list′ offset room room′ = go (leb (length str
     go true = record { verdict = refl; used = refl; text = refl; state = refl }
     go false = answered-alike (decode stream place) offset (responded-alike s (decode stream place) list list′ room room′)
 
--- what is decoded is refused by a number, or uses a byte at least
-abbrev Counts : Decoded → Type 0
-Counts (refused k) = k ≡ 0 → ⊥
-Counts (read c used) = 0 < used
-
-record Useful (d : Decoded) : Type 0 where
-  counts : Counts d
-
-either : (t : Bool) {d d′ : Decoded} → Useful d → Useful d′ → Useful (cond t d d′)
-either true h h′ = h
-either false h h′ = h′
-
-no-zero : (k : ℕ) → 0 < k → Useful (refused k)
-no-zero k h = record { counts = λ e. omega arith }
-
-whole-useful : (given : List ℕ) (width : ℕ) (c : Command) → Useful (whole given width c)
-whole-useful given width c = either (ltb (length given) width) (no-zero 1 (omega arith)) (record { counts = omega arith })
-
-table-useful : (byte : ℕ) (given : List ℕ) → Useful (table byte given)
-unfolding table
-table-useful byte given =
-    either (eqb byte 1) (whole-useful given 7 _)
-    (either (eqb byte 2) (whole-useful given 6 _)
-    (either (eqb byte 3) (whole-useful given 2 _)
-    (either (eqb byte 4) (whole-useful given 2 _)
-    (either (eqb byte 5) (whole-useful given 0 _)
-    (either (eqb byte 6) (whole-useful given 2 _) (no-zero 2 (omega arith)))))))
-
-decode-useful : (stream : List ℕ) (place : ℕ) → Useful (decode stream place)
-unfolding decode
-decode-useful stream place =
-    either (leb (length stream) place) (no-zero 1 (omega arith)) (table-useful (at stream place) (drop (suc place) stream))
-
 stopped : stops ≡ goesOn → ⊥
 stopped e = omega arith
 
@@ -199,9 +164,9 @@ module _ (s : State) (list : List ℕ) where
       go true e number = some
       go false e number = absurd (clash (eq-eqb (ground s c) 0 number) e)
 
-  responded-useful : (d : Decoded) → Useful d → respond s d list .answer .number ≡ 0 → 0 < respond s d list .answer .used
+  responded-useful : (d : Decoded) → Counts d → respond s d list .answer .number ≡ 0 → 0 < respond s d list .answer .used
   unfolding respond refuse
-  responded-useful d h = go (ltb (length list) leastStarts) d (h .counts)
+  responded-useful d h = go (ltb (length list) leastStarts) d h
     where
       go : (t : Bool) (d : Decoded)
           → Counts d
@@ -213,17 +178,29 @@ module _ (s : State) (list : List ℕ) where
       go false (read c used) h e = judged-useful c used h e
 
   -- a turn that goes on has used a byte
-  going : (stream : List ℕ) (place offset : ℕ)
-      → turn s (record { stream = stream; place = place; list = list }) offset true .verdict ≡ goesOn
-      → (place < length stream) × (0 < turn s (record { stream = stream; place = place; list = list }) offset true .used)
-  unfolding turn isAwaited idle answered command
-  going stream place offset e =
-      ⊎-elim (λ out. absurd (stopped (rw (le-leb (length stream) place out) at e)))
-      (λ within.
-      let t = lt-leb (length stream) place within in
-      let number = eqb-true (respond s (decode stream place) list .answer .number) 0 (chosen _ (rw t at e)) in
-      rw t (within, responded-useful (decode stream place) (decode-useful stream place) number))
-      (le-or-lt (length stream) place)
+  pub going : (stream : List ℕ) (place offset : ℕ) (isLast : Bool)
+      → turn s (record { stream = stream; place = place; list = list }) offset isLast .verdict ≡ goesOn
+      → (place < length stream) × (0 < turn s (record { stream = stream; place = place; list = list }) offset isLast .used)
+  unfolding turn idle answered command
+  going stream place offset isLast = go (isAwaited isLast (decode stream place))
+    where
+      a : Asking
+      a = record { stream = stream; place = place; list = list }
+
+      taken : Bool → Turn
+      taken t =
+          cond t (idle waits s list)
+          (cond (leb (length stream) place) (idle stops s list) (answered (decode stream place) offset (command s a)))
+
+      go : (t : Bool) → taken t .verdict ≡ goesOn → (place < length stream) × (0 < taken t .used)
+      go true e = absurd (omega arith)
+      go false e =
+          ⊎-elim (λ out. absurd (stopped (rw (le-leb (length stream) place out) at e)))
+          (λ within.
+          let t = lt-leb (length stream) place within in
+          let number = eqb-true (respond s (decode stream place) list .answer .number) 0 (chosen _ (rw t at e)) in
+          rw t (within, responded-useful (decode stream place) (decode-counts stream place) number))
+          (le-or-lt (length stream) place)
 
 -- the turn over the whole input with a list of 64 entries
 abbrev whole-turn : State → List ℕ → ℕ → Turn
@@ -262,11 +239,11 @@ unfolding printFrom
 from (waits-for p w later) turns enough = from later turns enough
 from {stream} {s} {place} (goes-on p goes later) zero enough =
     let l = like-whole p s (goes-not-waits goes) in
-    let some = going s (replicate leastStarts 0) stream place place (sym (l .verdict) ∙ goes) in
+    let some = going s (replicate leastStarts 0) stream place place true (sym (l .verdict) ∙ goes) in
     absurd (omega arith)
 from {stream} {s} {place} (goes-on p goes later) (suc turns) enough =
     let l = like-whole p s (goes-not-waits goes) in
-    let some = going s (replicate leastStarts 0) stream place place (sym (l .verdict) ∙ goes) in
+    let some = going s (replicate leastStarts 0) stream place place true (sym (l .verdict) ∙ goes) in
     rw (← l .verdict, goes, ← l .text, ← l .state, ← l .used)
     (ap (λ (rest : List ℕ). over p s .text ++ rest) (from later turns (omega (arith, l .used, some .1))))
 from {stream} {s} {place} (stops-at p stop) zero enough =

@@ -10,12 +10,12 @@ use Rattle.rules.specs.Sums.{only}
 use Rattle.rules.specs.Need.{resident}
 use Rattle.rules.specs.Booking.{total, missing}
 use Rattle.rules.specs.Standing.{waiting, activated, running, finished}
+use Rattle.rules.specs.Invariant.{Tree, Shape, Balanced, Roomy, arrived}
 use Rattle.rules.proofs.Tests.{same-or-not}
 use Rattle.rules.proofs.Sums.{Task, sum-change, only-true, only-false}
-use Rattle.rules.proofs.Tree.{Tree}
 use Rattle.rules.proofs.Children.{resident-by-parent}
-use Rattle.rules.proofs.Shape.{Shape, child-before, child-not-waiting}
-use Rattle.rules.proofs.Balance.{Balanced, Roomy, arrived, arrived-pending}
+use Rattle.rules.proofs.Shape.{child-before, child-not-waiting}
+use Rattle.rules.proofs.Balance.{arrived-pending}
 
 -- the tasks that have ended, and those with x beside them
 abbrev pub ended : (ℕ → ℕ) → ℕ → Bool

@@ -6,30 +6,12 @@ use mathlib.Core.List.{List, _∷_, _++_}
 use Prim.Native.Nat.{ℕ, _+_, _≤_, _<_}
 use native.Mathlib.Omega.{arith}
 use lib.ListN.{length}
-use Rattle.rules.specs.Lists.{mem}
+use Rattle.rules.specs.Lists.{mem, place}
 use Rattle.rules.specs.Grounds.{within}
+use Rattle.rules.specs.Invariant.{rankIn, Valid, Tree}
 use Rattle.rules.proofs.Tests.{decide}
 use Rattle.rules.proofs.Sums.{Task}
-use Rattle.rules.proofs.Orders.{
-  within-task,
-  every-mem,
-  mem-here,
-  mem-among,
-  place,
-  place-lt,
-  place-second,
-  place-split,
-  place-injective,
-  distinct-split,
-  all-in,
-  ordered-rises,
-}
-use Rattle.rules.proofs.Turns.{Valid}
-use Rattle.rules.proofs.Tree.{Tree}
-
--- the rank of a task
-abbrev pub rankIn : List ℕ → ℕ → ℕ
-rankIn order i = place i order
+use Rattle.rules.proofs.Orders.{within-task, every-mem, mem-here, mem-among, place-lt, place-second, place-split, place-injective, distinct-split, all-in, ordered-rises}
 
 module _ (n : ℕ) (par : ℕ → ℕ) (order : List ℕ) (valid : Valid n par order) where
   -- every task stands in the order

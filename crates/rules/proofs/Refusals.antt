@@ -9,7 +9,7 @@ use Rattle.rules.proofs.Steps.{Step, is-refused, is-obeyed, step}
 
 -- nothing happens with a refused asking
 pub nothing-happens : (s : State) (a : Asking) → accepted s a ≡ false → events s a ≡ []
-unfolding events
+unfolding accepted events
 nothing-happens s a e = rw e
 
 -- the plan is the same without them

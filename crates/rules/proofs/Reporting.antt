@@ -17,13 +17,13 @@ use Rattle.rules.specs.Grounds.{inTurn, inLimits, ownGround}
 use Rattle.rules.specs.Obey.{withBooks, proceed, endedStandings, shared, phaseAfter, obey}
 use Rattle.rules.specs.Obey
 use Rattle.rules.specs.Day.{Event, started, ended}
+use Rattle.rules.specs.Invariant.{rankIn, Good}
 use Rattle.rules.proofs.Tests.{decide}
 use Rattle.rules.proofs.Sums.{Task}
 use Rattle.rules.proofs.Counts.{count-change}
 use Rattle.rules.proofs.Orders.{within-task}
-use Rattle.rules.proofs.Ranks.{rankIn}
 use Rattle.rules.proofs.Roots.{root-last}
-use Rattle.rules.proofs.Good.{Good, at-set, at-other}
+use Rattle.rules.proofs.Entries.{at-set, at-other}
 use Rattle.rules.proofs.Sharing.{sharing-good}
 use Rattle.rules.proofs.Log.{Logged, InOrder, logged-runs, ended-logged, ended-in-order}
 use Rattle.rules.proofs.Formed.{Accepted, demand-none}
@@ -59,24 +59,24 @@ module _ (s : State) (happened : List Event) (day : InDay s happened) (j : ℕ) 
   in-running = eqb-true (s .phase) Phase.running (a .turn)
 
   good :
-      Good (s .size) (at (s .parents)) (rankIn (s .activation)) (needs s) (at (s .memory .outs)) (s .memory .bound)
+      Good (s .size) (at (s .parents)) (rankIn (s .activation)) (needs s) (at (s .chilled .outs)) (s .chilled .bound)
       (Obey.ended s j)
   unfolding Obey.ended shared endedStandings
   good =
-      sharing-good (s .size) (at (s .parents)) (rankIn (s .activation)) (tree s (day .planned)) (needs s) (at (s .memory .outs))
-      (needs-roomy s) (s .memory .bound) (booksOf s) (day .settled .good) j task runs
+      sharing-good (s .size) (at (s .parents)) (rankIn (s .activation)) (tree s (day .planned)) (needs s) (at (s .chilled .outs))
+      (needs-roomy s (s .chilled)) (s .chilled .bound) (booksOf s) (day .settled .good) j task runs
 
   few : count (s .size) (at (Obey.ended s j .standings)) running ≤ s .processors
   unfolding Obey.ended endedStandings
   few =
-      let one = one-fewer (s .size) (s .standings) j (day .settled .good .sized .standings) task runs in
+      let one = one-fewer (s .size) (s .standings) j (day .settled .good .sized) task runs in
       let all = day .settled .staffed in
       omega arith
 
   -- who has ended: j, and those that had
   ended-there : at (Obey.ended s j .standings) j ≡ finished
   unfolding Obey.ended endedStandings
-  ended-there = at-set (s .size) (s .standings) j finished (day .settled .good .sized .standings) task
+  ended-there = at-set (s .size) (s .standings) j finished (day .settled .good .sized) task
 
   ended-other : (i : ℕ) → (i ≡ j → ⊥) → at (Obey.ended s j .standings) i ≡ at (s .standings) i
   unfolding Obey.ended endedStandings
@@ -115,7 +115,7 @@ module _ (s : State) (happened : List Event) (day : InDay s happened) (j : ℕ) 
   logged : Logged (s .size) (at (Obey.ended s j .standings)) (happened ++ (ended j ∷ []))
   unfolding Obey.ended endedStandings
   logged =
-      ended-logged (s .size) (s .standings) (day .settled .good .sized .standings) happened j task (day .logged) runs
+      ended-logged (s .size) (s .standings) (day .settled .good .sized) happened j task (day .logged) runs
 
   in-order : InOrder (s .size) (at (s .parents)) (happened ++ (ended j ∷ []))
   in-order =

@@ -8,11 +8,11 @@ use lib.Dec.{eqb}
 use borrow.Author.Tests.{eqb-true, eq-eqb, ne-eqb}
 use Rattle.rules.specs.Peak.{roots}
 use Rattle.rules.specs.Standing.{finished}
+use Rattle.rules.specs.Invariant.{Tree, Shape}
 use Rattle.rules.proofs.Tests.{clash, same-or-not}
 use Rattle.rules.proofs.Sums.{Task, counted, none-counted}
 use Rattle.rules.proofs.Counts.{count-change}
-use Rattle.rules.proofs.Tree.{Tree, parent-task}
-use Rattle.rules.proofs.Shape.{Shape}
+use Rattle.rules.proofs.Tree.{parent-task}
 
 -- there is a root
 pub some-root : (n : ℕ) (par : ℕ → ℕ) → roots n par ≡ 1 → (r : ℕ) × Task n r × (par r ≡ 0)

@@ -1,4 +1,4 @@
--- What holds of the standings of a day, over functions: waiting tasks come last in rank, and who has begun is fed.
+-- What follows from the shape of the standings, over functions: waiting tasks come last in rank, and who has begun is fed.
 use mathlib.Core.Path.{_≡_, refl, sym, ap, _∙_}
 use mathlib.Core.Bool.{true}
 use mathlib.Core.Logic.{⊎-elim}
@@ -7,17 +7,10 @@ use native.Mathlib.Omega.{arith}
 use lib.Dec.{eqb}
 use borrow.Author.Tests.{eqb-true, ne-eqb}
 use Rattle.rules.specs.Standing.{waiting, activated, running, finished}
+use Rattle.rules.specs.Invariant.{Shape, Tree, up}
 use Rattle.rules.proofs.Tests.{clash, same-or-not, le-or-lt, or-cases}
 use Rattle.rules.proofs.Sums.{Task}
-use Rattle.rules.proofs.Tree.{Tree, up, up-nobody, up-step, parent-task}
-
-pub record Shape (n : ℕ) (par rank st : ℕ → ℕ) : Type 0 where
-  -- whoever ranks behind a waiting task waits
-  pub behind : (i j : ℕ) → Task n i → Task n j → rank i < rank j → st i ≡ waiting → st j ≡ waiting
-  -- the children of a task that runs or has ended have ended
-  pub fed : (i c : ℕ) → Task n i → Task n c → par c ≡ i → running ≤ st i → st c ≡ finished
-  -- there are four standings
-  pub four : (i : ℕ) → Task n i → st i ≤ finished
+use Rattle.rules.proofs.Tree.{up-nobody, up-step, parent-task}
 
 -- one standing changed, the others kept
 pub record Moved (n : ℕ) (st st′ : ℕ → ℕ) (x new : ℕ) : Type 0 where

@@ -5,10 +5,11 @@ use mathlib.Core.List.{List}
 use Prim.Native.Nat.{ℕ}
 use native.Mathlib.Omega.{arith}
 use Rattle.rules.specs.Standing.{activated, running, finished}
+use Rattle.rules.specs.Invariant.{Shape, Active, Balance}
 use Rattle.rules.proofs.Tests.{same-or-not}
 use Rattle.rules.proofs.Sums.{Task}
-use Rattle.rules.proofs.Shape.{Shape, Moved, was, stays, behind-still, four-still, same-ended}
-use Rattle.rules.proofs.Balance.{Active, Balance, arrived-same, pending-same}
+use Rattle.rules.proofs.Shape.{Moved, was, stays, behind-still, four-still, same-ended}
+use Rattle.rules.proofs.Balance.{arrived-same, pending-same}
 
 -- x is booked, its children have ended, and it runs
 module _ (n : ℕ) (par rank st st′ : ℕ → ℕ) (shape : Shape n par rank st) (x : ℕ)

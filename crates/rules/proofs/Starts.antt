@@ -13,13 +13,15 @@ use Rattle.rules.specs.Lists.{at, mem, every, first}
 use Rattle.rules.specs.Grounds.{within}
 use Rattle.rules.specs.Standing.{activated, running, finished, count}
 use Rattle.rules.specs.Booking.{fed, ready, starts, start}
+use Rattle.rules.specs.Invariant.{Shape, Stocked, Good}
 use Rattle.rules.proofs.Tests.{decide, clash, same-or-not, and-true, and-false}
 use Rattle.rules.proofs.Sums.{Task, none-counted, count-none}
 use Rattle.rules.proofs.Counts.{count-change}
 use Rattle.rules.proofs.Orders.{mem-here, mem-more, mem-rest, nobody, within-task, every-mem}
+use Rattle.rules.proofs.Shape.{Moved}
 use Rattle.rules.proofs.Starting.{starting-shape, starting-balanced}
 use Rattle.rules.proofs.Branches.{starts-none, starts-one, first-here, first-later}
-use Rattle.rules.proofs.Good.{Good, at-set, at-other, moved-by-set}
+use Rattle.rules.proofs.Entries.{at-set, at-other, moved-by-set}
 
 -- who is found first passes the test, and stands in the list
 pub first-passes : (test : ℕ → Bool) (l : List ℕ) (i : ℕ) → first test l ≡ suc i → (mem (suc i) l ≡ true) × (test (suc i) ≡ true)
@@ -190,6 +192,22 @@ module _ (n : ℕ) (par : ℕ → ℕ) where
       let one = one-more st x e (s .0) (s .1) in
       omega arith
 
+  -- a store keeps what holds of it where x starts: its booked trays stay
+  start-stocked :
+      (rank st st′ : ℕ → ℕ) (shape : Shape n par rank st) (x : ℕ)
+      → st x ≡ activated
+      → ((c : ℕ) → Task n c → par c ≡ x → st c ≡ finished)
+      → Moved n st st′ x running
+      → (need out : ℕ → ℕ) (bound : ℕ) (b : List ℕ)
+      → Stocked n par need out bound st b
+      → Stocked n par need out bound st′ b
+  start-stocked rank st st′ shape x booked fed moved need out bound b stock =
+      record {
+        sized = stock .sized;
+        books = starting-balanced n par rank st st′ shape x booked fed moved need out (at b) [] 0 (stock .books);
+        within = stock .within;
+      }
+
   -- and what holds of the day is kept
   pub start-good :
       (rank need out : ℕ → ℕ) (bound : ℕ) (l st b : List ℕ)
@@ -199,16 +217,13 @@ module _ (n : ℕ) (par : ℕ → ℕ) where
   unfolding start Startable
   start-good rank need out bound [] st b s good = good
   start-good rank need out bound (x ∷ l) st b s good =
-      let moved = moved-by-set n st x running (good .sized .standings) (s .0) in
+      let moved = moved-by-set n st x running (good .sized) (s .0) in
       start-good rank need out bound l (set st x running) b (s .3)
       (record {
-        sized =
-            record { standings = length-set st x running ∙ good .sized .standings; booked = good .sized .booked };
+        sized = length-set st x running ∙ good .sized;
         shape = starting-shape n par rank (at st) (at (set st x running)) (good .shape) x (s .1) (s .2) moved;
-        books =
-            starting-balanced n par rank (at st) (at (set st x running)) (good .shape) x (s .1) (s .2) moved need out (at b) [] 0
-            (good .books);
-        within = good .within;
+        stock =
+            start-stocked rank (at st) (at (set st x running)) (good .shape) x (s .1) (s .2) moved need out bound b (good .stock);
       })
 
 -- who is started was booked, and all others stay as they were

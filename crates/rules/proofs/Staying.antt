@@ -11,7 +11,7 @@ use Rattle.rules.proofs.InDay.{InDay}
 -- the plan and the places of the cold room are those that BEGIN found
 pub record Stays (found s : State) : Type 0 where
   pub plan : SamePlan found s
-  pub places : s .memory .bound ≡ found .memory .bound
+  pub places : s .chilled .bound ≡ found .chilled .bound
 
 -- a day of the plan that BEGIN found
 pub record DayOf (found s : State) (happened : List Event) : Type 0 where

@@ -3,21 +3,21 @@ use mathlib.Core.Path.{_≡_, refl, sym, ap, _∙_}
 use mathlib.Core.Bool.{Bool, true, false, cond}
 use mathlib.Core.Logic.{⊎-elim}
 use mathlib.Core.List.{List, [], _++_, map}
-use Prim.Native.Nat.{ℕ, suc, _+_, _≤_}
+use Prim.Native.Nat.{ℕ, _≤_}
 use native.Mathlib.Omega.{arith}
-use lib.Dec.{eqb, leb, ltb}
+use lib.Dec.{eqb, ltb}
 use lib.ListN.{length, take, drop}
 use lib.Seq.{take-append-seam}
 use borrow.Author.Tests.{eqb-true, eqb-false, ne-eqb, ltb-false}
 use Rattle.rules.specs.Limits.{leastStarts}
-use Rattle.rules.specs.Lists.{at}
 use Rattle.rules.specs.State.{State}
-use Rattle.rules.specs.Command.{Command, Decoded, refused, read, whole, table, decode}
+use Rattle.rules.specs.Command.{Command, Decoded, refused, read, decode}
 use Rattle.rules.specs.Grounds.{ground}
 use Rattle.rules.specs.Obey.{obey}
 use Rattle.rules.specs.Answer.{Asking, Answered, refuse, front, accept, judge, respond, command}
 use Rattle.rules.specs.Day.{started, ended, accepted, reported, events}
 use Rattle.rules.proofs.Tests.{decide}
+use Rattle.rules.proofs.Bytes.{Counts, decode-counts}
 use Rattle.rules.proofs.Formed.{Accepted, no-ground}
 
 -- a refusal
@@ -39,34 +39,6 @@ pub record Obeyed (s : State) (a : Asking) (c : Command) (used : ℕ) : Type 0 w
 pub data Step (s : State) (a : Asking) : Type 0 where
   is-refused : Refused s a → Step s a
   is-obeyed : (c : Command) (used : ℕ) → Obeyed s a c used → Step s a
-
--- what cannot be decoded is refused with a number
-abbrev Numbered : Decoded → Type 0
-Numbered (refused k) = k ≡ 0 → ⊥
-Numbered (read c used) = Unit {0}
-
-either : (t : Bool) (d e : Decoded) → Numbered d → Numbered e → Numbered (cond t d e)
-either true d e p q = p
-either false d e p q = q
-
-whole-numbered : (given : List ℕ) (width : ℕ) (c : Command) → Numbered (whole given width c)
-whole-numbered given width c = either (ltb (length given) width) (refused 1) (read c (1 + width)) (λ z. omega arith) tt
-
-table-numbered : (byte : ℕ) (given : List ℕ) → Numbered (table byte given)
-unfolding table
-table-numbered byte given =
-    either (eqb byte 1) _ _ (whole-numbered given 7 _)
-    (either (eqb byte 2) _ _ (whole-numbered given 6 _)
-    (either (eqb byte 3) _ _ (whole-numbered given 2 _)
-    (either (eqb byte 4) _ _ (whole-numbered given 2 _)
-    (either (eqb byte 5) _ _ (whole-numbered given 0 _)
-    (either (eqb byte 6) _ _ (whole-numbered given 2 _) (λ z. omega arith))))))
-
-decode-numbered : (stream : List ℕ) (place : ℕ) → Numbered (decode stream place)
-unfolding decode
-decode-numbered stream place =
-    either (leb (length stream) place) (refused 1) (table (at stream place) (drop (suc place) stream)) (λ z. omega arith)
-    (table-numbered (at stream place) (drop (suc place) stream))
 
 -- an answer that refuses
 refusing : (s : State) (a : Asking) (k : ℕ) → (k ≡ 0 → ⊥) → command s a ≡ refuse k s (a .list) → Step s a
@@ -150,13 +122,13 @@ pub step : (s : State) (a : Asking) → Step s a
 step s a =
     ⊎-elim (λ (e : ltb (length (a .list)) leastStarts ≡ true). refusing s a 10 (λ z. omega arith) (short-list s a e))
     (λ (e : ltb (length (a .list)) leastStarts ≡ false).
-    by-decoded (decode (a .stream) (a .place)) refl (decode-numbered (a .stream) (a .place)) e)
+    by-decoded (decode (a .stream) (a .place)) refl (decode-counts (a .stream) (a .place)) e)
     (decide (ltb (length (a .list)) leastStarts))
   where
     by-decoded :
         (d : Decoded)
         → decode (a .stream) (a .place) ≡ d
-        → Numbered d
+        → Counts d
         → ltb (length (a .list)) leastStarts ≡ false
         → Step s a
     by-decoded (refused k) d p e = refusing s a k p (not-decoded s a k e d)

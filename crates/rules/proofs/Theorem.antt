@@ -8,7 +8,7 @@ use lib.Dec.{eqb}
 use borrow.Author.Tests.{eqb-true}
 use Rattle.rules.specs.Phase
 use Rattle.rules.specs.State.{State, none}
-use Rattle.rules.specs.Command.{Command, plan, task, activation, execution, begin, done, read, decode}
+use Rattle.rules.specs.Command.{Command, plan, task, activation, execution, begin, done, byteOf, operandsOf, read, decode}
 use Rattle.rules.specs.Grounds.{inTurn}
 use Rattle.rules.specs.Obey.{proceed, obey}
 use Rattle.rules.specs.Answer.{Asking, command}
@@ -30,7 +30,7 @@ use Rattle.rules.specs.Day.{
 use Rattle.rules.specs.Theorem.{EveryDay, EveryDayHolds, Theorem}
 use Rattle.rules.proofs.Tests.{clash, and-true, or-false}
 use Rattle.rules.proofs.Formed.{Formed, Accepted, none-formed, obey-formed}
-use Rattle.rules.proofs.InDay.{Closing, open-day, closed}
+use Rattle.rules.proofs.InDay.{Closing, open-day, closed, orders-hold}
 use Rattle.rules.proofs.Opening.{begin-in-day}
 use Rattle.rules.proofs.Reporting.{done-in-day}
 use Rattle.rules.proofs.Holds.{day-holds}
@@ -64,7 +64,7 @@ obeyed-in-day :
     → Accepted s c
     → isPlan (read c used) ≡ false
     → DayOf found (obey s c .state) (happened ++ (map ended (reported (read c used)) ++ map started (obey s c .started)))
-unfolding inTurn isPlan reported obey proceed
+unfolding inTurn byteOf operandsOf isPlan reported obey proceed
 obeyed-in-day found s happened (plan n p bound) used day a e = absurd (clash refl e)
 obeyed-in-day found s happened (task parent work out) used day a e =
     absurd (day-phase s (day .day .closing) Phase.steps (a .turn) (λ q. omega arith) (λ q. omega arith))
@@ -84,7 +84,7 @@ asked-in-day :
     → DayOf found s happened
     → opensPlan s a ≡ false
     → DayOf found (command s a .state) (happened ++ events s a)
-unfolding opensPlan
+unfolding accepted opensPlan
 asked-in-day found s happened a day e = go (step s a)
   where
     go : Step s a → DayOf found (command s a .state) (happened ++ events s a)
@@ -121,7 +121,7 @@ begun-by :
     → Accepted s c
     → isBegin (read c used) ≡ true
     → DayOf s (obey s c .state) (map ended (reported (read c used)) ++ map started (obey s c .started))
-unfolding isBegin reported obey proceed
+unfolding byteOf operandsOf isBegin reported obey proceed
 begun-by s (plan n p bound) used h a e = absurd (clash e refl)
 begun-by s (task parent work out) used h a e = absurd (clash e refl)
 begun-by s (activation i) used h a e = absurd (clash e refl)
@@ -130,7 +130,7 @@ begun-by s begin used h a e = record { day = begin-in-day s h a; stays = books-s
 begun-by s (done j) used h a e = absurd (clash e refl)
 
 opened-day : (s : State) (a : Asking) → Formed s → opensDay s a ≡ true → DayOf s (command s a .state) (events s a)
-unfolding opensDay
+unfolding accepted opensDay
 opened-day s a h e = go (step s a)
   where
     go : Step s a → DayOf s (command s a .state) (events s a)
@@ -165,6 +165,7 @@ pub theorem : Theorem
 theorem =
     record {
       days = every-day-holds;
+      orders = λ earlier opening later opens next. orders-hold _ (every-day earlier opening later opens next .day .planned);
       plans = λ earlier opening later opens next. every-day earlier opening later opens next .stays .plan;
       places = λ earlier opening later opens next. every-day earlier opening later opens next .stays .places;
       askings = λ earlier a. asking-holds (after none earlier) a (after-formed earlier none none-formed);

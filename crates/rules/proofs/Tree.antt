@@ -3,25 +3,16 @@ use mathlib.Core.Path.{_≡_, refl, sym, ap, _∙_}
 use mathlib.Core.Bool.{Bool, true, false, _||_}
 use mathlib.Core.Logic.{⊎-elim}
 use mathlib.Core.List.{List, [], _∷_}
-use Prim.Native.Nat.{ℕ, zero, suc, _+_, _≤_, _<_}
+use Prim.Native.Nat.{ℕ, zero, suc, _+_, _≤_}
 use native.Mathlib.Omega.{arith}
 use lib.Dec.{eqb}
 use borrow.Author.Tests.{eqb-true, eq-eqb, ne-eqb}
 use Rattle.rules.specs.Sums.{only, sumTo}
 use Rattle.rules.specs.Lists.{mem}
 use Rattle.rules.specs.Booking.{chain, figure}
+use Rattle.rules.specs.Invariant.{Tree, up}
 use Rattle.rules.proofs.Tests.{clash, fails, same-or-not, eqb-sym, or-cases, or-left}
 use Rattle.rules.proofs.Sums.{Task, sum-cong, sum-add, sum-zero, sum-swap, sum-single, sum-change, only-sum, only-add, only-swap, only-zero, only-false}
-
--- parents are tasks or 0, and the rank rises from each task to its parent
-pub record Tree (n : ℕ) (par rank : ℕ → ℕ) : Type 0 where
-  pub within : (i : ℕ) → Task n i → par i ≤ n
-  pub rises : (i : ℕ) → Task n i → (par i ≡ 0 → ⊥) → rank i < rank (par i)
-  pub below : (i : ℕ) → Task n i → rank i < n
-
--- i is k or stands above it
-abbrev pub up : ℕ → (ℕ → ℕ) → ℕ → ℕ → Bool
-up n par i k = mem i (chain n par k)
 
 -- nobody stands above nobody
 pub chain-none : (m : ℕ) (par : ℕ → ℕ) → chain m par 0 ≡ []

@@ -6,10 +6,10 @@ use mathlib.Core.Logic.{⊎-elim}
 use Prim.Native.Nat.{ℕ}
 use native.Mathlib.Omega.{arith}
 use lib.Dec.{eqb}
-use lib.ListN.{length}
 use Rattle.rules.specs.Lists.{mem, every, distinct}
 use Rattle.rules.specs.Peak.{ordered}
 use Rattle.rules.specs.Grounds.{within}
+use Rattle.rules.specs.Invariant.{Valid}
 use Rattle.rules.proofs.Tests.{decide, clash, fails, and-true}
 use Rattle.rules.proofs.Sums.{Task}
 use Rattle.rules.proofs.Orders.{
@@ -28,13 +28,6 @@ use Rattle.rules.proofs.Orders.{
   place-here,
   ordered-rises,
 }
-
--- an activation order of n tasks: each stands in it once, before its parent
-pub record Valid (n : ℕ) (par : ℕ → ℕ) (order : List ℕ) : Type 0 where
-  pub inside : every (λ i. within i n) order ≡ true
-  pub once : distinct order ≡ true
-  pub whole : length order ≡ n
-  pub upward : ordered par order ≡ true
 
 -- the tasks of `ended` have run, and those of `later` are left in their order
 pub record Left (n : ℕ) (par : ℕ → ℕ) (ended later : List ℕ) : Type 0 where

@@ -7,15 +7,14 @@ use native.Mathlib.Omega.{arith}
 use lib.Dec.{eqb, leb}
 use borrow.Author.Tests.{eq-eqb, ne-eqb, le-leb, lt-leb}
 use Rattle.rules.specs.Sums.{only}
-use Rattle.rules.specs.Need.{need, inUse}
+use Rattle.rules.specs.Need.{need, inUse, children}
 use Rattle.rules.specs.Booking.{total}
 use Rattle.rules.specs.Standing.{waiting, activated, running, finished}
+use Rattle.rules.specs.Invariant.{Tree, Shape, Balanced, arrived}
 use Rattle.rules.proofs.Tests.{same-or-not, le-or-lt}
 use Rattle.rules.proofs.Sums.{Task, sum-le, sum-add}
-use Rattle.rules.proofs.Tree.{Tree}
-use Rattle.rules.proofs.Children.{children, resident-by-parent}
-use Rattle.rules.proofs.Shape.{Shape}
-use Rattle.rules.proofs.Balance.{Balanced, arrived, running-holds-need}
+use Rattle.rules.proofs.Children.{resident-by-parent}
+use Rattle.rules.proofs.Balance.{running-holds-need}
 
 -- a task has ended, and a task has begun, as its standing says
 abbrev pub hasEnded : (ℕ → ℕ) → ℕ → Bool

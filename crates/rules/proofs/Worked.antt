@@ -82,7 +82,7 @@ worked-second = refl
 
 -- wrong: "booked trays are fewer than the places"
 abbrev pub Below : Type 0
-Below = EveryDay (λ _ s _. Question.booked s < s .memory .bound)
+Below = EveryDay (λ _ s _. Question.booked s < s .chilled .bound)
 
 -- wrong: "fewer tasks run than there are processors"
 abbrev pub Spare : Type 0

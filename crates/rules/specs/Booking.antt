@@ -7,6 +7,7 @@ use lib.Dec.{eqb, leb}
 use lib.ListN.{set}
 use Rattle.rules.specs.Sums.{only, sumTo, countTo}
 use Rattle.rules.specs.Lists.{at, mem, first}
+use Rattle.rules.specs.Need.{isChild}
 use Rattle.rules.specs.Standing.{waiting, activated, running, finished, count}
 
 -- i and the tasks above it, from parent to parent, as far as the root
@@ -25,7 +26,7 @@ figure n par b i = sumTo (λ k. only (mem i (chain n par k)) (b k)) n
 
 -- the sum of the subtree figures of the children of i; "an ended child's subtree figure is 0"
 unfoldable pub childrenFigure : (n : ℕ) (par st b : ℕ → ℕ) → ℕ → ℕ
-childrenFigure n par st b i = sumTo (λ c. only (eqb (par c) i && not (eqb (st c) finished)) (figure n par b c)) n
+childrenFigure n par st b i = sumTo (λ c. only (isChild par i c && not (eqb (st c) finished)) (figure n par b c)) n
 
 -- "Its missing trays are its need less (its own booked trays plus the subtree figures of its children), never below 0"
 unfoldable pub missing : (n : ℕ) (par need st b : ℕ → ℕ) → ℕ → ℕ
@@ -33,7 +34,7 @@ missing n par need st b i = need i - (b i + childrenFigure n par st b i)
 
 -- "has all its children ended"
 unfoldable pub fed : (n : ℕ) (par st : ℕ → ℕ) → ℕ → Bool
-fed n par st i = eqb (countTo (λ c. eqb (par c) i && not (eqb (st c) finished)) n) 0
+fed n par st i = eqb (countTo (λ c. isChild par i c && not (eqb (st c) finished)) n) 0
 
 -- what booking changes: standings and booked trays
 pub record Books : Type 0 where
@@ -88,37 +89,58 @@ start (i ∷ later) st = start later (set st i running)
 unfoldable pub free : (n processors : ℕ) → List ℕ → ℕ
 free n processors st = processors - count n (at st) running
 
--- what a climb leaves: the tasks on the way, each one offer, what is left of R, and the booked trays
-pub record Climbed : Type 0 where
-  pub offered : List ℕ
+-- what is shared out of one store: what is left of R, and the booked trays. "While climbing, R belongs to no step, so no figure
+-- counts it."
+pub record Share : Type 0 where
   pub left : ℕ
   pub booked : List ℕ
 
--- one offer more, ahead of the others
-unfoldable pub offer : ℕ → Climbed → Climbed
-offer i c = record { offered = i ∷ c .offered; left = c .left; booked = c .booked }
+-- "R is 0"
+unfoldable pub spent : Share → Bool
+spent s = eqb (s .left) 0
 
--- "it gets max(0, need of i − its subtree figure)"
+-- "max(0, need of i − its subtree figure)"
 unfoldable pub gift : (n : ℕ) (par need : ℕ → ℕ) → List ℕ → ℕ → ℕ
 gift n par need b i = need i - figure n par (at b) i
 
+-- "it gets [its gift], and R falls by that." In a day a gift is never more than R (`Climbing.gift-within`)
+unfoldable pub pass : (n : ℕ) (par need : ℕ → ℕ) → ℕ → Share → Share
+pass n par need i s =
+    record {
+      left = s .left - gift n par need (s .booked) i;
+      booked = set (s .booked) i (at (s .booked) i + gift n par need (s .booked) i);
+    }
+
+-- "When step j ends, its booked trays, call them R, are taken from it. If it has a parent, the parent is given j's out, and R falls
+-- by it." In a day the out is never more than R (`Finishing.kept-within`)
+unfoldable pub release : (par out : ℕ → ℕ) → List ℕ → ℕ → Share
+release par out b j =
+    elim (eqb (par j) 0) [
+      | true ↦ record { left = at b j; booked = set b j 0 }
+      | false ↦
+          record { left = at b j - out j; booked = set (set b j 0) (par j) (at (set b j 0) (par j) + out j) }
+    ]
+
+-- what a climb leaves: the tasks on the way, each one offer, and what is shared out
+pub record Climbed : Type 0 where
+  pub offered : List ℕ
+  pub share : Share
+
+-- one offer more, ahead of the others
+unfoldable pub offer : ℕ → Climbed → Climbed
+offer i c = record { offered = i ∷ c .offered; share = c .share }
+
 module _ (n : ℕ) (par need : ℕ → ℕ) (st : ℕ → ℕ) where
   -- "climb from parent to parent .., ending at the first of: past the root, a step that is waiting, R is 0. .. Each step i on
-  -- the way is one offer: it gets [its gift], and R falls by that."
-  unfoldable pub climb : List ℕ → ℕ → List ℕ → Climbed
-  climb [] r b = record { offered = []; left = r; booked = b }
-  climb (i ∷ above) r b =
-      elim (eqb (st i) waiting || eqb r 0) [
-        | true ↦ record { offered = []; left = r; booked = b }
-        | false ↦ offer i (climb above (r - gift n par need b i) (set b i (at b i + gift n par need b i)))
+  -- the way is one offer"
+  unfoldable pub climb : List ℕ → Share → Climbed
+  climb [] s = record { offered = []; share = s }
+  climb (i ∷ above) s =
+      elim (eqb (st i) waiting || spent s) [
+        | true ↦ record { offered = []; share = s }
+        | false ↦ offer i (climb above (pass n par need i s))
       ]
 
-  -- "When step j ends, its booked trays, call them R, are taken from it. If it has a parent, the parent is given j's out, and R
-  -- falls by it. Then climb from parent to parent, from j's parent on .. What is left of R is free."
+  -- "Then climb from parent to parent, from j's parent on .. What is left of R is free."
   unfoldable pub dispatch : (out : ℕ → ℕ) → List ℕ → ℕ → Climbed
-  dispatch out b j =
-      elim (eqb (par j) 0) [
-        | true ↦ climb [] (at b j) (set b j 0)
-        | false ↦
-            climb (chain n par (par j)) (at b j - out j) (set (set b j 0) (par j) (at (set b j 0) (par j) + out j))
-      ]
+  dispatch out b j = climb (chain n par (par j)) (release par out b j)

@@ -1,12 +1,12 @@
 -- "A day. Demand 3 takes any list of commands to a plan in phase empty, each asked of any reader on any bytes (cut short or none
 -- left included), with any start list."
-use mathlib.Core.Bool.{Bool, true, false, cond, _&&_, _||_}
+use mathlib.Core.Bool.{Bool, false, cond, _&&_, _||_}
 use mathlib.Core.List.{List, [], _∷_, _++_, map}
 use Prim.Native.Nat.{ℕ}
 use lib.Dec.{eqb}
 use lib.ListN.{take}
 use Rattle.rules.specs.State.{State}
-use Rattle.rules.specs.Command.{plan, task, activation, execution, begin, done, Decoded, refused, read, decode}
+use Rattle.rules.specs.Command.{planByte, beginByte, doneByte, byteOf, operandsOf, Decoded, refused, read, decode}
 use Rattle.rules.specs.Answer.{Asking, Answered, command}
 
 -- "Each finds the plan as the one before left it": the plan after a list of askings
@@ -19,42 +19,30 @@ unfoldable pub answers : State → List Asking → List Answered
 answers s [] = []
 answers s (a ∷ later) = command s a ∷ answers (command s a .state) later
 
--- the asking is accepted
+-- an answer accepts, and so the asking is accepted
+abbrev pub accepts : Answered → Bool
+accepts r = eqb (r .answer .number) 0
+
 unfoldable pub accepted : State → Asking → Bool
-accepted s a = eqb (command s a .answer .number) 0
+accepted s a = accepts (command s a)
 
 -- those of a list of askings that are accepted
 unfoldable pub acceptedOnly : State → List Asking → List Asking
 acceptedOnly s [] = []
 acceptedOnly s (a ∷ later) = cond (accepted s a) (a ∷ []) [] ++ acceptedOnly (command s a .state) later
 
--- the kinds of commands that bound a day, and the task that a report names
+-- PLAN and BEGIN, which bound a day, and the task that DONE names
 unfoldable pub isPlan : Decoded → Bool
 isPlan (refused k) = false
-isPlan (read (plan n p bound) used) = true
-isPlan (read (task parent work out) used) = false
-isPlan (read (activation i) used) = false
-isPlan (read (execution i) used) = false
-isPlan (read begin used) = false
-isPlan (read (done i) used) = false
+isPlan (read c used) = eqb (byteOf c) planByte
 
 unfoldable pub isBegin : Decoded → Bool
 isBegin (refused k) = false
-isBegin (read (plan n p bound) used) = false
-isBegin (read (task parent work out) used) = false
-isBegin (read (activation i) used) = false
-isBegin (read (execution i) used) = false
-isBegin (read begin used) = true
-isBegin (read (done i) used) = false
+isBegin (read c used) = eqb (byteOf c) beginByte
 
 unfoldable pub reported : Decoded → List ℕ
 reported (refused k) = []
-reported (read (plan n p bound) used) = []
-reported (read (task parent work out) used) = []
-reported (read (activation i) used) = []
-reported (read (execution i) used) = []
-reported (read begin used) = []
-reported (read (done i) used) = i ∷ []
+reported (read c used) = cond (eqb (byteOf c) doneByte) (operandsOf c) []
 
 -- "In it a step starts where an accepted command writes it among its starts, ends with the accepted DONE for it (before that
 -- command's starts), and runs in between"
@@ -63,12 +51,13 @@ pub data Event : Type 0 where
   ended : ℕ → Event
 
 -- what happens with one asking, as its bytes, its answer and its start list say
+abbrev pub happens : Asking → Answered → List Event
+happens a r =
+    cond (accepts r)
+    (map ended (reported (decode (a .stream) (a .place))) ++ map started (take (r .answer .starts) (r .list))) []
+
 unfoldable pub events : State → Asking → List Event
-events s a =
-    cond (accepted s a)
-    (map ended (reported (decode (a .stream) (a .place)))
-    ++ map started (take (command s a .answer .starts) (command s a .list)))
-    []
+events s a = happens a (command s a)
 
 -- what happens with a list of askings, in order
 unfoldable pub log : State → List Asking → List Event
@@ -87,11 +76,17 @@ ends (started i ∷ later) = ends later
 ends (ended i ∷ later) = i ∷ ends later
 
 -- "A day is an accepted BEGIN and all commands after it, until a next plan is opened or the list ends."
+abbrev pub beginsDay : Asking → Answered → Bool
+beginsDay a r = accepts r && isBegin (decode (a .stream) (a .place))
+
 unfoldable pub opensDay : State → Asking → Bool
-opensDay s a = accepted s a && isBegin (decode (a .stream) (a .place))
+opensDay s a = beginsDay a (command s a)
+
+abbrev pub beginsPlan : Asking → Answered → Bool
+beginsPlan a r = accepts r && isPlan (decode (a .stream) (a .place))
 
 unfoldable pub opensPlan : State → Asking → Bool
-opensPlan s a = accepted s a && isPlan (decode (a .stream) (a .place))
+opensPlan s a = beginsPlan a (command s a)
 
 -- a next plan is opened among these askings
 unfoldable pub nextPlan : State → List Asking → Bool

@@ -2,9 +2,9 @@
 use mathlib.Core.Bool.{cond, _&&_}
 use mathlib.Core.List.{List, _∷_, map}
 use Prim.Native.Nat.{ℕ}
-use lib.Dec.{eqb, ltb}
+use lib.Dec.{eqb, leb}
 use lib.ListN.{length}
-use Rattle.rules.specs.Sums.{countTo}
+use Rattle.rules.specs.Sums.{everyTo}
 use Rattle.rules.specs.Lists.{at, every, distinct}
 use Rattle.rules.specs.Limits.{maxTasks}
 use Rattle.rules.specs.Peak
@@ -21,7 +21,7 @@ deskGround n par activation =
     demand
     (eqb (length activation) n
     && within n maxTasks
-    && eqb (countTo (λ i. ltb n (par i)) n) 0
+    && everyTo (λ i. leb (par i) n) n
     && every (λ i. within i n) activation)
     4
     (demand (distinct activation) 5

@@ -5,7 +5,7 @@ use Prim.Native.Nat.{ℕ}
 use lib.Dec.{eqb, leb, ltb}
 use lib.ListN.{length}
 use Rattle.rules.specs.Lists.{at, mem}
-use Rattle.rules.specs.Limits.{maxTasks, maxProcessors}
+use Rattle.rules.specs.Limits.{maxTasks, maxProcessors, maxCount, maxBound}
 use Rattle.rules.specs.Peak
 use Rattle.rules.specs.Phase
 use Rattle.rules.specs.Standing
@@ -27,10 +27,11 @@ inTurn s (done i) = eqb (s .phase) Phase.running
 abbrev pub within : ℕ → ℕ → Bool
 within x limit = leb 1 x && leb x limit
 
--- "n, p, a parent or a step number outside its limits (parent 0 is allowed, step 0 is not)"
+-- "n, p, a parent or a step number outside its limits (parent 0 is allowed, step 0 is not)"; the operands' bytes keep work, out and
+-- M in theirs
 unfoldable pub inLimits : State → Command → Bool
-inLimits s (plan n p bound) = within n maxTasks && within p maxProcessors
-inLimits s (task parent work out) = leb parent (s .size)
+inLimits s (plan n p bound) = within n maxTasks && within p maxProcessors && leb bound maxBound
+inLimits s (task parent work out) = leb parent (s .size) && leb work maxCount && leb out maxCount
 inLimits s (activation i) = within i (s .size)
 inLimits s (execution i) = within i (s .size)
 inLimits s begin = true
@@ -39,7 +40,7 @@ inLimits s (done i) = within i (s .size)
 -- the peak of the plan's activation order
 unfoldable pub peakOf : State → ℕ
 peakOf s =
-    Peak.peak (s .size) (at (s .parents)) (at (s .memory .works)) (at (s .memory .outs)) (s .activation)
+    Peak.peak (s .size) (at (s .parents)) (at (s .chilled .works)) (at (s .chilled .outs)) (s .activation)
 
 -- the number where the test fails, and what else is checked where it holds
 abbrev pub demand : Bool → ℕ → ℕ → ℕ
@@ -56,7 +57,7 @@ ownGround s (execution i) = demand (not (mem i (s .execution))) 5 0
 -- 9 "the peak is above M"
 ownGround s begin =
     demand (eqb (Peak.roots (s .size) (at (s .parents))) 1) 7
-    (demand (Peak.ordered (at (s .parents)) (s .activation)) 8 (demand (leb (peakOf s) (s .memory .bound)) 9 0))
+    (demand (Peak.ordered (at (s .parents)) (s .activation)) 8 (demand (leb (peakOf s) (s .chilled .bound)) 9 0))
 -- 6 "DONE for a step that isn't running"
 ownGround s (done i) = demand (eqb (at (s .standings) i) Standing.running) 6 0
 

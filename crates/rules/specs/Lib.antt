@@ -20,6 +20,9 @@ pub mod Desk
 pub mod Text
 pub mod Printer
 pub mod Day
+-- What holds of a day
+pub mod Invariant
 pub mod Theorem
 pub mod Reachable
+pub mod Stream
 pub mod Marked

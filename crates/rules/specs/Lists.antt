@@ -1,7 +1,7 @@
 -- Lists of numbers, and lists indexed by a task's number.
-use mathlib.Core.Bool.{Bool, true, false, not, _&&_, _||_}
+use mathlib.Core.Bool.{Bool, true, false, cond, not, _&&_, _||_}
 use mathlib.Core.List.{List, [], _∷_}
-use Prim.Native.Nat.{ℕ, max}
+use Prim.Native.Nat.{ℕ, suc, max}
 use lib.Dec.{eqb}
 use lib.ListN.{getD}
 
@@ -28,6 +28,11 @@ every test (x ∷ later) = test x && every test later
 unfoldable pub distinct : List ℕ → Bool
 distinct [] = true
 distinct (x ∷ later) = not (mem x later) && distinct later
+
+-- where i first stands, counted from 0; the list's length where it does not
+unfoldable pub place : ℕ → List ℕ → ℕ
+place i [] = 0
+place i (x ∷ xs) = cond (eqb i x) 0 (suc (place i xs))
 
 -- the largest entry
 unfoldable pub largest : List ℕ → ℕ

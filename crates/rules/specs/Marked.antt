@@ -1,5 +1,5 @@
--- The paper's cases as tables: those marked †, and the small inputs of the grounds. "Cases marked † form one table with a single
--- claim over it." A row has what the rules give and what the paper says.
+-- The paper's cases as tables: those marked †, the small inputs of the grounds, and sentences beside them. "Cases marked † form one
+-- table with a single claim over it." A row has what the rules give and what the paper says.
 use mathlib.Core.Bool.{Bool, true, false, _&&_}
 use mathlib.Core.List.{List, [], _∷_, _++_, map}
 use Prim.Native.Nat.{ℕ}
@@ -9,7 +9,10 @@ use Rattle.rules.specs.Lists.{at}
 use Rattle.rules.specs.State.{none, needs}
 use Rattle.rules.specs.Command.{Command, plan, task, activation, execution, begin, done, bytes}
 use Rattle.rules.specs.Answer.{Asking, Answered, command}
-use Rattle.rules.specs.Question.{booked, inUse}
+use Rattle.rules.specs.Question.{booked, inUse, fullnessOf, fullness}
+use Rattle.rules.specs.Desk.{StepRecord, desk}
+use Rattle.rules.specs.Text.{ascii}
+use Rattle.rules.specs.Printer.{print}
 use Rattle.rules.specs.Day.{after}
 
 pub record Row : Type 0 where
@@ -107,7 +110,7 @@ marked =
     ∷ record {
       given =
           dayC (begin ∷ []) (done 1) .answer .offers
-          ∷ at (dayC (begin ∷ []) (done 1) .state .memory .booked) 3
+          ∷ at (dayC (begin ∷ []) (done 1) .state .chilled .booked) 3
           ∷ booked (dayC (begin ∷ []) (done 1) .state)
           ∷ inUse (dayC (begin ∷ []) (done 1) .state)
           ∷ startedBy (dayC (begin ∷ []) (done 1));
@@ -200,6 +203,54 @@ grounds =
     -- p = 64 accepted, 65 refused 4
     ∷ record { given = told [] (ask (plan 1 64 0)); stated = 0 ∷ 8 ∷ 0 ∷ 0 ∷ 0 ∷ [] }
     ∷ record { given = told [] (ask (plan 1 65 0)); stated = refusal 4 }
+    ∷ []
+
+-- plan A as the desk's list of records, and three steps without a parent
+unfoldable pub recordsA : List StepRecord
+recordsA =
+    record { parent = 3; work = 5; out = 1 }
+    ∷ record { parent = 3; work = 5; out = 1 }
+    ∷ record { parent = 0; work = 0; out = 1 }
+    ∷ []
+
+unfoldable pub rootsOnly : List StepRecord
+rootsOnly = replicate 3 (record { parent = 0; work = 5; out = 1 })
+
+-- the number and the peak that the desk is answered
+unfoldable pub surveyed : List StepRecord → List ℕ → List ℕ
+surveyed records order = desk records order .number ∷ desk records order .peak ∷ []
+
+-- sentences of the paper that have no case of their own there
+unfoldable pub sentences : List Row
+sentences =
+    -- "on a refusal `refused K at O` (number, byte offset of the command counted from 0), then stops": in A's day `06 03 00` after
+    -- `05`, with another command behind it
+    record {
+      given = print (take 48 dayA ++ (6 ∷ 3 ∷ 0 ∷ 6 ∷ 1 ∷ 0 ∷ []));
+      stated = ascii "begin peak=7 booked=6 used=6 full=857 start 1\n" ++ ascii "refused 6 at 48\n";
+    }
+    -- the desk: A's peak
+    ∷ record { given = surveyed recordsA (1 ∷ 2 ∷ 3 ∷ []); stated = 0 ∷ 7 ∷ [] }
+    -- "unequal lengths (4)", and "A refusal answers its number and peak 0"
+    ∷ record { given = surveyed recordsA (1 ∷ 2 ∷ []); stated = 4 ∷ 0 ∷ [] }
+    -- 5 before 7: a step twice, where no step has a parent
+    ∷ record { given = surveyed rootsOnly (1 ∷ 1 ∷ 2 ∷ []); stated = 5 ∷ 0 ∷ [] }
+    ∷ record { given = surveyed rootsOnly (1 ∷ 2 ∷ 3 ∷ []); stated = 7 ∷ 0 ∷ [] }
+    ∷ record { given = surveyed recordsA (3 ∷ 1 ∷ 2 ∷ []); stated = 8 ∷ 0 ∷ [] }
+    -- "n of each at most": one entry more is not in turn, in either order
+    ∷ record { given = told (asks (planA 7)) (ask (activation 1)); stated = refusal 3 }
+    ∷ record { given = told (asks (planA 7)) (ask (execution 1)); stated = refusal 3 }
+    -- fullness: "0 if M is 0; 1,000 if b is at least M; else 1,000 times b divided by M, rounded down"
+    ∷ record {
+      given = fullnessOf 0 0 ∷ fullnessOf 5 0 ∷ fullnessOf 7 7 ∷ fullnessOf 6 7 ∷ fullnessOf 4294967294 4294967295 ∷ [];
+      stated = 0 ∷ 0 ∷ 1000 ∷ 857 ∷ 999 ∷ [];
+    }
+    ∷ record { given = fullness (last single begin .state) ∷ []; stated = 0 ∷ [] }
+    -- a BEGIN that is refused leaves the plan in orders: no step runs, BEGIN may come again, and so may PLAN
+    ∷ record { given = told (asks (planA 6 ++ (begin ∷ []))) (ask (done 1)); stated = refusal 3 }
+    ∷ record { given = told (asks (planA 6 ++ (begin ∷ []))) (ask begin); stated = refusal 9 }
+    ∷ record { given = told (asks (planA 6 ++ (begin ∷ []))) (ask (plan 3 2 7)); stated = 0 ∷ 8 ∷ 0 ∷ 0 ∷ 0 ∷ [] }
+    ∷ record { given = told (asks (planA 7) ++ (short (bytes begin) ∷ [])) (ask begin); stated = 0 ∷ 1 ∷ 1 ∷ 7 ∷ 0 ∷ [] }
     ∷ []
 
 -- the two lists of a row are the same

@@ -4,13 +4,17 @@ use Prim.Native.Nat.{ℕ, _+_}
 use lib.Dec.{eqb}
 use Rattle.rules.specs.Sums.{only, sumTo}
 
--- the outs of the children of i
-unfoldable pub childrenOut : (n : ℕ) (par out : ℕ → ℕ) → ℕ → ℕ
-childrenOut n par out i = sumTo (λ c. only (eqb (par c) i) (out c)) n
+-- "The children of a step are those whose parent it is": c is a child of i
+abbrev pub isChild : (par : ℕ → ℕ) → ℕ → ℕ → Bool
+isChild par i c = eqb (par c) i
+
+-- the sum of f over the children of i
+unfoldable pub children : (n : ℕ) (par f : ℕ → ℕ) → ℕ → ℕ
+children n par f i = sumTo (λ c. only (isChild par i c) (f c)) n
 
 -- "Need of a step = the outs of its children + its work + its out."
 unfoldable pub need : (n : ℕ) (par work out : ℕ → ℕ) → ℕ → ℕ
-need n par work out i = childrenOut n par out i + work i + out i
+need n par work out i = children n par out i + work i + out i
 
 -- the outs of ended tasks whose parent has not begun: neither run nor running, so waiting or booked. The root has no parent
 unfoldable pub resident : (n : ℕ) (par out : ℕ → ℕ) (ended begun : ℕ → Bool) → ℕ

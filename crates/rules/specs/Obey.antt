@@ -30,7 +30,7 @@ opened n p bound =
       activation = [];
       execution = [];
       standings = [];
-      memory = record { bound = bound; works = 0 ∷ []; outs = 0 ∷ []; booked = [] };
+      chilled = record { bound = bound; works = 0 ∷ []; outs = 0 ∷ []; booked = [] };
     }
 
 -- "STEP: the next step; the first is step 1"; "the n-th leads to orders"
@@ -44,12 +44,12 @@ withTask s parent work out =
       activation = s .activation;
       execution = s .execution;
       standings = s .standings;
-      memory =
+      chilled =
           record {
-            bound = s .memory .bound;
-            works = s .memory .works ++ (work ∷ []);
-            outs = s .memory .outs ++ (out ∷ []);
-            booked = s .memory .booked;
+            bound = s .chilled .bound;
+            works = s .chilled .works ++ (work ∷ []);
+            outs = s .chilled .outs ++ (out ∷ []);
+            booked = s .chilled .booked;
           };
     }
 
@@ -64,7 +64,7 @@ withOrders s act exec =
       activation = act;
       execution = exec;
       standings = s .standings;
-      memory = s .memory;
+      chilled = s .chilled;
     }
 
 -- the plan in a phase of its day, with other standings and booked trays
@@ -78,13 +78,13 @@ withBooks s phase st b =
       activation = s .activation;
       execution = s .execution;
       standings = st;
-      memory =
-          record { bound = s .memory .bound; works = s .memory .works; outs = s .memory .outs; booked = b };
+      chilled =
+          record { bound = s .chilled .bound; works = s .chilled .works; outs = s .chilled .outs; booked = b };
     }
 
 -- what booking ahead makes of the books
 unfoldable pub ahead : State → Books → Books
-ahead s = activate (s .size) (at (s .parents)) (needs s) (s .memory .bound) (s .activation)
+ahead s = activate (s .size) (at (s .parents)) (needs s) (s .chilled .bound) (s .activation)
 
 -- the tasks that start then, in order
 unfoldable pub begun : State → Books → List ℕ
@@ -112,11 +112,11 @@ endedStandings s j = set (s .standings) j Standing.finished
 -- sharing out the booked trays of task j
 unfoldable pub shared : State → ℕ → Climbed
 shared s j =
-    dispatch (s .size) (at (s .parents)) (needs s) (at (endedStandings s j)) (at (s .memory .outs)) (s .memory .booked) j
+    dispatch (s .size) (at (s .parents)) (needs s) (at (endedStandings s j)) (at (s .chilled .outs)) (s .chilled .booked) j
 
 -- the books once task j has ended and its booked trays are shared out
 unfoldable pub ended : State → ℕ → Books
-ended s j = record { standings = endedStandings s j; booked = shared s j .booked }
+ended s j = record { standings = endedStandings s j; booked = shared s j .share .booked }
 
 -- "when the root ends the phase is over"
 unfoldable pub phaseAfter : State → ℕ → ℕ

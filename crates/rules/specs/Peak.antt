@@ -1,10 +1,11 @@
 -- The peak of an activation order, over the tasks alone, and what an order must be.
+use mathlib.Core.Path.{_≡_}
 use mathlib.Core.Bool.{Bool, true, _&&_, _||_}
 use mathlib.Core.List.{List, [], _∷_}
 use Prim.Native.Nat.{ℕ, _+_}
 use lib.Dec.{eqb}
-use Rattle.rules.specs.Sums.{countTo}
-use Rattle.rules.specs.Lists.{mem, largest}
+use Rattle.rules.specs.Sums.{Task, countTo}
+use Rattle.rules.specs.Lists.{mem, distinct, largest}
 use Rattle.rules.specs.Need.{need, resident}
 
 -- "Run the steps one at a time in that order. While a step runs, the cold room holds its need, plus the outs of steps already
@@ -18,6 +19,12 @@ sums n par work out ended (x ∷ later) =
 -- "The peak is the largest of these n sums."
 unfoldable pub peak : (n : ℕ) (par work out : ℕ → ℕ) → List ℕ → ℕ
 peak n par work out order = largest (sums n par work out [] order)
+
+-- "There are two orders, each holding every step once": an order's entries are the tasks, and none stands twice
+pub record EachOnce (n : ℕ) (order : List ℕ) : Type 0 where
+  pub tasks : (i : ℕ) → mem i order ≡ true → Task n i
+  pub each : (i : ℕ) → Task n i → mem i order ≡ true
+  pub once : distinct order ≡ true
 
 -- how many tasks have no parent; exactly one is a plan's root
 unfoldable pub roots : (n : ℕ) (par : ℕ → ℕ) → ℕ

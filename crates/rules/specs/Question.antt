@@ -17,21 +17,21 @@ isRunning s = eqb (s .phase) Phase.running
 
 -- "Booked trays, trays in use and fullness can be asked of the plan at any time, and are 0 outside running."
 unfoldable pub booked : State → ℕ
-booked s = only (isRunning s) (total (s .size) (at (s .memory .booked)))
+booked s = only (isRunning s) (total (s .size) (at (s .chilled .booked)))
 
 unfoldable pub inUse : State → ℕ
 inUse s =
     only (isRunning s)
-    (Need.inUse (s .size) (at (s .parents)) (at (s .memory .works)) (at (s .memory .outs))
+    (Need.inUse (s .size) (at (s .parents)) (at (s .chilled .works)) (at (s .chilled .outs))
     (λ i. eqb (at (s .standings) i) Standing.finished)
-    (λ i. leb Standing.running (at (s .standings) i)))
+    (λ i. eqb (at (s .standings) i) Standing.running || eqb (at (s .standings) i) Standing.finished))
 
 -- "Fullness of b in M, both 32-bit: 0 if M is 0; 1,000 if b is at least M; else 1,000 times b divided by M, rounded down"
 unfoldable pub fullnessOf : ℕ → ℕ → ℕ
 fullnessOf b bound = cond (eqb bound 0) 0 (cond (leb bound b) 1000 (1000 * b / bound))
 
 unfoldable pub fullness : State → ℕ
-fullness s = fullnessOf (booked s) (s .memory .bound)
+fullness s = only (isRunning s) (fullnessOf (booked s) (s .chilled .bound))
 
 -- "four counts, waiting, booked, running, ended; four zeros outside running and over"
 unfoldable pub standing : State → List ℕ

@@ -28,7 +28,7 @@ pub record State : Type 0 where
   -- the standing of each task, from BEGIN on
   pub standings : List ℕ
   -- the cold room
-  pub memory : Store
+  pub chilled : Store
 
 -- the empty plan, to which a list of commands is given
 abbrev pub none : State
@@ -41,9 +41,13 @@ none =
       activation = [];
       execution = [];
       standings = [];
-      memory = record { bound = 0; works = []; outs = []; booked = [] };
+      chilled = record { bound = 0; works = []; outs = []; booked = [] };
     }
 
--- the needs of the tasks of a plan
+-- the needs of the tasks of a plan in a store
+abbrev pub needsIn : State → Store → ℕ → ℕ
+needsIn s store = Need.need (s .size) (at (s .parents)) (at (store .works)) (at (store .outs))
+
+-- and in the cold room
 abbrev pub needs : State → ℕ → ℕ
-needs s = Need.need (s .size) (at (s .parents)) (at (s .memory .works)) (at (s .memory .outs))
+needs s = needsIn s (s .chilled)

@@ -1,5 +1,5 @@
 -- Sums and counts over the tasks 1 to n.
-use mathlib.Core.Bool.{Bool, true, false}
+use mathlib.Core.Bool.{Bool, true, false, _&&_}
 use Prim.Native.Nat.{ℕ, zero, suc, _+_, _≤_}
 
 -- "n steps, numbered 1 to n": i is one of them
@@ -16,6 +16,11 @@ only false x = 0
 unfoldable pub sumTo : (ℕ → ℕ) → ℕ → ℕ
 sumTo f zero = 0
 sumTo f (suc n) = sumTo f n + f (suc n)
+
+-- each of 1 to n passes the test
+unfoldable pub everyTo : (ℕ → Bool) → ℕ → Bool
+everyTo test zero = true
+everyTo test (suc n) = everyTo test n && test (suc n)
 
 -- how many of 1 to n pass the test
 unfoldable pub countTo : (ℕ → Bool) → ℕ → ℕ

@@ -11,6 +11,10 @@ use Rattle.rules.specs.Command.{Command, plan, task, activation, executi
 use Rattle.rules.specs.Answer.{Answered}
 use Rattle.rules.specs.Question.{booked, inUse, fullness}
 
+-- no line has more bytes than this
+abbrev pub longestLine : ℕ
+longestLine = 512
+
 -- the bytes of a text
 unfoldable pub ascii : String → List ℕ
 ascii String.[] = []

@@ -9,9 +9,10 @@ use Rattle.rules.specs.Limits.{leastStarts}
 use Rattle.rules.specs.Sums.{Task, countTo}
 use Rattle.rules.specs.Lists.{at, mem}
 use Rattle.rules.specs.Need
+use Rattle.rules.specs.Peak.{EachOnce, ordered}
 use Rattle.rules.specs.Phase
 use Rattle.rules.specs.Standing
-use Rattle.rules.specs.State.{State, none, needs}
+use Rattle.rules.specs.State.{Store, State, none, needsIn}
 use Rattle.rules.specs.Booking.{total}
 use Rattle.rules.specs.Answer.{Asking, refuse, command}
 use Rattle.rules.specs.Question
@@ -21,12 +22,23 @@ use Rattle.rules.specs.Day.{Event, started, ended, starts, ends, log, af
 unfoldable pub runs : List Event → ℕ → Bool
 runs happened i = mem i (starts happened) && not (mem i (ends happened))
 
--- trays in use, "reckoned from the starts and ends alone"
-unfoldable pub usedBy : State → List Event → ℕ
-usedBy s happened =
-    Need.inUse (s .size) (at (s .parents)) (at (s .memory .works)) (at (s .memory .outs))
+-- trays in use in a store, "reckoned from the starts and ends alone"
+unfoldable pub usedBy : State → Store → List Event → ℕ
+usedBy s store happened =
+    Need.inUse (s .size) (at (s .parents)) (at (store .works)) (at (store .outs))
     (λ i. mem i (ends happened))
     (λ i. mem i (starts happened))
+
+-- what is promised of one store in a day: `booked` and `inUse` are what the plan answers for it
+pub record StoreHolds (s : State) (happened : List Event) (store : Store) (booked inUse : ℕ) : Type 0 where
+  -- trays in use are what the starts and ends give, and trays booked "the sum of all booked trays"
+  pub used : inUse ≡ usedBy s store happened
+  pub summed : booked ≡ total (s .size) (at (store .booked))
+  -- "trays in use never exceed trays booked, nor booked trays the cold room's places"
+  pub covered : inUse ≤ booked
+  pub within : booked ≤ store .bound
+  -- each that runs holds exactly its need
+  pub exact : (i : ℕ) → Task (s .size) i → runs happened i ≡ true → at (store .booked) i ≡ needsIn s store i
 
 -- what is promised of a day: s is the plan as it stands, and `happened` the day's starts and ends so far, in order. The day's
 -- reports that were accepted are its ends
@@ -61,28 +73,29 @@ pub record DayHolds (s : State) (happened : List Event) : Type 0 where
   -- the phase is running until then, and over from then on
   pub running : (s .phase ≡ Phase.running) ↔ (length (ends happened) < s .size)
   pub over : (s .phase ≡ Phase.over) ↔ (length (ends happened) ≡ s .size)
-  -- what the plan answers for trays in use is what the starts and ends give, and for trays booked "the sum of all booked trays"
-  pub used : Question.inUse s ≡ usedBy s happened
-  pub summed : Question.booked s ≡ total (s .size) (at (s .memory .booked))
-  -- what it answers for running and for ended steps is what the starts and ends give
+  -- what the plan answers for running and for ended steps is what the starts and ends give
   pub countRunning : at (Question.standing s) Standing.running ≡ countTo (runs happened) (s .size)
   pub countEnded : at (Question.standing s) Standing.finished ≡ length (ends happened)
-  -- "trays in use never exceed trays booked, nor booked trays the cold room's places"
-  pub covered : Question.inUse s ≤ Question.booked s
-  pub within : Question.booked s ≤ s .memory .bound
-  -- no more tasks run than there are processors, and each that runs holds exactly its need
+  -- no more tasks run than there are processors
   pub staffed : countTo (runs happened) (s .size) ≤ s .processors
-  pub exact : (i : ℕ) → Task (s .size) i → runs happened i ≡ true → at (s .memory .booked) i ≡ needs s i
+  -- all that is promised of a store holds of the cold room
+  pub store : StoreHolds s happened (s .chilled) (Question.booked s) (Question.inUse s)
 
 -- the plan itself is the same: its steps, its stations and its orders
 pub record SamePlan (s s′ : State) : Type 0 where
   pub size : s′ .size ≡ s .size
   pub processors : s′ .processors ≡ s .processors
   pub parents : s′ .parents ≡ s .parents
-  pub works : s′ .memory .works ≡ s .memory .works
-  pub outs : s′ .memory .outs ≡ s .memory .outs
+  pub works : s′ .chilled .works ≡ s .chilled .works
+  pub outs : s′ .chilled .outs ≡ s .chilled .outs
   pub activation : s′ .activation ≡ s .activation
   pub execution : s′ .execution ≡ s .execution
+
+-- "There are two orders, each holding every step once. In the activation order each step stands before its parent."
+pub record OrdersHold (s : State) : Type 0 where
+  pub activation : EachOnce (s .size) (s .activation)
+  pub execution : EachOnce (s .size) (s .execution)
+  pub upward : ordered (at (s .parents)) (s .activation) ≡ true
 
 -- what is promised of one asking: s is the plan that it finds
 pub record AskingHolds (s : State) (a : Asking) : Type 0 where
@@ -112,10 +125,11 @@ EveryDayHolds = EveryDay (λ _ s happened. DayHolds s happened)
 -- the theorem: what holds of every list of askings, day by day and as a whole
 pub record Theorem : Type 0 where
   pub days : EveryDayHolds
-  -- in a day the plan stays as BEGIN found it
+  -- in a day both orders are what they must be, and the plan stays as BEGIN found it
+  pub orders : EveryDay (λ _ s _. OrdersHold s)
   pub plans : EveryDay (λ found s _. SamePlan found s)
   -- and so do the places of the cold room
-  pub places : EveryDay (λ found s _. s .memory .bound ≡ found .memory .bound)
+  pub places : EveryDay (λ found s _. s .chilled .bound ≡ found .chilled .bound)
   -- all that is promised of an asking holds of each of the list
   pub askings : (earlier : List Asking) (a : Asking) → AskingHolds (after none earlier) a
   -- "from the accepted commands alone": without those that are refused the plan is the same, and so is what happened

@@ -1,33 +1,54 @@
 //! Plan text to bytes and back; `plan-text --help` says how.
 
-use peer::plan_text::{patterns, to_bytes, to_text};
-use std::io::{self, Read, Write};
+use peer::plan_text::{patterns, to_text, Offsets, Translator};
+use std::env;
+use std::fs::File;
+use std::io::{self, BufRead, BufReader, ErrorKind, Read, Write};
 use std::process::ExitCode;
-use std::{env, fs};
 
 const USAGE: &str = "\
-usage: plan-text [FILE]          a plan text to the bytes of its commands
-       plan-text --back [FILE]   the bytes of commands to a plan text
+usage: plan-text [FILE]             a plan text to the bytes of its commands
+       plan-text --offsets [FILE]   the offset and the line of each command
+       plan-text --back [FILE]      the bytes of commands to a plan text
 ";
 
 const NOTES: &str = "
-Without FILE, or with -, it reads standard input. It writes to standard output.
+Without FILE, or with -, it reads standard input. It writes to standard output,
+what a line says as soon as the line has come.
 One thing a line; # starts a comment. Steps are numbered from 1 in each plan;
 a step may say its number. Parent - (or 0) is the last step. Where the line
 ends with ... it may go on, and each number is a command. The lines:
 ";
 
 const TROUBLE: &str = "
-A wrong line is told with its number, and no byte is written. A byte that is
-no command, or a command that is cut short, is told with its offset, counted
-from 0, after the text of all that stands before it. Either way the status is 1.
+A wrong line is told with its number, after the bytes of the lines before it,
+and nothing behind it is read. Wrong is also a number outside its limits: 1 to
+1024 steps, 1 to 64 stations, and no step that the plan does not have. Whether
+a command is in turn is not asked: the day printer answers 'refused K at O', and
+--offsets has a row 'at O, line L: ...' for it.
+A byte that is no command, or a command that is cut short, is told with its
+offset, counted from 0, after the text of all that stands before it.
+The status is 1 where something is wrong. Where nobody reads its output any
+more, it stops.
 ";
+
+/// A longer line is no line of a plan text.
+const LONGEST_LINE: u64 = 1 << 20;
+
+/// Why it ends early.
+enum Stop {
+    Trouble(String),
+    /// Whoever read the output has stopped.
+    Unread,
+}
 
 fn main() -> ExitCode {
     let arguments: Vec<String> = env::args().skip(1).collect();
     let arguments: Vec<&str> = arguments.iter().map(String::as_str).collect();
     let result = match arguments[..] {
         ["--help" | "-h"] => write(help().as_bytes()),
+        ["--offsets"] => offsets("-"),
+        ["--offsets", name] => offsets(name),
         ["--back"] => back("-"),
         ["--back", name] => back(name),
         [] => forth("-"),
@@ -38,9 +59,9 @@ fn main() -> ExitCode {
         }
     };
     match result {
-        Ok(()) => ExitCode::SUCCESS,
-        Err(trouble) => {
-            eprintln!("plan-text: {trouble}");
+        Ok(()) | Err(Stop::Unread) => ExitCode::SUCCESS,
+        Err(Stop::Trouble(what)) => {
+            eprintln!("plan-text: {what}");
             ExitCode::FAILURE
         }
     }
@@ -54,45 +75,83 @@ fn help() -> String {
     [USAGE, NOTES, "\n", &lines, TROUBLE].concat()
 }
 
-/// Text to bytes; nothing is written where a line is wrong.
-fn forth(name: &str) -> Result<(), String> {
-    let text = read(name)?;
-    // Letters in another encoding do no harm in comments.
-    let bytes = to_bytes(&String::from_utf8_lossy(&text))
-        .map_err(|fault| format!("{}:{}: {}", shown(name), fault.place, fault.what))?;
-    write(&bytes)
+/// Text to bytes.
+fn forth(name: &str) -> Result<(), Stop> {
+    each_line(name, |_, bytes| bytes)
+}
+
+/// Text to the offset and the line of each command.
+fn offsets(name: &str) -> Result<(), Stop> {
+    let mut offsets = Offsets::default();
+    each_line(name, |line, bytes| offsets.rows(line, &bytes).into_bytes())
+}
+
+/// Hands on what the bytes of each line become, before the next is waited for.
+fn each_line(name: &str, mut handed: impl FnMut(usize, Vec<u8>) -> Vec<u8>) -> Result<(), Stop> {
+    let mut input = open(name)?;
+    let mut translator = Translator::default();
+    for place in 1.. {
+        let wrong = |what: &str| Stop::Trouble(format!("{}:{place}: {what}", shown(name)));
+        let mut line = Vec::new();
+        (&mut input)
+            .take(LONGEST_LINE)
+            .read_until(b'\n', &mut line)
+            .map_err(|error| unreadable(name, error))?;
+        if line.is_empty() {
+            break;
+        }
+        if line.len() as u64 == LONGEST_LINE && !line.ends_with(b"\n") {
+            return Err(wrong("the line does not end"));
+        }
+        // Letters in another encoding do no harm in comments.
+        let bytes = translator
+            .line(&String::from_utf8_lossy(&line))
+            .map_err(|fault| wrong(&fault.what))?;
+        write(&handed(place, bytes))?;
+    }
+    Ok(())
 }
 
 /// Bytes to text, as far as the commands are whole.
-fn back(name: &str) -> Result<(), String> {
-    let (text, fault) = to_text(&read(name)?);
+fn back(name: &str) -> Result<(), Stop> {
+    let mut bytes = Vec::new();
+    open(name)?
+        .read_to_end(&mut bytes)
+        .map_err(|error| unreadable(name, error))?;
+    let (text, fault) = to_text(&bytes);
     write(text.as_bytes())?;
     match fault {
         None => Ok(()),
-        Some(fault) => Err(format!(
+        Some(fault) => Err(Stop::Trouble(format!(
             "{}: byte {}: {}",
             shown(name),
             fault.place,
             fault.what
-        )),
+        ))),
     }
 }
 
-fn read(name: &str) -> Result<Vec<u8>, String> {
-    let mut bytes = Vec::new();
-    let result = match name {
-        "-" => io::stdin().read_to_end(&mut bytes).map(|_| bytes),
-        _ => fs::read(name),
-    };
-    result.map_err(|error| format!("{}: {error}", shown(name)))
+fn open(name: &str) -> Result<Box<dyn BufRead>, Stop> {
+    match name {
+        "-" => Ok(Box::new(io::stdin().lock())),
+        _ => match File::open(name) {
+            Ok(file) => Ok(Box::new(BufReader::new(file))),
+            Err(error) => Err(unreadable(name, error)),
+        },
+    }
 }
 
-fn write(bytes: &[u8]) -> Result<(), String> {
+fn unreadable(name: &str, error: io::Error) -> Stop {
+    Stop::Trouble(format!("{}: {error}", shown(name)))
+}
+
+fn write(bytes: &[u8]) -> Result<(), Stop> {
     let mut output = io::stdout();
-    output
-        .write_all(bytes)
-        .and_then(|()| output.flush())
-        .map_err(|error| format!("standard output: {error}"))
+    match output.write_all(bytes).and_then(|()| output.flush()) {
+        Ok(()) => Ok(()),
+        Err(error) if error.kind() == ErrorKind::BrokenPipe => Err(Stop::Unread),
+        Err(error) => Err(Stop::Trouble(format!("standard output: {error}"))),
+    }
 }
 
 /// The name of an input in messages.

@@ -1,4 +1,7 @@
-//! The one table of commands: words, bytes, and numbers with their widths.
+//! The one table of commands: words, bytes, and numbers with their widths and
+//! limits.
+
+use crate::plan::Plan;
 
 /// A command as a line of text and as bytes.
 pub(crate) struct Form {
@@ -13,7 +16,8 @@ pub(crate) struct Form {
 pub(crate) enum Shape {
     /// Each number after its own word.
     Plain,
-    /// The same, and the next step is step 1.
+    /// The same, and the next step is step 1; its first number is how many
+    /// steps there will be.
     Opening,
     /// The same, with the number of this step ahead.
     Numbered,
@@ -22,12 +26,28 @@ pub(crate) enum Shape {
 }
 
 /// A number of a command: its word, which in a list is the command's, its
-/// width in bytes, and how 0 is written.
+/// width in bytes, its limits, and how 0 is written.
 pub(crate) struct Field {
     pub word: &'static str,
     pub width: usize,
+    least: u32,
+    most: Most,
     zero: &'static str,
 }
+
+/// The largest number that document 01 allows.
+enum Most {
+    /// The largest that fits.
+    Fitting,
+    Number(u32),
+    /// The number of steps of the plan, where it is known.
+    Steps,
+}
+
+/// The most steps of a plan.
+const STEPS: u32 = Plan::TASKS as u32;
+/// The most stations of a plan.
+const STATIONS: u32 = Plan::PROCESSORS as u32;
 
 /// All commands; both directions and the help go by this table.
 static FORMS: &[Form] = &[
@@ -35,22 +55,41 @@ static FORMS: &[Form] = &[
         0x01,
         "plan",
         Shape::Opening,
-        &[field("steps", 2), field("stations", 1), field("places", 4)],
+        &[
+            field("steps", 2, 1, Most::Number(STEPS)),
+            field("stations", 1, 1, Most::Number(STATIONS)),
+            field("places", 4, 0, Most::Fitting),
+        ],
     ),
     form(
         0x02,
         "step",
         Shape::Numbered,
         &[
-            field("parent", 2).or_dash(),
-            field("work", 2),
-            field("out", 2),
+            field("parent", 2, 0, Most::Steps).or_dash(),
+            field("work", 2, 0, Most::Fitting),
+            field("out", 2, 0, Most::Fitting),
         ],
     ),
-    form(0x03, "activation", Shape::List, &[field("activation", 2)]),
-    form(0x04, "execution", Shape::List, &[field("execution", 2)]),
+    form(
+        0x03,
+        "activation",
+        Shape::List,
+        &[field("activation", 2, 1, Most::Steps)],
+    ),
+    form(
+        0x04,
+        "execution",
+        Shape::List,
+        &[field("execution", 2, 1, Most::Steps)],
+    ),
     form(0x05, "begin", Shape::Plain, &[]),
-    form(0x06, "done", Shape::List, &[field("done", 2)]),
+    form(
+        0x06,
+        "done",
+        Shape::List,
+        &[field("done", 2, 1, Most::Steps)],
+    ),
 ];
 
 const fn form(byte: u8, word: &'static str, shape: Shape, fields: &'static [Field]) -> Form {
@@ -62,10 +101,12 @@ const fn form(byte: u8, word: &'static str, shape: Shape, fields: &'static [Fiel
     }
 }
 
-const fn field(word: &'static str, width: usize) -> Field {
+const fn field(word: &'static str, width: usize, least: u32, most: Most) -> Field {
     Field {
         word,
         width,
+        least,
+        most,
         zero: "0",
     }
 }
@@ -91,17 +132,25 @@ impl Field {
         Field { zero: "-", ..self }
     }
 
-    /// The largest number that fits.
-    pub fn largest(&self) -> u32 {
-        u32::MAX >> (32 - 8 * self.width)
+    /// The least and the largest number within the limits.
+    pub fn limits(&self, steps: &Steps) -> (u32, u32) {
+        let most = match self.most {
+            Most::Fitting => u32::MAX >> (32 - 8 * self.width),
+            Most::Number(number) => number,
+            Most::Steps => steps.most,
+        };
+        (self.least, most)
     }
 
-    /// The number that a word stands for, if it is one and fits.
-    pub fn number(&self, word: &str) -> Option<u32> {
-        if word == self.zero {
-            return Some(0);
-        }
-        word.parse().ok().filter(|&number| number <= self.largest())
+    /// The number that a word stands for, if it is one and within its limits.
+    pub fn number(&self, word: &str, steps: &Steps) -> Option<u32> {
+        let number = if word == self.zero {
+            0
+        } else {
+            word.parse().ok()?
+        };
+        let (least, most) = self.limits(steps);
+        (least..=most).contains(&number).then_some(number)
     }
 
     /// The word of a number.
@@ -113,22 +162,40 @@ impl Field {
     }
 }
 
-/// The number of each step, counted anew in each plan.
-#[derive(Default)]
-pub(crate) struct Steps(usize);
+/// The steps of the plan that was opened last.
+pub(crate) struct Steps {
+    /// How many were given.
+    given: usize,
+    /// How many there will be; the most that any plan has, ahead of the first.
+    most: u32,
+}
+
+impl Default for Steps {
+    fn default() -> Steps {
+        Steps {
+            given: 0,
+            most: STEPS,
+        }
+    }
+}
 
 impl Steps {
     /// The number of the step that a command gives, if it gives one.
     pub fn count(&mut self, form: &Form) -> Option<usize> {
         match form.shape {
-            Shape::Opening => self.0 = 0,
+            Shape::Opening => self.given = 0,
             Shape::Numbered => {
-                self.0 += 1;
-                return Some(self.0);
+                self.given += 1;
+                return Some(self.given);
             }
             Shape::Plain | Shape::List => {}
         }
         None
+    }
+
+    /// A plan of so many steps was opened.
+    pub fn open(&mut self, steps: u32) {
+        self.most = steps;
     }
 }
 

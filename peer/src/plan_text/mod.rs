@@ -1,13 +1,16 @@
 //! Plan text: a day as a person writes it, and its commands as bytes. One
-//! thing a line; `#` starts a comment. The text may say anything that whole
-//! commands can say: whether the rules accept it is not asked here.
+//! thing a line; `#` starts a comment. The text may say any whole commands
+//! whose numbers are within the limits of document 01; whether they are in
+//! turn, and all else that the rules ask, is not asked here.
 
 mod form;
+mod offsets;
 mod to_bytes;
 mod to_text;
 
 pub use form::patterns;
-pub use to_bytes::to_bytes;
+pub use offsets::Offsets;
+pub use to_bytes::{to_bytes, Translator};
 pub use to_text::to_text;
 
 /// What is wrong with a text or a stream, and where.

@@ -7,9 +7,17 @@ use super::Fault;
 const PER_LINE: usize = 16;
 
 /// A whole command of a stream.
-struct Whole<'a> {
+#[derive(Clone, Copy)]
+pub(super) struct Whole<'a> {
     form: &'static Form,
     operands: &'a [u8],
+}
+
+impl Whole<'_> {
+    /// Its bytes.
+    pub fn len(&self) -> usize {
+        1 + self.operands.len()
+    }
 }
 
 /// The text of the whole commands at the front of a stream, and what is wrong
@@ -26,13 +34,14 @@ pub fn to_text(stream: &[u8]) -> (String, Option<Fault>) {
     (text, fault)
 }
 
-fn whole_commands(stream: &[u8]) -> (Vec<Whole<'_>>, Option<Fault>) {
+/// The whole commands at the front of a stream.
+pub(super) fn whole_commands(stream: &[u8]) -> (Vec<Whole<'_>>, Option<Fault>) {
     let mut commands = Vec::new();
     let mut rest = stream;
     while !rest.is_empty() {
         match first_command(rest) {
             Ok(command) => {
-                rest = &rest[1 + command.operands.len()..];
+                rest = &rest[command.len()..];
                 commands.push(command);
             }
             Err(what) => {
@@ -61,7 +70,7 @@ fn share_a_line(one: &Whole, next: &Whole) -> bool {
 
 /// Adds the line of some commands of one form; a plan stands apart from what
 /// is above it.
-fn write_line(commands: &[Whole], steps: &mut Steps, text: &mut String) {
+pub(super) fn write_line(commands: &[Whole], steps: &mut Steps, text: &mut String) {
     let form = commands[0].form;
     if form.shape == Shape::Opening && !text.is_empty() {
         text.push('\n');

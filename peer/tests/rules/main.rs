@@ -14,6 +14,7 @@ mod plan_a;
 mod plan_c;
 mod plan_text;
 mod plan_text_program;
+mod plan_text_typed;
 mod printer;
 mod table;
 mod watch;

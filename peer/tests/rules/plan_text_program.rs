@@ -58,14 +58,84 @@ fn back_from_a_file_or_standard_input() {
 }
 
 #[test]
-fn a_wrong_line_writes_no_byte() {
-    let text = b"# Monday\n\nbegin\nstep parent 3 work x out 1\n";
-    let wrong = "4: 'work' wants a number from 0 to 65535, found 'x'\n";
+fn a_wrong_line_comes_after_the_bytes_before_it() {
+    let text = b"# Monday\n\nbegin\ndone 1 2 x\nbegin\n";
+    let wrong = "4: 'done' wants a number from 1 to 1024, found 'x'\n";
     let name = file("day.plan", text);
     let message = format!("plan-text: {name}:{wrong}");
-    assert_eq!(run(&[&name], b""), (vec![], message, 1));
+    assert_eq!(run(&[&name], b""), (vec![0x05], message, 1));
     let message = format!("plan-text: standard input:{wrong}");
-    assert_eq!(run(&[], text), (vec![], message, 1));
+    assert_eq!(run(&[], text), (vec![0x05], message, 1));
+}
+
+#[test]
+fn limits_are_told_with_the_line() {
+    let text = b"# Monday\nplan steps 2000 stations 200 places 7\n";
+    let message =
+        "plan-text: standard input:2: 'steps' wants a number from 1 to 1024, found '2000'\n";
+    assert_eq!(run(&[], text), (vec![], message.to_string(), 1));
+    let text = b"# Monday\nplan steps 20 stations 200 places 7\n";
+    let message =
+        "plan-text: standard input:2: 'stations' wants a number from 1 to 64, found '200'\n";
+    assert_eq!(run(&[], text), (vec![], message.to_string(), 1));
+}
+
+#[test]
+fn a_message_stays_a_line() {
+    for text in [
+        vec![b'x'; 900_000],
+        vec![0x1b; 900_000],
+        vec![0xff; 900_000],
+    ] {
+        let (output, errors, status) = run(&[], &text);
+        assert_eq!((output, status), (vec![], 1));
+        assert!(
+            errors.len() < 400 && errors.lines().count() == 1,
+            "{errors}"
+        );
+    }
+}
+
+#[test]
+fn a_line_that_does_not_end() {
+    let message = "plan-text: standard input:2: the line does not end\n";
+    let mut text = b"begin\n".to_vec();
+    text.resize(2_000_000, b' ');
+    assert_eq!(run(&[], &text), (vec![0x05], message.to_string(), 1));
+}
+
+#[test]
+fn the_last_line_may_lack_its_end() {
+    assert_eq!(run(&[], b"begin\r\ndone 1"), fine(&hex("05 06 01 00")));
+}
+
+#[test]
+fn a_byte_order_mark_and_ends_of_lines_of_two_bytes() {
+    let text = String::from_utf8(fs::read(EXAMPLE).unwrap()).unwrap();
+    let text = format!("\u{feff}{}", text.replace('\n', "\r\n"));
+    let bytes = hex(plan_a::BYTES);
+    assert_eq!(run(&[], text.as_bytes()), fine(&bytes));
+    assert_eq!(
+        run(&[&file("marked.plan", text.as_bytes())], b""),
+        fine(&bytes)
+    );
+}
+
+#[test]
+fn offsets_of_a_file_or_standard_input() {
+    let text = b"# Monday\nbegin\ndone 1 2\n";
+    let rows = b"at 0, line 2: begin\nat 1, line 3: done 1\nat 4, line 3: done 2\n";
+    assert_eq!(run(&["--offsets"], text), fine(rows));
+    assert_eq!(run(&["--offsets", "-"], text), fine(rows));
+    assert_eq!(
+        run(&["--offsets", &file("rows.plan", text)], b""),
+        fine(rows)
+    );
+    let message = "plan-text: standard input:2: 'end' is no command\n";
+    assert_eq!(
+        run(&["--offsets"], b"begin\nend\n"),
+        (b"at 0, line 1: begin\n".to_vec(), message.to_string(), 1)
+    );
 }
 
 #[test]
@@ -102,7 +172,12 @@ fn help_and_usage() {
         "{help}"
     );
     assert_eq!((errors, status), (String::new(), 0));
-    for arguments in [&["--forth"][..], &["a", "b"], &["--back", "a", "b"]] {
+    for arguments in [
+        &["--forth"][..],
+        &["a", "b"],
+        &["--back", "a", "b"],
+        &["--offsets", "a", "b"],
+    ] {
         let (output, errors, status) = run(arguments, b"");
         assert!(
             help.starts_with(&errors) && errors.starts_with("usage: "),

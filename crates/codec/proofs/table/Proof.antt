@@ -1,14 +1,15 @@
 -- `codec::table` meets its contract: in each arm the byte is known, and what the callees ensure is its line of the rules' table.
+use mathlib.Core.Path.{sym}
 use borrow.Author.Tests.{ne-eqb}
-use Rattle.rules.specs.Command.{table}
+use Rattle.rules.specs.Command.{forms, find}
 use Rattle.codec.proofs.Free.{free}
+use Rattle.codec.proofs.Lines.{plan-line, task-line, activation-line, execution-line, begin-line, done-line, no-line}
 use Rattle.codec.proofs.table.Statement.{statement}
 use Rattle.codec.proofs.table.Tie as tie
 
 plan : tie.Need-returns
-unfolding table
 plan c =
-    rw (c .before .before .before .before .before .before .match .keys1)
+    rw (c .before .before .before .before .before .before .match .keys1, plan-line)
     (rw (
       c .before .before .before .before .before .two .ensures,
       c .before .before .before .one .ensures,
@@ -18,9 +19,8 @@ plan c =
     ) at (c .whole .ensures))
 
 task : tie.Need-returns-2
-unfolding table
 task c =
-    rw (c .before .before .before .before .before .before .match .keys2)
+    rw (c .before .before .before .before .before .before .match .keys2, task-line)
     (rw (
       c .before .before .before .before .before .two2 .ensures,
       c .before .before .before .two3 .ensures,
@@ -30,34 +30,32 @@ task c =
     ) at (c .whole2 .ensures))
 
 activation : tie.Need-returns-3
-unfolding table
-activation c = rw (c .before .before .match .keys3) (rw (c .before .two5 .ensures) at (c .whole3 .ensures))
+activation c = rw (c .before .before .match .keys3, activation-line) (rw (c .before .two5 .ensures) at (c .whole3 .ensures))
 
 execution : tie.Need-returns-4
-unfolding table
-execution c = rw (c .before .before .match .keys4) (rw (c .before .two6 .ensures) at (c .whole4 .ensures))
+execution c = rw (c .before .before .match .keys4, execution-line) (rw (c .before .two6 .ensures) at (c .whole4 .ensures))
 
 begin : tie.Need-returns-5
-unfolding table
-begin c = rw (c .before .match .keys5) (c .whole5 .ensures)
+begin c = rw (c .before .match .keys5, begin-line) (c .whole5 .ensures)
 
 done : tie.Need-returns-6
-unfolding table
-done c = rw (c .before .before .match .keys6) (rw (c .before .two7 .ensures) at (c .whole6 .ensures))
+done c = rw (c .before .before .match .keys6, done-line) (rw (c .before .two7 .ensures) at (c .whole6 .ensures))
 
 -- the byte is none of the arms': the last arm's fact stands outermost
 unknown : tie.Need-returns-7
-unfolding table
+unfolding forms find
 unknown c =
     let rest = c .match .rest in
-    simp (
+    sym
+    (no-line _ _
+    (simp (
       ne-eqb _ _ (rest .1),
       ne-eqb _ _ (rest .0 .1),
       ne-eqb _ _ (rest .0 .0 .1),
       ne-eqb _ _ (rest .0 .0 .0 .1),
       ne-eqb _ _ (rest .0 .0 .0 .0 .1),
       ne-eqb _ _ (rest .0 .0 .0 .0 .0 .1),
-    )
+    )))
 
 -- one line a command: what its callees require
 pub table-spec : {M : Type 1} → statement M

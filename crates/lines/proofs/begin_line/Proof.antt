@@ -1,7 +1,9 @@
 -- `lines::begin_line` meets its contract.
+use native.Mathlib.Omega.{arith}
 use borrow.Author.Needs.{needs}
 use Rattle.rules.specs.Text.{ascii, beginLine}
-use Rattle.lines.proofs.Pieces.{_then_, whole}
+use Rattle.rules.proofs.Lengths.{beginLine-short}
+use Rattle.put.proofs.Pieces.{_then_, whole}
 use Rattle.lines.proofs.begin_line.Statement.{statement}
 use Rattle.lines.proofs.begin_line.Tie as tie
 
@@ -11,7 +13,13 @@ returns c =
     let figures = c .before .before in
     let peak = figures .before .before .before .before in
     let begin = peak .before .before .before .before in
-    whole (begin .text .ensures then peak .number .ensures then figures .figures .ensures)
+    record {
+      written = whole (begin .text .ensures then peak .decimal .ensures then figures .figures .ensures);
+      short =
+          λ few.
+          beginLine-short _ _ _ _ _ few (omega arith) (omega arith) (omega arith)
+          (λ i. begin .before .before .before .shared-slice-known .given i .fits) _ (omega arith);
+    }
 
 pub begin-line-spec : {M : Type 1} → statement M
 begin-line-spec =

@@ -1,7 +1,9 @@
 -- `lines::done_line` meets its contract.
+use native.Mathlib.Omega.{arith}
 use borrow.Author.Needs.{needs}
 use Rattle.rules.specs.Text.{ascii, doneLine}
-use Rattle.lines.proofs.Pieces.{_then_, whole}
+use Rattle.rules.proofs.Lengths.{doneLine-short}
+use Rattle.put.proofs.Pieces.{_then_, whole}
 use Rattle.lines.proofs.done_line.Statement.{statement}
 use Rattle.lines.proofs.done_line.Tie as tie
 
@@ -13,12 +15,20 @@ returns c =
     let offers-name = offers .before .before .before .before in
     let task = offers-name .before .before .before .before .before in
     let done = task .before .before .before .before in
-    whole
-    (done .text .ensures
-    then task .number .ensures
-    then offers-name .text2 .ensures
-    then offers .number2 .ensures
-    then figures .figures .ensures)
+    let lent = done .before .before .before in
+    record {
+      written =
+          whole
+          (done .text .ensures
+          then task .decimal .ensures
+          then offers-name .text2 .ensures
+          then offers .decimal2 .ensures
+          then figures .figures .ensures);
+      short =
+          λ few.
+          doneLine-short _ _ _ _ _ few (omega arith) (omega arith) (omega arith)
+          (λ i. lent .shared-slice-known .given i .fits) _ _ (omega (arith, lent .before .before .fits)) (omega arith);
+    }
 
 pub done-line-spec : {M : Type 1} → statement M
 done-line-spec =

@@ -1,7 +1,9 @@
 -- `lines::refused_line` meets its contract.
+use native.Mathlib.Omega.{arith}
 use borrow.Author.Needs.{needs}
 use Rattle.rules.specs.Text.{ascii, refusedLine}
-use Rattle.lines.proofs.Pieces.{_then_, whole}
+use Rattle.rules.proofs.Lengths.{refusedLine-short}
+use Rattle.put.proofs.Pieces.{_then_, whole}
 use Rattle.lines.proofs.refused_line.Statement.{statement}
 use Rattle.lines.proofs.refused_line.Tie as tie
 
@@ -13,12 +15,16 @@ returns c =
     let at = offset .before .before .before .before in
     let number = at .before .before .before .before .before in
     let refused = number .before .before .before .before in
-    whole
-    (refused .text .ensures
-    then number .number .ensures
-    then at .text2 .ensures
-    then offset .number2 .ensures
-    then feed .byte .ensures)
+    record {
+      written =
+          whole
+          (refused .text .ensures
+          then number .decimal .ensures
+          then at .text2 .ensures
+          then offset .decimal2 .ensures
+          then feed .byte .ensures);
+      short = λ _. refusedLine-short _ _ (omega arith) (omega arith);
+    }
 
 pub refused-line-spec : {M : Type 1} → statement M
 refused-line-spec =

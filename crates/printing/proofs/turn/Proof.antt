@@ -1,7 +1,5 @@
 -- `printing::turn` meets its contract: each way leaves what the turn of the rules leaves.
-use mathlib.Core.Path.{sym}
 use borrow.Author.Needs.{needs}
-use Rattle.plan.proofs.Responding.{read-as}
 use Rattle.printing.proofs.Taking.{waiting, ending, refusing, accepting}
 use Rattle.printing.proofs.turn.Statement.{statement}
 use Rattle.printing.proofs.turn.Tie as tie
@@ -11,7 +9,7 @@ returns : tie.Need-returns
 returns c =
     let awaited = c .before .before in
     let start = awaited .before .before .before .before .before in
-    waiting _ _ _ _ (awaited .before .next-at .ensures) _ (start .pre) (awaited .is-awaited .ensures) (c .before .if1 .taken)
+    waiting _ _ _ _ (awaited .before .decode .ensures) _ (start .pre) (awaited .is-awaited .ensures) (c .before .if1 .taken)
     (c .idle .ensures)
 
 -- the input has ended between commands
@@ -19,7 +17,7 @@ returns-2 : tie.Need-returns-2
 returns-2 c =
     let awaited = c .before .before .before in
     let start = awaited .before .before .before .before .before in
-    ending _ _ _ _ (awaited .before .next-at .ensures) _ (start .pre) (awaited .is-awaited .ensures) (c .before .before .if1 .left)
+    ending _ _ _ _ (awaited .before .decode .ensures) _ (start .pre) (awaited .is-awaited .ensures) (c .before .before .if1 .left)
     (c .before .if2 .taken) (c .idle2 .ensures)
 
 -- the command is refused
@@ -27,22 +25,25 @@ returns-3 : tie.Need-returns-3
 returns-3 c =
     let line = c .before .before in
     let test = line .before .before in
-    let asked = test .before .before .before .before .before .before in
-    let more = asked .before .before in
+    let asked = test .before .before .before .before in
+    let more = asked .before .before .before in
     let awaited = more .before .before in
-    refusing _ _ _ _ (awaited .before .next-at .ensures) (awaited .is-awaited .ensures) (more .before .if1 .left) (more .if2 .left)
-    (read-as (asked .serve .ensures) (sym (awaited .before .next-at .ensures))) (test .if3 .taken) (line .refused-line .ensures)
+    refusing _ _ _ _ (awaited .before .decode .ensures) (awaited .is-awaited .ensures) (more .before .if1 .left) (more .if2 .left)
+    (asked .command .ensures) (test .if3 .taken) (line .refused-line .ensures)
 
 -- the command is accepted
 returns-4 : tie.Need-returns-4
 returns-4 c =
     let line = c .before .before in
-    let test = line .before .before .before in
-    let asked = test .before .before .before .before .before .before in
-    let more = asked .before .before in
+    let test = line .before .before .before .before in
+    let asked = test .before .before .before .before in
+    let more = asked .before .before .before in
     let awaited = more .before .before in
-    accepting _ _ _ _ (awaited .before .next-at .ensures) (awaited .is-awaited .ensures) (more .before .if1 .left) (more .if2 .left)
-    (read-as (asked .serve .ensures) (sym (awaited .before .next-at .ensures))) (test .if3 .left) (line .accepted-line .ensures)
+    accepting _ _ _ _ (awaited .before .decode .ensures) (awaited .is-awaited .ensures) (more .before .if1 .left) (more .if2 .left)
+    (asked .command .ensures) (awaited .before .before .before .before .before .pre) (test .if3 .left) (line .accepted-line .ensures)
+
+accepted-line-requires : tie.Need-accepted-line-requires
+accepted-line-requires c κs = c .before .before .before .before .before .before .before .command .ensures .valid
 
 pub turn-spec : {M : Type 1} → statement M
 turn-spec =
@@ -59,7 +60,7 @@ turn-spec =
     (λ c. search needs)
     (λ c. search needs)
     returns-3
-    (λ c κs. search needs)
+    accepted-line-requires
     (λ c. search needs)
     (λ c. search needs)
     returns-4)

@@ -41,7 +41,7 @@ use Rattle.reader.specs.declared.Reader.{Reader}
 use Rattle.codec.specs.declared.Decoded.{Decoded}
 use Rattle.reader.proofs.Reader as T
 use Rattle.reader.proofs.Reader.Laws as T′
-use Rattle.reader.proofs.Held.{Row, value, Lent}
+use Rattle.reader.proofs.Parts.{Row, value, Lent}
 use Rattle.reader.proofs.Next.{at-decode}
 use Rattle.codec.proofs.Decoded as S
 use Rattle.codec.proofs.Decoded.Laws as S′

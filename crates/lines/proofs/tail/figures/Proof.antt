@@ -1,7 +1,7 @@
 -- `lines::tail::figures` meets its contract: the nine pieces, one behind the other, are the definition's.
 use borrow.Author.Needs.{needs}
 use Rattle.rules.specs.Text.{ascii, figures}
-use Rattle.lines.proofs.Pieces.{_then_, kept}
+use Rattle.put.proofs.Pieces.{_then_, kept}
 use Rattle.lines.proofs.tail.figures.Statement.{statement}
 use Rattle.lines.proofs.tail.figures.Tie as tie
 
@@ -19,11 +19,11 @@ returns c =
     let booked-name = booked .before .before .before .before in
     let all =
     booked-name .text .ensures
-    then booked .number .ensures
+    then booked .decimal .ensures
     then used-name .text2 .ensures
-    then used .number2 .ensures
+    then used .decimal2 .ensures
     then full-name .text3 .ensures
-    then full .number3 .ensures
+    then full .decimal3 .ensures
     then start .text4 .ensures
     then listed .listed .ensures
     then feed .byte .ensures in

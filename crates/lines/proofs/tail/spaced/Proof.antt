@@ -6,8 +6,8 @@ use borrow.Author.Needs.{needs}
 use lib.ListN.{length, take}
 use lib.Seq.{take-all}
 use Rattle.rules.specs.Text.{spaced}
-use Rattle.lines.specs.Put.{Put}
-use Rattle.lines.proofs.Pieces.{nothing, turn, kept}
+use Rattle.put.specs.Put.{Put}
+use Rattle.put.proofs.Pieces.{nothing, turn, kept}
 use Rattle.lines.proofs.tail.spaced.Statement.{statement}
 use Rattle.lines.proofs.tail.spaced.Tie as tie
 

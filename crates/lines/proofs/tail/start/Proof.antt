@@ -2,7 +2,7 @@
 use mathlib.Core.List.{append-nil}
 use borrow.Author.Needs.{needs}
 use Rattle.rules.specs.Text.{ascii, spaced}
-use Rattle.lines.proofs.Pieces.{_then_}
+use Rattle.put.proofs.Pieces.{_then_}
 use Rattle.lines.proofs.tail.start.Statement.{statement}
 use Rattle.lines.proofs.tail.start.Tie as tie
 
@@ -11,7 +11,7 @@ unfolding ascii spaced
 returns c =
     let number = c .before .before in
     let space = number .before .before .before .before in
-    rw append-nil (space .byte .ensures then number .number .ensures)
+    rw append-nil (space .byte .ensures then number .decimal .ensures)
 
 pub start-spec : {M : Type 1} → statement M
 start-spec = tie.close (tie.spec (λ c κs. search needs) (λ c κs. search needs) (λ c. search needs) returns)

@@ -1,21 +1,39 @@
--- `report::report` meets its contract: the arrays that are lent are the plan's own.
+-- `plan::report::report` meets its contract.
+use mathlib.Core.Path.{refl, sym, _∙_}
 use borrow.Author.Needs.{needs}
+use Rattle.words.specs.Contents.{contents}
+use Rattle.plan.proofs.Obeying.{refusal, judged}
+use Rattle.plan.proofs.Reporting.{may-end, report-sound, report-answers}
 use Rattle.plan.proofs.report.report.Statement.{statement}
 use Rattle.plan.proofs.report.report.Tie as tie
 
-settle-requires : tie.Need-settle-requires
-settle-requires c κs =
-    let start = c .before .before .before .before .before .before .before .before .before .before .before .before .before .before .before .before .before .before .before .before in
-    record { beside = start .args .t1; led = start .pre .0; room = start .pre .1 }
+refuses : tie.Need-returns
+refuses c =
+    refusal (c .before .before .report-ground .result) (c .before .before .before .before .before .pre .0 .sound) (c .refused .ensures) (c .before .if1 .taken) (sym (c .before .before .report-ground .ensures))
+    (c .before .before .before .before .before .args .starts .now)
 
-same-length : tie.Need-same-length
-same-length c = search needs
+end-requires : tie.Need-end-requires
+end-requires c κs =
+    may-end (contents (c .before .before .before .before .before .before .args .plan .now)) (c .before .before .before .before .before .before .args .task) (c .before .before .before .before .before .before .pre .0 .reached) (c .before .before .before .before .before .before .pre .0 .sound)
+    (sym (c .before .before .before .report-ground .ensures) ∙ c .before .before .if1 .left) (c .before .before .before .before .before .before .args .starts .now) (c .before .before .before .before .before .before .pre .1)
 
-returns : tie.Need-returns
-returns c =
-    let settled = c .before .before .before in
-    let start = settled .before .before .before .before .before .before .before .before .before .before .before .before .before .before .before .before .before .before .before .before .before in
-    settled .settle .ensures .judged (start .args .t1) (start .pre .0)
+reports : tie.Need-returns-2
+reports c =
+    let w = c .before .before .before .before .before .before .before .before .before .args .plan .now in
+    let j = c .before .before .before .before .before .before .before .before .before .args .task in
+    let none = sym (c .before .before .before .before .before .before .report-ground .ensures) ∙ c .before .before .before .before .before .if1 .left in
+    let valid = c .before .before .before .before .before .before .before .before .before .pre .0 in
+    judged none refl
+    (report-answers (contents w) j (valid .reached) (valid .sound) none (c .before .before .end .ensures) (c .before .before .before .before .before .before .before .before .before .args .used))
+    (report-sound (contents w) j (valid .reached) (valid .sound) none (c .before .before .end .ensures))
 
 pub report-spec : {M : Type 1} → statement M
-report-spec = tie.close (tie.spec settle-requires same-length returns)
+report-spec =
+    tie.close
+    (tie.spec
+    (λ c κs. search needs)
+    (λ c κs. search needs)
+    refuses
+    end-requires
+    (λ c. search needs)
+    reports)

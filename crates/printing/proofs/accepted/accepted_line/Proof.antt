@@ -7,23 +7,23 @@ use Rattle.printing.proofs.accepted.accepted_line.Statement.{statement}
 use Rattle.printing.proofs.accepted.accepted_line.Tie as tie
 
 returns : tie.Need-returns
-returns c = as-text (of-refused _ (c .enum-told .given .1)) (no-text _)
+returns c = as-text (of-refused _ (c .enum-told .given .1)) (no-text _ _)
 
 returns-2 : tie.Need-returns-2
 unfolding line
-returns-2 c = as-text (of-read _ (c .before .before .before .asked .given .1) (c .enum-told2 .given .1)) (no-text _)
+returns-2 c = as-text (of-read _ (c .before .before .before .asked .given .1) (c .enum-told2 .given .1)) (no-text _ _)
 
 returns-3 : tie.Need-returns-3
 unfolding line
-returns-3 c = as-text (of-read _ (c .before .before .before .asked .given .1) (c .enum-told3 .given .1)) (no-text _)
+returns-3 c = as-text (of-read _ (c .before .before .before .asked .given .1) (c .enum-told3 .given .1)) (no-text _ _)
 
 returns-4 : tie.Need-returns-4
 unfolding line
-returns-4 c = as-text (of-read _ (c .before .before .before .asked .given .1) (c .enum-told4 .given .1)) (no-text _)
+returns-4 c = as-text (of-read _ (c .before .before .before .asked .given .1) (c .enum-told4 .given .1)) (no-text _ _)
 
 returns-5 : tie.Need-returns-5
 unfolding line
-returns-5 c = as-text (of-read _ (c .before .before .before .asked .given .1) (c .enum-told5 .given .1)) (no-text _)
+returns-5 c = as-text (of-read _ (c .before .before .before .asked .given .1) (c .enum-told5 .given .1)) (no-text _ _)
 
 returns-6 : tie.Need-returns-6
 returns-6 c =

@@ -37,8 +37,8 @@ use denote.Exit.{yes}
 use Rattle.reader.specs.Onward.{onward}
 use Rattle.reader.specs.declared.Reader.{Reader}
 use Rattle.reader.proofs.Reader.Laws as T′
-use Rattle.reader.proofs.Held.{value, Lent, holds}
-use Rattle.reader.proofs.Asked.{Ahead, to, Told, asked, said}
+use Rattle.reader.proofs.Parts.{value, Lent, holds}
+use Rattle.reader.proofs.AheadCall.{Ahead, to, Ensured, asked, said}
 use Rattle.reader.proofs.ahead.Symbol as ahead-def
 use Rattle.reader.proofs.ahead.Symbol.{name as #reader·ahead}
 use Rattle.reader.proofs.ahead.Met as ahead-thm
@@ -86,7 +86,7 @@ module _ {M : Type 1} (𝓤 : URA M) (H : Heap 𝓤) (A : Atoms 𝓤) (W : Given
         -- [room for _3; …; _2; …; _1; …; room for _0; …; what is had on entry]
         move ! (8 ∷ []) $ use1 W (raw (Ahead 𝓤 H A mem run .pre (to 𝓤 H A mem run κ q s 0 n)) ⊛ ‵ (Lent κ s)) goes $ split ! $
         calls-at ! fm (Ahead 𝓤 H A mem run) known (to 𝓤 H A mem run κ q s 0 n) (and-then ! (load ! (from ! (stop !)) (look ! 6 refl)) (and-then ! (lit ! tt) (and-then ! (load ! (from ! (stop !)) (look ! 4 refl)) (no-more !)))) (λ u.
-        use1 W (later (some (λ (r : ℕ). ((‵ (flft κ q) ⊛ ‵ ftrue) ⊛ ‵ (usize .own r (u ∷ []))) ⊛ raw (Told 𝓤 H A mem run κ q s 0 n r)))) (id⊢ 𝓤 _) $ await ! tt $ pick ! (λ r.
+        use1 W (later (some (λ (r : ℕ). ((‵ (flft κ q) ⊛ ‵ ftrue) ⊛ ‵ (usize .own r (u ∷ []))) ⊛ raw (Ensured 𝓤 H A mem run κ q s 0 n r)))) (id⊢ 𝓤 _) $ await ! tt $ pick ! (λ r.
         split ! $ move ! (1 ∷ []) $ use1 W (raw (fact 𝓤 (r ≡ far))) (said 𝓤 H A mem run κ q s 0 n r) $ heard ! (r ≡ far) (λ e. split ! $ move ! (1 ∷ []) $
         peeks ! usize (Is usize) (shows 𝓤 H A usize) r (u ∷ []) (λ is.
         -- [the number; the token; what the stream owns; room for _3; …; _2; …; _1; …; room for _0; …]

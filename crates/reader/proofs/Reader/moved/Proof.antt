@@ -36,8 +36,8 @@ use denote.Exit.{yes}
 use Rattle.reader.specs.Onward.{onward}
 use Rattle.reader.specs.declared.Reader.{Reader}
 use Rattle.reader.proofs.Reader.Laws as T′
-use Rattle.reader.proofs.Held.{Row, shape, laws, Lent, Held, lends, holds}
-use Rattle.reader.proofs.Asked.{Ahead, to, Told, asked, said}
+use Rattle.reader.proofs.Parts.{Row, shape, laws, Lent, OwnReader, lends, holds}
+use Rattle.reader.proofs.AheadCall.{Ahead, to, Ensured, asked, said}
 use Rattle.reader.proofs.ahead.Symbol as ahead-def
 use Rattle.reader.proofs.ahead.Symbol.{name as #reader·ahead}
 use Rattle.reader.proofs.ahead.Met as ahead-thm
@@ -67,17 +67,17 @@ module _ {M : Type 1} (𝓤 : URA M) (H : Heap 𝓤) (A : Atoms 𝓤) (W : Given
   Post = walkOf 𝓤 H A moved.ended stayed (moved.clauses 𝓤 H A mem run) .post (((κ, tt), (q, tt), tt, (d, (n, tt)), passed), tt)
 
   -- the stream goes to the callee, and the reader is kept
-  goes : d .place < 2 ^ 64 → ent 𝓤 (onEntry 𝓤 H A moved.signature (κ, tt) (q, tt) (d, (n, tt)) passed) (sep 𝓤 (Ahead 𝓤 H A mem run .pre (to 𝓤 H A mem run κ q (d .bytes) (d .place) n)) (sem 𝓤 H A (Held κ d)))
+  goes : d .place < 2 ^ 64 → ent 𝓤 (onEntry 𝓤 H A moved.signature (κ, tt) (q, tt) (d, (n, tt)) passed) (sep 𝓤 (Ahead 𝓤 H A mem run .pre (to 𝓤 H A mem run κ q (d .bytes) (d .place) n)) (sem 𝓤 H A (OwnReader κ d)))
   goes place-fits =
       qed W ((‵ (flft κ q) ⊛ ‵ ftrue) ∷ ‵ (owns (Row (κ, tt) ∷ usize ∷ []) (d, (n, tt)) passed) ∷ []) ∵
-      move ! (1 ∷ []) $ fsplit ! $ move ! (1 ∷ []) $ drop ! $ use1 W (‵ (Lent κ (d .bytes)) ⊛ ‵ (Held κ d)) (lends 𝓤 H A W κ d) $ split ! $
+      move ! (1 ∷ []) $ fsplit ! $ move ! (1 ∷ []) $ drop ! $ use1 W (‵ (Lent κ (d .bytes)) ⊛ ‵ (OwnReader κ d)) (lends 𝓤 H A W κ d) $ split ! $
       move ! (0 ∷ 2 ∷ []) $ use2 W (raw (Ahead 𝓤 H A mem run .pre (to 𝓤 H A mem run κ q (d .bytes) (d .place) n))) (asked 𝓤 H A mem run κ q (d .bytes) (d .place) n W place-fits n-fits) $ frame ! $ done !
 
-  exits : (r : ℕ) (u : Val) → r ≡ far → r < 2 ^ 64 → ent 𝓤 (⋆ 𝓤 H A (‵ (usize .own r (u ∷ [])) ∷ (‵ (flft κ q) ⊛ ‵ ftrue) ∷ ‵ (Held κ d) ∷ [])) (Post (T′.lowered (after r)))
+  exits : (r : ℕ) (u : Val) → r ≡ far → r < 2 ^ 64 → ent 𝓤 (⋆ 𝓤 H A (‵ (usize .own r (u ∷ [])) ∷ (‵ (flft κ q) ⊛ ‵ ftrue) ∷ ‵ (OwnReader κ d) ∷ [])) (Post (T′.lowered (after r)))
   exits r u e fits =
-      qed W (‵ (usize .own r (u ∷ [])) ∷ (‵ (flft κ q) ⊛ ‵ ftrue) ∷ ‵ (Held κ d) ∷ []) ∵
+      qed W (‵ (usize .own r (u ∷ [])) ∷ (‵ (flft κ q) ⊛ ‵ ftrue) ∷ ‵ (OwnReader κ d) ∷ []) ∵
       suffices ! _ (ends-at 𝓤 H A moved.ended stayed (moved.clauses 𝓤 H A mem run) W (((κ, tt), (q, tt), tt, (d, (n, tt)), passed), tt) (T′.lowered (after r)) (after r) (tt, (tt, tt)) (tt, (tt, tt))) $ says ! (refl, e) $
-      drop ! $ frame ! $ use1 W (‵ (Lent κ (d .bytes)) ⊛ ‵ (Held κ d)) (lends 𝓤 H A W κ d) $ split ! $
+      drop ! $ frame ! $ use1 W (‵ (Lent κ (d .bytes)) ⊛ ‵ (OwnReader κ d)) (lends 𝓤 H A W κ d) $ split ! $
       nothing ! $ owned ! usize (Is usize) (uint-makes 𝓤 H A W w64) n _ (refl, n-fits) $ fjoin ! $ move ! (2 ∷ 0 ∷ []) $ fjoin ! $ frame ! $
       by ! (holds 𝓤 H A W κ (d .bytes) r fits)
 
@@ -90,9 +90,9 @@ module _ {M : Type 1} (𝓤 : URA M) (H : Heap 𝓤) (A : Atoms 𝓤) (W : Given
         assigns ! (of-opd ! (load ! (from ! (fld ! refl (stop !))) (look-in ! 10 (sub ! 0 refl (whole !))))) (from ! (stop !)) (init ! 6 refl (tt, wt .1 .0)) $
         assigns ! (of-opd ! (load ! (from ! (fld ! refl (stop !))) (look-in ! 10 (sub ! 0 refl (whole !))))) (from ! (stop !)) (init ! 2 refl (tt, wt .1 .0)) $
         assigns ! (of-opd ! (load ! (from ! (fld ! refl (stop !))) (look-in ! 10 (sub ! 1 refl (whole !))))) (from ! (stop !)) (init ! 0 refl (tt, wt .1 .1 .0)) $
-        move ! (14 ∷ []) $ use1 W (raw (Ahead 𝓤 H A mem run .pre (to 𝓤 H A mem run κ q (d .bytes) (d .place) n)) ⊛ ‵ (Held κ d)) (goes (wt .1 .1 .0 .fits)) $ split ! $
+        move ! (14 ∷ []) $ use1 W (raw (Ahead 𝓤 H A mem run .pre (to 𝓤 H A mem run κ q (d .bytes) (d .place) n)) ⊛ ‵ (OwnReader κ d)) (goes (wt .1 .1 .0 .fits)) $ split ! $
         calls-at ! fm (Ahead 𝓤 H A mem run) known (to 𝓤 H A mem run κ q (d .bytes) (d .place) n) (and-then ! (load ! (from ! (stop !)) (look ! 4 refl)) (and-then ! (load ! (from ! (stop !)) (look ! 2 refl)) (and-then ! (load ! (from ! (stop !)) (look ! 10 refl)) (no-more !)))) (λ u.
-        use1 W (later (some (λ (r : ℕ). ((‵ (flft κ q) ⊛ ‵ ftrue) ⊛ ‵ (usize .own r (u ∷ []))) ⊛ raw (Told 𝓤 H A mem run κ q (d .bytes) (d .place) n r)))) (id⊢ 𝓤 _) $ await ! tt $ pick ! (λ r.
+        use1 W (later (some (λ (r : ℕ). ((‵ (flft κ q) ⊛ ‵ ftrue) ⊛ ‵ (usize .own r (u ∷ []))) ⊛ raw (Ensured 𝓤 H A mem run κ q (d .bytes) (d .place) n r)))) (id⊢ 𝓤 _) $ await ! tt $ pick ! (λ r.
         split ! $ move ! (1 ∷ []) $ use1 W (raw (fact 𝓤 (r ≡ far))) (said 𝓤 H A mem run κ q (d .bytes) (d .place) n r) $ heard ! (r ≡ far) (λ e. split ! $ move ! (1 ∷ []) $
         peeks ! usize (Is usize) (shows 𝓤 H A usize) r (u ∷ []) (λ is.
         -- [the number; the token; what the reader owns; _6; …; _5; …; room for _4; …; _3; …; _2; …; _1; …; room for _0; …]

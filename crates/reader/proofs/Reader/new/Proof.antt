@@ -31,7 +31,7 @@ use denote.Triple.Walked.{says, Stays, stay-none-slice, walkOf, goes-none-slice,
 use denote.Exit.{yes}
 use Rattle.reader.specs.declared.Reader.{Reader}
 use Rattle.reader.proofs.Reader.Laws as T′
-use Rattle.reader.proofs.Held.{value, Lent, holds}
+use Rattle.reader.proofs.Parts.{value, Lent, holds}
 use Rattle.reader.proofs.Reader.new.Key.{name as #reader·new}
 use Rattle.reader.proofs.Reader.new as new
 use Rattle.reader.proofs.Reader.new.Statement as stated

@@ -40,7 +40,7 @@ use Rattle.codec.specs.Meaning.{decoded}
 use Rattle.reader.specs.declared.Reader.{Reader}
 use Rattle.codec.specs.declared.Decoded.{Decoded}
 use Rattle.reader.proofs.Reader.Laws as T′
-use Rattle.reader.proofs.Held.{Row, shape, laws, value, Lent, Held, lends}
+use Rattle.reader.proofs.Parts.{Row, shape, laws, value, Lent, OwnReader, lends}
 use Rattle.codec.proofs.Decoded as S
 use Rattle.codec.proofs.Decoded.Laws as S′
 use Rattle.codec.proofs.decode as decode
@@ -81,10 +81,10 @@ module _ {M : Type 1} (𝓤 : URA M) (H : Heap 𝓤) (A : Atoms 𝓤) (W : Given
   asked = qed W ((‵ (flft κ q) ⊛ ‵ ftrue) ∷ ‵ (owns (ShrSlice (named 0) κ u8 ∷ usize ∷ []) (d .bytes, (d .place, tt)) passed) ∷ []) ∵ join ! $ frame ! $ done !
 
   -- the stream goes to the callee, and the reader is kept
-  goes : d .place < 2 ^ 64 → ent 𝓤 (onEntry 𝓤 H A next.signature (κ, tt) (q, tt) (d, tt) (mach ∷ [], tt)) (sep 𝓤 (Decode 𝓤 H A mem run .pre to) (sem 𝓤 H A (Held κ d)))
+  goes : d .place < 2 ^ 64 → ent 𝓤 (onEntry 𝓤 H A next.signature (κ, tt) (q, tt) (d, tt) (mach ∷ [], tt)) (sep 𝓤 (Decode 𝓤 H A mem run .pre to) (sem 𝓤 H A (OwnReader κ d)))
   goes fits =
       qed W ((‵ (flft κ q) ⊛ ‵ ftrue) ∷ ‵ (owns (Row (κ, tt) ∷ []) (d, tt) (mach ∷ [], tt)) ∷ []) ∵
-      move ! (1 ∷ []) $ fsplit ! $ move ! (1 ∷ []) $ drop ! $ use1 W (‵ (Lent κ (d .bytes)) ⊛ ‵ (Held κ d)) (lends 𝓤 H A W κ d) $ split ! $
+      move ! (1 ∷ []) $ fsplit ! $ move ! (1 ∷ []) $ drop ! $ use1 W (‵ (Lent κ (d .bytes)) ⊛ ‵ (OwnReader κ d)) (lends 𝓤 H A W κ d) $ split ! $
       -- [what the stream owns; what the reader owns; the token]
       nothing ! $ owned ! usize (Is usize) (uint-makes 𝓤 H A W w64) (d .place) _ (refl, fits) $ fjoin ! $ move ! (1 ∷ 0 ∷ []) $ fjoin ! $
       move ! (2 ∷ 0 ∷ []) $ use2 W (raw (Decode 𝓤 H A mem run .pre to)) asked $ frame ! $ done !
@@ -93,9 +93,9 @@ module _ {M : Type 1} (𝓤 : URA M) (H : Heap 𝓤) (A : Atoms 𝓤) (W : Given
   said : (r : Decoded) → ent 𝓤 (ensured 𝓤 H A decode.ended (decode.clauses 𝓤 H A mem run) (κ, tt) (d .bytes, (d .place, tt)) tt r) (fact 𝓤 (decoded r ≡ found))
   said r = exE 𝓤 _ (λ ws. snd∗ 𝓤 (sem 𝓤 H A (lasts decode.ended (κ, tt) (d .bytes, (d .place, tt)) ws)) (fact 𝓤 (decoded r ≡ found)))
 
-  exits : (r : Decoded) (u : Val) → decoded r ≡ found → ent 𝓤 (⋆ 𝓤 H A (‵ (S.the-row .own r (u ∷ [])) ∷ (‵ (flft κ q) ⊛ ‵ ftrue) ∷ ‵ (Held κ d) ∷ [])) (Post u)
+  exits : (r : Decoded) (u : Val) → decoded r ≡ found → ent 𝓤 (⋆ 𝓤 H A (‵ (S.the-row .own r (u ∷ [])) ∷ (‵ (flft κ q) ⊛ ‵ ftrue) ∷ ‵ (OwnReader κ d) ∷ [])) (Post u)
   exits r u e =
-      qed W (‵ (S.the-row .own r (u ∷ [])) ∷ (‵ (flft κ q) ⊛ ‵ ftrue) ∷ ‵ (Held κ d) ∷ []) ∵
+      qed W (‵ (S.the-row .own r (u ∷ [])) ∷ (‵ (flft κ q) ⊛ ‵ ftrue) ∷ ‵ (OwnReader κ d) ∷ []) ∵
       suffices ! _ (ends-at 𝓤 H A next.ended stayed (next.clauses 𝓤 H A mem run) W (((κ, tt), (q, tt), tt, (d, tt), (mach ∷ [], tt)), tt) u r (tt, tt) (tt, tt)) $ says ! e $
       move ! (1 ∷ []) $ frame ! $ nothing ! $ move ! (2 ∷ 0 ∷ []) $ fjoin ! $ frame ! $ done !
 
@@ -106,7 +106,7 @@ module _ {M : Type 1} (𝓤 : URA M) (H : Heap 𝓤) (A : Atoms 𝓤) (W : Given
         alloc1 ! (λ l₀. alloc1 ! (λ l₁. alloc1 ! (λ l₂. alloc1 ! (λ l₃. alloc0 ! $ params1 ! $ pass1 ! (init ! 4 refl wt) $ pass0 ! $
         assigns ! (of-opd ! (load ! (from ! (fld ! refl (stop !))) (look-in ! 4 (sub ! 0 refl (whole !))))) (from ! (stop !)) (init ! 2 refl (tt, wt .1 .0)) $
         assigns ! (of-opd ! (load ! (from ! (fld ! refl (stop !))) (look-in ! 4 (sub ! 1 refl (whole !))))) (from ! (stop !)) (init ! 0 refl (tt, wt .1 .1 .0)) $
-        move ! (8 ∷ []) $ use1 W (raw (Decode 𝓤 H A mem run .pre to) ⊛ ‵ (Held κ d)) (goes (wt .1 .1 .0 .fits)) $ split ! $
+        move ! (8 ∷ []) $ use1 W (raw (Decode 𝓤 H A mem run .pre to) ⊛ ‵ (OwnReader κ d)) (goes (wt .1 .1 .0 .fits)) $ split ! $
         calls-at ! fm (Decode 𝓤 H A mem run) known to (and-then ! (load ! (from ! (stop !)) (look ! 4 refl)) (and-then ! (load ! (from ! (stop !)) (look ! 2 refl)) (no-more !))) (λ u.
         use1 W (later (some (λ (r : Decoded). ((‵ (flft κ q) ⊛ ‵ ftrue) ⊛ ‵ (S.the-row .own r (u ∷ []))) ⊛ raw (ensured 𝓤 H A decode.ended (decode.clauses 𝓤 H A mem run) (κ, tt) (d .bytes, (d .place, tt)) tt r)))) (id⊢ 𝓤 _) $ await ! tt $ pick ! (λ r.
         split ! $ move ! (1 ∷ []) $ use1 W (raw (fact 𝓤 (decoded r ≡ found))) (said r) $ heard ! (decoded r ≡ found) (λ e. split ! $ move ! (1 ∷ []) $

@@ -30,7 +30,7 @@ use denote.Triple.Walked.{says, Stays, stay-none, walkOf, goes-none, Walks, ends
 use denote.Exit.{yes}
 use Rattle.reader.specs.declared.Reader.{Reader}
 use Rattle.reader.proofs.Reader.Laws as T′
-use Rattle.reader.proofs.Held.{Row, shape, laws}
+use Rattle.reader.proofs.Parts.{Row, shape, laws}
 use Rattle.reader.proofs.Reader.place.Key.{name as #reader·place}
 use Rattle.reader.proofs.Reader.place as place
 use Rattle.reader.proofs.Reader.place.Statement as stated

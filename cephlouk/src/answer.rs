@@ -1,0 +1,41 @@
+//! What a command answers.
+
+use crate::refusal::Refusal;
+
+/// An accepted command.
+#[derive(Clone, Copy, Debug, PartialEq, Eq)]
+pub struct Accepted<'a> {
+    /// The bytes of the command; the next one may stand behind them.
+    pub used: usize,
+    /// The steps that start now, in order.
+    pub starts: &'a [u16],
+    /// Of BEGIN: the most trays that the activation order needs, one step
+    /// after another.
+    pub peak: u64,
+    /// Of DONE: to how many steps freed trays were offered.
+    pub offers: usize,
+}
+
+/// The plain numbers of an answer, as the library gives them; in a refusal all
+/// but the first are 0.
+#[repr(C)]
+#[derive(Clone, Copy, Debug, Default, PartialEq, Eq)]
+pub struct Answer {
+    /// 0 for accepted, or the number of the refusal.
+    pub number: u8,
+    /// The bytes of the command.
+    pub used: usize,
+    /// How many steps start now; they stand at the front of the start list.
+    pub starts: usize,
+    /// Of BEGIN: the peak of the activation order.
+    pub peak: u64,
+    /// Of DONE: how many offers were made.
+    pub offers: usize,
+}
+
+impl Answer {
+    /// Why the command was refused, if it was.
+    pub fn refusal(&self) -> Option<Refusal> {
+        Refusal::of_number(self.number)
+    }
+}

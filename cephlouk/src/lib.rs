@@ -1,0 +1,58 @@
+//! Cephlouk tells the cooks of a clinic kitchen which step to start each time
+//! a step ends, so that the cold room never overfills and the day never
+//! sticks. This is the safe side of the proved library: a [`Plan`] is kept,
+//! takes one command after another and can be asked how the day stands.
+//!
+//! A command is one byte and operands of fixed width, lowest byte first:
+//!
+//! | byte | operands | meaning |
+//! |---|---|---|
+//! | 01 | n (2 bytes), p (1), M (4) | PLAN: drop the old plan, open one of n steps, p stations and M tray places |
+//! | 02 | parent (2), work (2), out (2) | STEP: the next step; parent 0 is the last step |
+//! | 03 | step (2) | next in the activation order |
+//! | 04 | step (2) | next in the execution order |
+//! | 05 | none | BEGIN: the day begins |
+//! | 06 | step (2) | DONE: this step has ended |
+//!
+//! Two salads go into one bowl, and the cold room has 7 places:
+//!
+//! ```
+//! use cephlouk::{Phase, Plan, Refusal};
+//!
+//! let mut plan = Plan::new();
+//! plan.command(&[0x01, 3, 0, 2, 7, 0, 0, 0])?; // 3 steps, 2 stations, 7 places
+//! plan.command(&[0x02, 3, 0, 5, 0, 1, 0])?; // step 1 feeds 3, work 5, out 1
+//! plan.command(&[0x02, 3, 0, 5, 0, 1, 0])?; // step 2 too
+//! plan.command(&[0x02, 0, 0, 0, 0, 1, 0])?; // step 3 is the last
+//! for step in 1..=3 {
+//!     plan.command(&[0x03, step, 0])?;
+//!     plan.command(&[0x04, step, 0])?;
+//! }
+//!
+//! let begun = plan.command(&[0x05])?;
+//! assert_eq!(begun.peak, 7);
+//! assert_eq!(begun.starts, [1]);
+//! assert_eq!(plan.booked(), 6);
+//!
+//! // Step 2 has to wait, and what is refused changes nothing.
+//! assert_eq!(plan.command(&[0x06, 2, 0]), Err(Refusal::NotRunning));
+//!
+//! assert_eq!(plan.command(&[0x06, 1, 0])?.starts, [2]);
+//! assert_eq!(plan.command(&[0x06, 2, 0])?.starts, [3]);
+//! assert_eq!(plan.command(&[0x06, 3, 0])?.starts, []);
+//! assert_eq!(plan.phase(), Phase::Over);
+//! # Ok::<(), Refusal>(())
+//! ```
+
+mod answer;
+mod desk;
+mod exported;
+mod phase;
+mod plan;
+mod refusal;
+
+pub use answer::{Accepted, Answer};
+pub use desk::{desk_peak, desk_peak_in, TaskRecord};
+pub use phase::{Phase, Standing};
+pub use plan::Plan;
+pub use refusal::Refusal;

@@ -1,0 +1,43 @@
+//! Phases and standings.
+
+/// The phase of a plan.
+#[derive(Clone, Copy, Debug, PartialEq, Eq, Hash)]
+pub enum Phase {
+    /// No plan was opened.
+    Empty,
+    /// Steps are missing.
+    Steps,
+    /// Entries of the orders, or BEGIN, are missing.
+    Orders,
+    /// The day runs.
+    Running,
+    /// The last step has ended.
+    Over,
+}
+
+impl Phase {
+    /// The phase of a number that the library answers.
+    pub(crate) fn of_number(number: u32) -> Phase {
+        match number {
+            0 => Phase::Empty,
+            1 => Phase::Steps,
+            2 => Phase::Orders,
+            3 => Phase::Running,
+            _ => Phase::Over,
+        }
+    }
+}
+
+/// How many steps wait, are booked, run and have ended.
+#[repr(C)]
+#[derive(Clone, Copy, Debug, Default, PartialEq, Eq)]
+pub struct Standing {
+    /// Steps that have no trays booked for them yet.
+    pub waiting: u32,
+    /// Steps that are booked and have not started.
+    pub activated: u32,
+    /// Steps that run.
+    pub running: u32,
+    /// Steps that have ended.
+    pub finished: u32,
+}

@@ -1,0 +1,216 @@
+//! The plan.
+
+use crate::answer::{Accepted, Answer};
+use crate::exported;
+use crate::phase::{Phase, Standing};
+use crate::refusal::Refusal;
+use std::fmt::{self, Debug, Formatter};
+
+/// A plan of at most 1,024 steps and 64 stations with its booking. It is one
+/// array of words; every command works where it stands, and nothing is kept
+/// outside it. A clone goes its own way:
+///
+/// ```
+/// use cephlouk::{Phase, Plan};
+///
+/// let mut plan = Plan::new();
+/// plan.command(&[0x01, 1, 0, 1, 0, 0, 0, 0])?; // 1 step, 1 station, no place
+/// let mut copy = plan.clone();
+/// copy.command(&[0x02, 0, 0, 0, 0, 0, 0])?; // its only step
+/// assert_eq!(copy.phase(), Phase::Orders);
+/// assert_eq!(plan.phase(), Phase::Steps);
+/// # Ok::<(), cephlouk::Refusal>(())
+/// ```
+pub struct Plan {
+    words: Box<[u32; Plan::WORDS]>,
+    /// The front has what the last accepted command started.
+    starts: [u16; Plan::LEAST_STARTS],
+}
+
+impl Plan {
+    /// The words of a plan.
+    pub const WORDS: usize = 18_497;
+    /// The most steps.
+    pub const MAX_TASKS: usize = 1024;
+    /// The most stations.
+    pub const MAX_PROCESSORS: usize = 64;
+    /// The fewest entries of a start list.
+    pub const LEAST_STARTS: usize = 64;
+
+    /// An empty plan.
+    pub fn new() -> Plan {
+        // SAFETY: the function takes nothing and tells a number.
+        let words = unsafe { exported::cephlouk_plan_words() };
+        assert_eq!(words, Plan::WORDS, "the library is of another version");
+        let words = vec![0; Plan::WORDS].into_boxed_slice();
+        let mut plan = Plan {
+            words: words.try_into().expect("so many words"),
+            starts: [0; Plan::LEAST_STARTS],
+        };
+        plan.clear();
+        plan
+    }
+
+    /// Makes it the empty plan again: all its words are 0.
+    pub fn clear(&mut self) {
+        // SAFETY: so many words are lent for writing.
+        unsafe { exported::cephlouk_empty(self.words.as_mut_ptr()) }
+    }
+
+    /// Gives it the command at the front of some bytes, of which it uses as
+    /// many as the command has. A refusal changes nothing.
+    pub fn command(&mut self, bytes: &[u8]) -> Result<Accepted<'_>, Refusal> {
+        self.command_at(bytes, 0)
+    }
+
+    /// Gives it the command at a place in some bytes. At a place behind the
+    /// last byte there is none, which is refused as cut short.
+    ///
+    /// ```
+    /// use cephlouk::{Phase, Plan, Refusal};
+    ///
+    /// // One step with no trays, both orders, BEGIN and DONE.
+    /// let day = [
+    ///     0x01, 1, 0, 1, 0, 0, 0, 0, 0x02, 0, 0, 0, 0, 0, 0, 0x03, 1, 0, 0x04, 1, 0, 0x05, 0x06, 1, 0,
+    /// ];
+    /// let mut plan = Plan::new();
+    /// let mut place = 0;
+    /// while place < day.len() {
+    ///     place += plan.command_at(&day, place)?.used;
+    /// }
+    /// assert_eq!(plan.phase(), Phase::Over);
+    /// assert_eq!(plan.command_at(&day, place), Err(Refusal::CutShort));
+    /// # Ok::<(), Refusal>(())
+    /// ```
+    pub fn command_at(&mut self, bytes: &[u8], place: usize) -> Result<Accepted<'_>, Refusal> {
+        let answer = ask(&mut self.words, bytes, place, &mut self.starts);
+        match answer.refusal() {
+            Some(refusal) => Err(refusal),
+            None => Ok(Accepted {
+                used: answer.used,
+                starts: &self.starts[..answer.starts],
+                peak: answer.peak,
+                offers: answer.offers,
+            }),
+        }
+    }
+
+    /// The same with a start list of the caller's. The steps that start now
+    /// are written to its front, and no later entry is touched; a list of
+    /// fewer than 64 entries is refused.
+    ///
+    /// ```
+    /// use cephlouk::{Plan, Refusal};
+    ///
+    /// let answer = Plan::new().command_with(&[0x05], 0, &mut [0; 63]);
+    /// assert_eq!(answer.refusal(), Some(Refusal::FewStarts));
+    /// ```
+    #[inline]
+    pub fn command_with(&mut self, bytes: &[u8], place: usize, starts: &mut [u16]) -> Answer {
+        ask(&mut self.words, bytes, place, starts)
+    }
+
+    /// The phase that it is in.
+    pub fn phase(&self) -> Phase {
+        // SAFETY, here and below: commands led to the words, which are only read.
+        Phase::of_number(unsafe { exported::cephlouk_phase(self.words.as_ptr()) })
+    }
+
+    /// Trays booked; 0 outside running.
+    pub fn booked(&self) -> u32 {
+        unsafe { exported::cephlouk_booked(self.words.as_ptr()) }
+    }
+
+    /// Trays in use; 0 outside running.
+    pub fn in_use(&self) -> u32 {
+        unsafe { exported::cephlouk_in_use(self.words.as_ptr()) }
+    }
+
+    /// Trays booked, in thousandths of the places; 0 outside running.
+    pub fn fullness(&self) -> u32 {
+        unsafe { exported::cephlouk_fullness(self.words.as_ptr()) }
+    }
+
+    /// How many steps wait, are booked, run and have ended; four zeros outside
+    /// running and over.
+    pub fn standing(&self) -> Standing {
+        unsafe { exported::cephlouk_standing(self.words.as_ptr()) }
+    }
+
+    /// All that it is: to be stored, and taken up again by
+    /// [`Plan::from_words`].
+    pub fn words(&self) -> &[u32; Plan::WORDS] {
+        &self.words
+    }
+
+    /// A plan from the words of another.
+    ///
+    /// # Safety
+    ///
+    /// The words are those of a plan, as [`Plan::words`] gave them. They are
+    /// not checked, and a command or a question on any others may do anything.
+    ///
+    /// ```
+    /// use cephlouk::Plan;
+    ///
+    /// let stored = Box::new(*Plan::new().words());
+    /// let plan = unsafe { Plan::from_words(stored) };
+    /// assert_eq!(plan.booked(), 0);
+    /// ```
+    pub unsafe fn from_words(words: Box<[u32; Plan::WORDS]>) -> Plan {
+        Plan {
+            words,
+            starts: [0; Plan::LEAST_STARTS],
+        }
+    }
+}
+
+/// One asking of words to which commands led.
+#[inline]
+fn ask(words: &mut [u32; Plan::WORDS], bytes: &[u8], place: usize, starts: &mut [u16]) -> Answer {
+    // SAFETY: commands led to the words, since a plan gives them away for
+    // reading only. Words and starts are lent for writing and the bytes for
+    // reading, so that none is a part of another.
+    unsafe {
+        exported::cephlouk_command(
+            words.as_mut_ptr(),
+            bytes.as_ptr(),
+            bytes.len(),
+            place,
+            starts.as_mut_ptr(),
+            starts.len(),
+        )
+    }
+}
+
+impl Clone for Plan {
+    fn clone(&self) -> Plan {
+        Plan {
+            words: self.words.clone(),
+            starts: self.starts,
+        }
+    }
+
+    /// Copies the words to where the plan stands.
+    fn clone_from(&mut self, other: &Plan) {
+        self.words.clone_from(&other.words);
+        self.starts = other.starts;
+    }
+}
+
+impl Default for Plan {
+    fn default() -> Plan {
+        Plan::new()
+    }
+}
+
+impl Debug for Plan {
+    fn fmt(&self, to: &mut Formatter) -> fmt::Result {
+        to.debug_struct("Plan")
+            .field("phase", &self.phase())
+            .field("booked", &self.booked())
+            .field("in_use", &self.in_use())
+            .field("standing", &self.standing())
+            .finish_non_exhaustive()
+    }
+}

@@ -1,0 +1,91 @@
+//! The grounds for refusing.
+
+use std::error::Error;
+use std::fmt::{Display, Formatter, Result};
+
+/// Why a command, or what the desk was asked, is refused. Nothing has changed
+/// then.
+///
+/// ```
+/// use cephlouk::{Plan, Refusal};
+///
+/// let refusal = Plan::new().command(&[0x05]).unwrap_err();
+/// assert_eq!(refusal, Refusal::OutOfTurn);
+/// assert_eq!(refusal.number(), 3);
+/// assert_eq!(refusal.to_string(), "the command is not in turn");
+/// ```
+#[derive(Clone, Copy, Debug, PartialEq, Eq, Hash)]
+#[repr(u8)]
+pub enum Refusal {
+    /// No byte is left at the place, or operands are cut short.
+    CutShort = 1,
+    /// The byte is none of 01 to 06.
+    UnknownByte = 2,
+    /// The command is not in turn in this phase.
+    OutOfTurn = 3,
+    /// n, p, a parent or a step number is outside its limits. At the desk also
+    /// lists of unequal lengths, of none or of too many entries.
+    OutsideLimits = 4,
+    /// The step is already in that order.
+    Repeated = 5,
+    /// DONE for a step that is not running.
+    NotRunning = 6,
+    /// The steps with parent 0 are not exactly one.
+    NotOneRoot = 7,
+    /// Some step does not stand before its parent in the activation order.
+    ParentFirst = 8,
+    /// One step after another already needs more tray places than there are.
+    PeakAboveBound = 9,
+    /// The start list has fewer than 64 entries; only
+    /// [`Plan::command_with`](crate::Plan::command_with) can meet it.
+    FewStarts = 10,
+}
+
+impl Refusal {
+    /// All of them, by their numbers.
+    const ALL: [Refusal; 10] = [
+        Refusal::CutShort,
+        Refusal::UnknownByte,
+        Refusal::OutOfTurn,
+        Refusal::OutsideLimits,
+        Refusal::Repeated,
+        Refusal::NotRunning,
+        Refusal::NotOneRoot,
+        Refusal::ParentFirst,
+        Refusal::PeakAboveBound,
+        Refusal::FewStarts,
+    ];
+
+    /// Its number, 1 to 10.
+    pub fn number(self) -> u8 {
+        self as u8
+    }
+
+    /// The refusal of a number; none for 0, which is accepted.
+    pub(crate) fn of_number(number: u8) -> Option<Refusal> {
+        Refusal::ALL
+            .into_iter()
+            .find(|refusal| refusal.number() == number)
+    }
+}
+
+impl Display for Refusal {
+    fn fmt(&self, to: &mut Formatter) -> Result {
+        to.write_str(match self {
+            Refusal::CutShort => "no byte is left, or the operands are cut short",
+            Refusal::UnknownByte => "the byte is no command",
+            Refusal::OutOfTurn => "the command is not in turn",
+            Refusal::OutsideLimits => "a number is outside its limits",
+            Refusal::Repeated => "the step is already in that order",
+            Refusal::NotRunning => "the step is not running",
+            Refusal::NotOneRoot => "the steps with parent 0 are not exactly one",
+            Refusal::ParentFirst => {
+                "some step does not stand before its parent in the activation order"
+            }
+            Refusal::PeakAboveBound => "the tray places are fewer than the peak",
+            Refusal::FewStarts => "the start list has fewer than 64 entries",
+        })
+    }
+}
+
+impl Error for Refusal {}

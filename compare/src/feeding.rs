@@ -1,0 +1,181 @@
+//! The day printer's program fed with streams and plan texts, beside what the
+//! peer prints.
+
+use peer::listening::{listen, PATIENCE};
+use peer::plan_text::Translator;
+use std::fs::File;
+use std::io::{ErrorKind, Write};
+use std::process::{Child, ChildStdin, Command, Stdio};
+use std::sync::mpsc::{Receiver, RecvTimeoutError};
+use std::thread;
+use std::time::Duration;
+
+const PRINTER: &str = concat!(env!("CARGO_MANIFEST_DIR"), "/../target/bin/printer");
+const PLAN_TEXT: &str = concat!(
+    env!("CARGO_MANIFEST_DIR"),
+    "/../peer/target/release/plan-text"
+);
+
+/// After a piece, so that the next one comes by itself.
+const PAUSE: Duration = Duration::from_micros(100);
+
+/// What was printed, and what the peer prints.
+pub struct Difference {
+    pub got: Vec<u8>,
+    pub wanted: Vec<u8>,
+}
+
+/// What the peer prints.
+pub fn expected(bytes: &[u8]) -> Vec<u8> {
+    let mut output = Vec::new();
+    peer::printer::print(bytes, &mut output).expect("memory can be written");
+    output
+}
+
+/// What is to be printed when these bytes have come and more may follow: all
+/// but the line of a command that is cut.
+fn expected_so_far(bytes: &[u8]) -> Vec<u8> {
+    let mut output = expected(bytes);
+    let end = output.len().saturating_sub(1);
+    let last_line = output[..end]
+        .iter()
+        .rposition(|&byte| byte == b'\n')
+        .map_or(0, |place| place + 1);
+    if output[last_line..].starts_with(b"refused 1 at ") {
+        output.truncate(last_line);
+    }
+    output
+}
+
+/// Feeds a stream in pieces, and waits after each for the lines that are due:
+/// each line has to come as soon as its command is whole, and none before.
+pub fn in_pieces(pieces: &[&[u8]]) -> Option<Difference> {
+    let mut printer = Printer::start(Stdio::piped());
+    let input = printer.child.stdin.take().expect("a pipe to write to");
+    let pieces = pieces.iter().map(|&piece| (piece, piece.to_vec()));
+    printer.answers(input, pieces)
+}
+
+/// Types a plan text into `plan-text` line by line, the printer behind it, and
+/// waits after each line for the printer's answer.
+pub fn typed(text: &str) -> Option<Difference> {
+    let mut plan_text = start(&mut Command::new(PLAN_TEXT), Stdio::piped());
+    let input = plan_text.stdin.take().expect("a pipe to write to");
+    let between = plan_text.stdout.take().expect("a pipe to read from");
+    let mut translator = Translator::default();
+    let lines = text.split_inclusive('\n').map(|line| {
+        let bytes = translator.line(line).expect("a line of a plan text");
+        (line.as_bytes(), bytes)
+    });
+    let difference = Printer::start(between.into()).answers(input, lines);
+    let status = plan_text.wait().expect("plan-text ends");
+    assert!(status.success(), "plan-text ends well: {status}");
+    difference
+}
+
+/// Gives the printer a stream as a file, so that each read is as long as the
+/// printer's room for it.
+pub fn from_file(name: &str, stream: &[u8]) -> Option<Difference> {
+    let path = std::env::temp_dir().join(format!("{name}-{}.stream", std::process::id()));
+    std::fs::write(&path, stream).expect("a file of the stream");
+    let input = File::open(&path).expect("the file of the stream");
+    std::fs::remove_file(&path).expect("the file goes, its bytes stay");
+    Printer::start(input.into()).end(expected(stream))
+}
+
+/// A printer that runs, and what it has printed so far.
+struct Printer {
+    child: Child,
+    heard: Receiver<Vec<u8>>,
+    got: Vec<u8>,
+}
+
+impl Printer {
+    fn start(input: Stdio) -> Printer {
+        let mut child = start(&mut Command::new(PRINTER), input);
+        let output = child.stdout.take().expect("a pipe to read from");
+        Printer {
+            child,
+            heard: listen(output),
+            got: Vec::new(),
+        }
+    }
+
+    /// Feeds pieces, each given with what it adds to the stream, and waits for
+    /// the lines that are due after each.
+    fn answers<'a>(
+        mut self,
+        mut input: ChildStdin,
+        pieces: impl Iterator<Item = (&'a [u8], Vec<u8>)>,
+    ) -> Option<Difference> {
+        let mut stream = Vec::new();
+        for (piece, bytes) in pieces {
+            feed(&mut input, piece);
+            stream.extend(bytes);
+            let due = expected_so_far(&stream);
+            self.hear(due.len());
+            if self.got != due {
+                return self.stop(due);
+            }
+        }
+        drop(input);
+        self.end(expected(&stream))
+    }
+
+    /// Waits until so many bytes were printed or no more come, and then a
+    /// little for any that are too many.
+    fn hear(&mut self, bytes: usize) {
+        while self.got.len() < bytes {
+            match self.heard.recv_timeout(PATIENCE) {
+                Ok(more) => self.got.extend(more),
+                Err(_) => return,
+            }
+        }
+        thread::sleep(PAUSE);
+        self.got.extend(self.heard.try_iter().flatten());
+    }
+
+    /// Waits for the end of the output and of the program.
+    fn end(mut self, wanted: Vec<u8>) -> Option<Difference> {
+        loop {
+            match self.heard.recv_timeout(PATIENCE) {
+                Ok(more) => self.got.extend(more),
+                Err(RecvTimeoutError::Disconnected) => break,
+                Err(RecvTimeoutError::Timeout) => {
+                    self.got.extend(b"(and does not end)\n");
+                    return self.stop(wanted);
+                }
+            }
+        }
+        let status = self.child.wait().expect("the printer ends");
+        assert!(status.success(), "the printer ends well: {status}");
+        let got = self.got;
+        (got != wanted).then_some(Difference { got, wanted })
+    }
+
+    /// Ends the program where it has printed something else.
+    fn stop(mut self, wanted: Vec<u8>) -> Option<Difference> {
+        self.child.kill().expect("the printer is ours to end");
+        self.child.wait().expect("the printer ends");
+        let got = self.got;
+        Some(Difference { got, wanted })
+    }
+}
+
+fn start(command: &mut Command, input: Stdio) -> Child {
+    command
+        .stdin(input)
+        .stdout(Stdio::piped())
+        .spawn()
+        .unwrap_or_else(|error| panic!("{:?}: {error}", command.get_program()))
+}
+
+/// Writes bytes to the printer, which may have stopped after a refusal.
+fn feed(input: &mut ChildStdin, bytes: &[u8]) {
+    match input.write_all(bytes) {
+        Err(error) if error.kind() != ErrorKind::BrokenPipe => {
+            panic!("the printer's input: {error}")
+        }
+        _ => {}
+    }
+}

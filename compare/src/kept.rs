@@ -1,0 +1,96 @@
+//! A plan that is kept and asked: the proved one, and the peer's.
+
+use cephlouk::{Answer, Phase, Standing};
+
+/// What a plan is asked, whoever has it.
+pub trait Kept {
+    /// Gives it the command at a place, with a start list.
+    fn command(&mut self, bytes: &[u8], place: usize, starts: &mut [u16]) -> Answer;
+
+    /// What it answers to every question.
+    fn questions(&self) -> Questions;
+
+    /// All that it keeps: a refusal leaves every word as it was.
+    fn words(&self) -> &[u32];
+
+    /// Makes it the empty plan again.
+    fn clear(&mut self);
+}
+
+/// The answers to all questions.
+#[derive(Clone, Copy, Debug, PartialEq, Eq)]
+pub struct Questions {
+    pub phase: Phase,
+    pub booked: u32,
+    pub in_use: u32,
+    pub fullness: u32,
+    pub standing: Standing,
+}
+
+impl Kept for cephlouk::Plan {
+    fn command(&mut self, bytes: &[u8], place: usize, starts: &mut [u16]) -> Answer {
+        self.command_with(bytes, place, starts)
+    }
+
+    fn questions(&self) -> Questions {
+        Questions {
+            phase: self.phase(),
+            booked: self.booked(),
+            in_use: self.in_use(),
+            fullness: self.fullness(),
+            standing: self.standing(),
+        }
+    }
+
+    fn words(&self) -> &[u32] {
+        cephlouk::Plan::words(self)
+    }
+
+    fn clear(&mut self) {
+        cephlouk::Plan::clear(self);
+    }
+}
+
+/// The peer does not show what it keeps.
+impl Kept for peer::Plan {
+    fn command(&mut self, bytes: &[u8], place: usize, starts: &mut [u16]) -> Answer {
+        let answer = peer::Plan::command(self, bytes, place, starts);
+        Answer {
+            number: answer.number,
+            used: answer.used,
+            starts: answer.starts,
+            peak: answer.peak.into(),
+            offers: answer.offers,
+        }
+    }
+
+    fn questions(&self) -> Questions {
+        let [waiting, activated, running, finished] = self.standing();
+        Questions {
+            phase: match self.phase() {
+                peer::Phase::Empty => Phase::Empty,
+                peer::Phase::Steps => Phase::Steps,
+                peer::Phase::Orders => Phase::Orders,
+                peer::Phase::Running => Phase::Running,
+                peer::Phase::Over => Phase::Over,
+            },
+            booked: self.booked(),
+            in_use: self.in_use(),
+            fullness: self.fullness(),
+            standing: Standing {
+                waiting,
+                activated,
+                running,
+                finished,
+            },
+        }
+    }
+
+    fn words(&self) -> &[u32] {
+        &[]
+    }
+
+    fn clear(&mut self) {
+        *self = peer::Plan::new();
+    }
+}

@@ -1,0 +1,121 @@
+//! Streams that the seeds hardly ever give.
+
+use crate::day::Day;
+use peer::generate::{encode, Shape};
+use peer::{Command, Plan, Record};
+
+/// The bytes that the day printer reads at a time, at most.
+const INPUT_BUFFER: usize = 65_536;
+
+/// The largest work and out count.
+const COUNT: u16 = u16::MAX;
+
+/// Each with what it is.
+pub fn streams() -> Vec<(&'static str, Vec<u8>)> {
+    vec![
+        ("64 starts at BEGIN", many_starts_at_begin()),
+        ("64 starts at DONE", many_starts_at_done()),
+        ("longer than the input buffer", long(&[])),
+        ("refused behind the input buffer", long(&[0x09])),
+    ]
+}
+
+/// A whole day, to come after a refusal.
+pub fn another_day() -> Vec<u8> {
+    Day::new(Shape::Random, 3, 2, 1).bytes
+}
+
+/// The most starts with the most digits that a plan has, and large figures.
+fn many_starts_at_begin() -> Vec<u8> {
+    let record = Record {
+        parent: 1,
+        work: COUNT,
+        out: COUNT,
+    };
+    star(u32::MAX, record, record, &[])
+}
+
+/// The first task takes all places, and 64 others have room when it ends.
+fn many_starts_at_done() -> Vec<u8> {
+    let all = Record {
+        parent: 1,
+        work: COUNT,
+        out: 0,
+    };
+    let some = Record {
+        work: COUNT / Plan::PROCESSORS as u16,
+        ..all
+    };
+    star(u32::from(COUNT), all, some, &[Plan::TASKS as u16])
+}
+
+/// Task 1 is fed by all others. The one with the highest number comes first in
+/// both orders; after BEGIN some tasks end.
+fn star(memory_bound: u32, first: Record, others: Record, ends: &[u16]) -> Vec<u8> {
+    let n = Plan::TASKS as u16;
+    let mut commands = vec![
+        Command::Plan {
+            tasks: n,
+            processors: Plan::PROCESSORS as u8,
+            memory_bound,
+        },
+        Command::Step(Record {
+            parent: 0,
+            ..others
+        }),
+    ];
+    commands.extend((2..n).map(|_| Command::Step(others)));
+    commands.push(Command::Step(first));
+    commands.extend((1..=n).rev().map(Command::Activation));
+    commands.extend((1..=n).rev().map(Command::Execution));
+    commands.push(Command::Begin);
+    commands.extend(ends.iter().copied().map(Command::Done));
+    commands.into_iter().flat_map(encode).collect()
+}
+
+/// Days of the most tasks, three times as long as the input buffer, and some
+/// bytes behind them.
+fn long(behind: &[u8]) -> Vec<u8> {
+    let mut stream = another_day();
+    let shapes = [Shape::Random, Shape::Chain, Shape::Star, Shape::Binary];
+    for shape in shapes.into_iter().cycle() {
+        if stream.len() > 3 * INPUT_BUFFER {
+            break;
+        }
+        stream.extend(Day::new(shape, Plan::TASKS, 4, 1).bytes);
+    }
+    stream.extend(behind);
+    stream
+}
+
+#[cfg(test)]
+mod tests {
+    use super::*;
+    use crate::feeding::expected;
+
+    /// The last line that the peer prints, and how many tasks start in it.
+    fn last_line(stream: &[u8]) -> (String, usize) {
+        let output = String::from_utf8(expected(stream)).expect("lines of text");
+        let line = output.lines().last().expect("one line at least");
+        let starts = line.split_once(" start ").map_or("", |(_, starts)| starts);
+        (line.to_string(), starts.split(' ').count())
+    }
+
+    #[test]
+    fn as_many_starts_as_processors() {
+        let (line, starts) = last_line(&many_starts_at_begin());
+        assert!(line.starts_with("begin "), "{line}");
+        assert_eq!(starts, Plan::PROCESSORS);
+        let (line, starts) = last_line(&many_starts_at_done());
+        assert!(line.starts_with("done 1024 "), "{line}");
+        assert_eq!(starts, Plan::PROCESSORS);
+    }
+
+    #[test]
+    fn a_refusal_behind_the_input_buffer() {
+        let days = long(&[]);
+        assert!(days.len() > 3 * INPUT_BUFFER);
+        let (line, _) = last_line(&long(&[0x09]));
+        assert_eq!(line, format!("refused 2 at {}", days.len()));
+    }
+}

@@ -1,0 +1,407 @@
+//! Many plans beside the peer's, several of them open at once and asked in
+//! turn, so that nothing can be shared between them unseen.
+
+use crate::fence::{Fence, Side};
+use crate::kept::{Kept, Questions};
+use crate::tally::Tally;
+use cephlouk::{Answer, Plan};
+use peer::generate::{many_askings, Asking, Random};
+use std::vec::IntoIter;
+
+/// How many plans are open at once.
+pub const OPEN: usize = 6;
+/// How many askings one plan has before another one's turn, at most.
+const ROUND: usize = 12;
+/// The longest start list.
+const LONGEST_LIST: usize = 70;
+/// The most bytes that are put ahead of those of an asking.
+const AHEAD: usize = 70_000;
+/// Longer than any bytes of an asking of the generator.
+const BYTES: usize = 1_000;
+
+/// Compares until so many askings had the same answer by both. An error tells
+/// the first difference: the seed, the number of the asking and both answers.
+pub fn compare<P: Kept>(
+    open: impl Fn(u64) -> P,
+    askings: u64,
+    first_seed: u64,
+) -> Result<Tally, String> {
+    let random = &mut Random::new(!first_seed);
+    let mut lists = Lists::new();
+    let mut tally = Tally::default();
+    let mut seeds = first_seed..;
+    let mut pairs = Vec::new();
+    for seed in seeds.by_ref().take(OPEN) {
+        pairs.push(Pair::new(open(seed), seed, random));
+        tally.plans += 1;
+    }
+    while tally.askings < askings {
+        let pair = &mut pairs[random.below(OPEN)];
+        for _ in 0..=random.below(ROUND) {
+            let Some(asking) = pair.askings.next() else {
+                let seed = seeds.next().expect("a seed");
+                pair.turn_to(&open, seed, random)?;
+                tally.plans += 1;
+                break;
+            };
+            let asking = recast(random, asking);
+            pair.ask(&asking, random, &mut lists, &mut tally)?;
+        }
+    }
+    Ok(tally)
+}
+
+/// A plan, and the peer's beside it.
+struct Pair<P> {
+    seed: u64,
+    askings: IntoIter<Asking>,
+    /// How many askings it had.
+    asked: usize,
+    plan: P,
+    /// The words of the plan after its last asking.
+    words: Vec<u32>,
+    peer: peer::Plan,
+}
+
+/// What comes of an asking.
+#[derive(PartialEq, Eq)]
+struct Outcome {
+    answer: Answer,
+    starts: Vec<u16>,
+    questions: Questions,
+}
+
+/// The lists that an asking lends, between forbidden pages.
+struct Lists {
+    bytes: Fence<u8>,
+    starts: Fence<u16>,
+}
+
+impl<P: Kept> Pair<P> {
+    fn new(plan: P, seed: u64, random: &mut Random) -> Pair<P> {
+        Pair {
+            seed,
+            askings: askings(seed, random),
+            asked: 0,
+            words: plan.words().to_vec(),
+            plan,
+            peer: peer::Plan::new(),
+        }
+    }
+
+    /// Goes on with the askings of another seed: on the same words, which are
+    /// emptied, or on a new plan.
+    fn turn_to(
+        &mut self,
+        open: impl Fn(u64) -> P,
+        seed: u64,
+        random: &mut Random,
+    ) -> Result<(), String> {
+        if random.chance(50) {
+            self.plan.clear();
+            if self.plan.words().iter().any(|&word| word != 0) {
+                return Err(format!(
+                    "seed {}: an emptied plan has words left",
+                    self.seed
+                ));
+            }
+        } else {
+            self.plan = open(seed);
+        }
+        self.seed = seed;
+        self.askings = askings(seed, random);
+        self.asked = 0;
+        self.words.copy_from_slice(self.plan.words());
+        self.peer.clear();
+        Ok(())
+    }
+
+    /// Gives one asking to both.
+    fn ask(
+        &mut self,
+        asking: &Asking,
+        random: &mut Random,
+        lists: &mut Lists,
+        tally: &mut Tally,
+    ) -> Result<(), String> {
+        if self.plan.words() != self.words {
+            return Err(self.tell(asking, "words changed while other plans were asked"));
+        }
+        let before = self.peer.questions().phase;
+        let wanted = Outcome::of(&mut self.peer, asking);
+        let sides = [Side::Front, Side::Back];
+        let bytes = lists.bytes.put(&asking.bytes, random.pick(&sides));
+        let starts = lists
+            .starts
+            .put(&marks(asking.starts_len), random.pick(&sides));
+        let got = Outcome::within(&mut self.plan, bytes, asking.place, starts);
+        if got != wanted {
+            let both = format!("\nproved: {}\npeer:   {}", got.tell(), wanted.tell());
+            return Err(self.tell(asking, &both));
+        }
+        if bytes != asking.bytes {
+            return Err(self.tell(asking, "the bytes were written to"));
+        }
+        if wanted.answer.number == 0 {
+            self.words.copy_from_slice(self.plan.words());
+        } else if self.plan.words() != self.words {
+            return Err(self.tell(asking, "a refusal changed words of the plan"));
+        }
+        tally.add(wanted.answer.number, before, &wanted.questions);
+        self.asked += 1;
+        Ok(())
+    }
+
+    fn tell(&self, asking: &Asking, what: &str) -> String {
+        let ahead = asking.bytes.get(asking.place..).unwrap_or(&[]);
+        format!(
+            "seed {}, asking {} counted from 0, {} bytes, place {}: {:02x?}, {} entries: {what}",
+            self.seed,
+            self.asked,
+            asking.bytes.len(),
+            asking.place,
+            &ahead[..ahead.len().min(8)],
+            asking.starts_len
+        )
+    }
+}
+
+impl Lists {
+    fn new() -> Lists {
+        Lists {
+            bytes: Fence::new(AHEAD + BYTES),
+            starts: Fence::new(LONGEST_LIST),
+        }
+    }
+}
+
+impl Outcome {
+    /// With lists of its own.
+    fn of(plan: &mut impl Kept, asking: &Asking) -> Outcome {
+        let starts = &mut marks(asking.starts_len);
+        Outcome::within(plan, &asking.bytes, asking.place, starts)
+    }
+
+    /// With lists that are lent.
+    fn within(plan: &mut impl Kept, bytes: &[u8], place: usize, starts: &mut [u16]) -> Outcome {
+        Outcome {
+            answer: plan.command(bytes, place, starts),
+            starts: starts.to_vec(),
+            questions: plan.questions(),
+        }
+    }
+
+    /// Of the start list only what was written.
+    fn tell(&self) -> String {
+        let mut told = format!("{:?} {:?}, start list", self.answer, self.questions);
+        let marks = marks(self.starts.len());
+        for (place, (entry, mark)) in self.starts.iter().zip(marks).enumerate() {
+            if *entry != mark {
+                told += &format!(" [{place}] {entry}");
+            }
+        }
+        told
+    }
+}
+
+/// The askings of a seed, which mostly end with a day, and some anywhere.
+fn askings(seed: u64, random: &mut Random) -> IntoIter<Asking> {
+    let least = random.between(200, 3000) as usize;
+    let mut askings = many_askings(seed, least);
+    if random.chance(25) {
+        askings.truncate(1 + random.below(askings.len()));
+    }
+    askings.into_iter()
+}
+
+/// A start list of marks, which are no step numbers.
+fn marks(entries: usize) -> Vec<u16> {
+    (0..entries as u16).map(|place| !place).collect()
+}
+
+/// An asking as it comes here: its start list has up to the most entries, and
+/// sometimes there are more bytes ahead of it.
+fn recast(random: &mut Random, asking: Asking) -> Asking {
+    let least = Plan::LEAST_STARTS;
+    let starts_len = if asking.starts_len < least {
+        random.below(least)
+    } else {
+        random.between(least as u32, LONGEST_LIST as u32) as usize
+    };
+    let mut ahead = Vec::new();
+    if random.chance(2) {
+        let most = random.pick(&[10, 1000, AHEAD]);
+        ahead = random.bytes(most);
+    }
+    Asking {
+        place: asking.place.saturating_add(ahead.len()),
+        bytes: [ahead, asking.bytes].concat(),
+        starts_len,
+    }
+}
+
+#[cfg(test)]
+mod tests {
+    use super::*;
+    use std::cell::Cell;
+    use std::rc::Rc;
+
+    /// What goes wrong.
+    #[derive(Clone, Copy)]
+    enum Fault {
+        None,
+        Offers,
+        StartList,
+        Finished,
+        Word,
+    }
+
+    /// The peer with a fault in one asking.
+    struct Faulty {
+        plan: peer::Plan,
+        words: Vec<u32>,
+        asked: usize,
+        at: usize,
+        fault: Fault,
+    }
+
+    impl Kept for Faulty {
+        fn command(&mut self, bytes: &[u8], place: usize, starts: &mut [u16]) -> Answer {
+            let mut answer = Kept::command(&mut self.plan, bytes, place, starts);
+            if self.asked == self.at {
+                match self.fault {
+                    Fault::Offers => answer.offers += 1,
+                    Fault::StartList => starts[63] = 9,
+                    Fault::Word => self.words[1] = 1,
+                    Fault::None | Fault::Finished => {}
+                }
+            }
+            self.asked += 1;
+            answer
+        }
+
+        fn questions(&self) -> Questions {
+            let mut questions = self.plan.questions();
+            if let (Fault::Finished, true) = (self.fault, self.asked == self.at + 1) {
+                questions.standing.finished += 1;
+            }
+            questions
+        }
+
+        fn words(&self) -> &[u32] {
+            &self.words
+        }
+
+        fn clear(&mut self) {
+            self.plan.clear();
+            self.fault = Fault::None;
+        }
+    }
+
+    /// What is told of a fault in an asking of a seed.
+    fn told(seed: u64, at: usize, fault: Fault) -> String {
+        let open = |opened| Faulty {
+            plan: peer::Plan::new(),
+            words: vec![0; 3],
+            asked: 0,
+            at,
+            fault: if opened == seed { fault } else { Fault::None },
+        };
+        let told = compare(open, 100_000, seed - 2);
+        told.err().expect("a difference")
+    }
+
+    /// The first asking of a seed, from one on, that is refused and has a start
+    /// list of entries enough.
+    fn refused(seed: u64, from: usize) -> usize {
+        let mut plan = peer::Plan::new();
+        let answered = many_askings(seed, from).into_iter().map(|asking| {
+            let outcome = Outcome::of(&mut plan, &asking);
+            outcome.answer.number != 0 && outcome.starts.len() >= Plan::LEAST_STARTS
+        });
+        let mut places = answered.enumerate().skip(from);
+        places.find(|&(_, is_such)| is_such).expect("a refusal").0
+    }
+
+    #[test]
+    fn the_peer_is_like_itself() {
+        let tally = compare(|_| peer::Plan::new(), 100_000, 0).expect("no difference");
+        assert!(tally.askings >= 100_000);
+    }
+
+    #[test]
+    fn a_wrong_count_is_told_with_its_seed_and_asking() {
+        let told = told(5, 70, Fault::Offers);
+        assert!(told.starts_with("seed 5, asking 70 "), "{told}");
+    }
+
+    #[test]
+    fn a_touched_entry_is_told_with_its_list() {
+        let at = refused(6, 30);
+        let told = told(6, at, Fault::StartList);
+        assert!(told.starts_with(&format!("seed 6, asking {at} ")), "{told}");
+        assert!(told.contains("start list [63] 9\n"), "{told}");
+    }
+
+    #[test]
+    fn a_wrong_answer_to_a_question_is_told() {
+        let told = told(7, 40, Fault::Finished);
+        assert!(told.starts_with("seed 7, asking 40 "), "{told}");
+    }
+
+    #[test]
+    fn a_word_that_a_refusal_changes_is_told() {
+        let at = refused(8, 20);
+        let told = told(8, at, Fault::Word);
+        assert!(told.starts_with(&format!("seed 8, asking {at} ")), "{told}");
+        assert!(
+            told.ends_with("a refusal changed words of the plan"),
+            "{told}"
+        );
+    }
+
+    /// The peer with a word that the askings of one plan set in all others.
+    struct Linked {
+        plan: peer::Plan,
+        sets: bool,
+        word: Rc<Cell<bool>>,
+    }
+
+    impl Kept for Linked {
+        fn command(&mut self, bytes: &[u8], place: usize, starts: &mut [u16]) -> Answer {
+            self.word.set(self.word.get() || self.sets);
+            Kept::command(&mut self.plan, bytes, place, starts)
+        }
+
+        fn questions(&self) -> Questions {
+            self.plan.questions()
+        }
+
+        fn words(&self) -> &[u32] {
+            if self.word.get() && !self.sets {
+                &[1]
+            } else {
+                &[0]
+            }
+        }
+
+        fn clear(&mut self) {
+            self.plan.clear();
+        }
+    }
+
+    #[test]
+    fn a_word_that_another_plan_changes_is_told() {
+        let word = Rc::new(Cell::new(false));
+        let open = |seed| Linked {
+            plan: peer::Plan::new(),
+            sets: seed == 0,
+            word: word.clone(),
+        };
+        let told = compare(open, 100_000, 0).err().expect("a difference");
+        assert!(
+            told.ends_with("words changed while other plans were asked"),
+            "{told}"
+        );
+    }
+}

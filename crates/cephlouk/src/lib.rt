@@ -1,0 +1,95 @@
+// The library for programs in C, C++ and Rust: a plan that the caller keeps as an array of words.
+ghost use mathlib.Core.Path.{_≡_};
+ghost use lib.ListN.{replicate};
+ghost use Rattle.rules.specs.Question as questions;
+ghost use Rattle.words.specs.Layout.{words};
+ghost use Rattle.plan.specs.Meaning.{planOf};
+ghost use Rattle.plan.specs.ValidPlan.{ValidPlan, Commanded};
+use plan::answer::Answer;
+use plan::booked;
+use plan::command;
+use plan::fullness;
+use plan::in_use;
+use plan::phase;
+use plan::standing;
+use words::plan::Plan;
+
+// How many words a plan has.
+#[no_mangle]
+pub extern "C" fn cephlouk_plan_words() -> usize
+    ensures { λ r. ⌜ r ≡ words ⌝ }
+{
+    let count = Plan::WORDS;
+    count
+}
+
+// The words become the empty plan.
+#[no_mangle]
+pub extern "C" fn cephlouk_empty(plan: &mut [u32; Plan::WORDS])
+    ensures { λ _. ⌜ now (plan .exit) ≡ replicate words 0 ⌝ }
+{
+    *plan = [0u32; Plan::WORDS];
+}
+
+// One command, asked in bytes.
+#[no_mangle]
+pub extern "C" fn cephlouk_command(
+    plan: &mut [u32; Plan::WORDS],
+    stream: &[u8],
+    place: usize,
+    starts: &mut [u16],
+) -> Answer
+    requires { ⌜ ValidPlan (now plan) ⌝ }
+    ensures { λ r. ⌜ Commanded (now (plan .entry)) (record { stream = now (stream .entry); place = place; list = now (starts .entry) }) r (now (plan .exit)) (now (starts .exit)) ⌝ }
+{
+    command(plan, stream, place, starts)
+}
+
+// "Phases: empty, steps, orders, running, over": 0 to 4.
+#[no_mangle]
+pub extern "C" fn cephlouk_phase(plan: &[u32; Plan::WORDS]) -> u32
+    ensures { λ r. ⌜ r ≡ planOf (now (plan .entry)) .phase ⌝ }
+{
+    phase(plan)
+}
+
+// "Booked trays, trays in use and fullness can be asked of the plan at any time, and are 0 outside
+// running."
+#[no_mangle]
+pub extern "C" fn cephlouk_booked(plan: &[u32; Plan::WORDS]) -> u32
+    requires { ⌜ ValidPlan (now plan) ⌝ }
+    ensures { λ r. ⌜ r ≡ questions.booked (planOf (now (plan .entry))) ⌝ }
+{
+    booked(plan)
+}
+
+#[no_mangle]
+pub extern "C" fn cephlouk_in_use(plan: &[u32; Plan::WORDS]) -> u32
+    requires { ⌜ ValidPlan (now plan) ⌝ }
+    ensures { λ r. ⌜ r ≡ questions.inUse (planOf (now (plan .entry))) ⌝ }
+{
+    in_use(plan)
+}
+
+#[no_mangle]
+pub extern "C" fn cephlouk_fullness(plan: &[u32; Plan::WORDS]) -> u32
+    requires { ⌜ ValidPlan (now plan) ⌝ }
+    ensures { λ r. ⌜ r ≡ questions.fullness (planOf (now (plan .entry))) ⌝ }
+{
+    fullness(plan)
+}
+
+// "The standing of the day is four counts": waiting, booked, running and ended.
+#[repr(C)]
+pub struct Standing {
+    pub counts: [u32; 4],
+}
+
+#[no_mangle]
+pub extern "C" fn cephlouk_standing(plan: &[u32; Plan::WORDS]) -> Standing
+    requires { ⌜ ValidPlan (now plan) ⌝ }
+    ensures { λ r. ⌜ r .counts ≡ questions.standing (planOf (now (plan .entry))) ⌝ }
+{
+    let counts = standing(plan);
+    Standing { counts }
+}

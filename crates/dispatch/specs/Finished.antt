@@ -1,0 +1,29 @@
+-- What ending a task asks and leaves.
+use mathlib.Core.Path.{_≡_}
+use Prim.Native.Nat.{ℕ}
+use lib.ListN.{length, set}
+use Rattle.rules.specs.Sums.{Task}
+use Rattle.rules.specs.Lists.{at}
+use Rattle.rules.specs.Standing.{running, finished}
+use Rattle.rules.specs.Booking.{Climbed, dispatch}
+use Rattle.words.specs.Contents.{Contents}
+use Rattle.store.specs.Rows.{books}
+use Rattle.store.specs.Kept.{Kept, SamePlan}
+
+-- task j runs
+pub record MayFinish (c : Contents) (j : ℕ) : Type 0 where
+  pub kept : Kept c
+  pub task : Task (c .size) j
+  pub runs : at (c .standings) j ≡ running
+
+-- sharing out of the rules
+abbrev pub dispatchedFrom : Contents → ℕ → Climbed
+dispatchedFrom c j =
+    dispatch (c .size) (at (c .parents)) (at (c .chilled .needs)) (at (set (books c .standings) j finished)) (at (c .chilled .outs))
+    (books c .booked) j
+
+pub record Finished (c : Contents) (j : ℕ) (c′ : Contents) (offers : ℕ) : Type 0 where
+  pub kept : Kept c′
+  pub same : SamePlan c c′
+  pub books : books c′ ≡ record { standings = set (books c .standings) j finished; booked = dispatchedFrom c j .share .booked }
+  pub offered : offers ≡ length (dispatchedFrom c j .offered)

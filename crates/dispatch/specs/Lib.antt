@@ -1,0 +1,3 @@
+pub mod Climb
+pub mod Ended
+pub mod Finished

@@ -1,3 +1,0 @@
--- What the contracts of this crate say of a list of askings.
-pub mod Run
-pub mod InPlace

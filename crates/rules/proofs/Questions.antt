@@ -1,0 +1,65 @@
+-- What may be asked of a plan, said otherwise: trays in use by the order of the standings, and fullness of what is answered as booked.
+use mathlib.Core.Path.{_≡_, refl, sym, ap₂}
+use mathlib.Core.Bool.{Bool, true, false, not, _&&_, _||_}
+use mathlib.Core.Logic.{⊎-elim}
+use Prim.Native.Nat.{ℕ, _+_, _≤_}
+use native.Mathlib.Nat.{zero-div}
+use native.Mathlib.Omega.{arith}
+use lib.Dec.{eqb}
+use borrow.Author.Tests.{eq-eqb, ne-eqb, lt-leb}
+use Rattle.rules.specs.Sums.{Task, only}
+use Rattle.rules.specs.Need.{need, inUse}
+use Rattle.rules.specs.Standing.{running, finished}
+use Rattle.rules.specs.State.{State}
+use Rattle.rules.specs.Question
+use Rattle.rules.specs.Question.{isRunning, fullnessOf, fullness}
+use Rattle.rules.proofs.Tests.{same-or-not}
+use Rattle.rules.proofs.Sums.{sum-cong}
+use Rattle.rules.proofs.Peaks.{resident-cong}
+use Rattle.rules.proofs.Usage.{hasEnded, hasBegun}
+
+-- a task runs or has ended
+abbrev pub runsOrEnded : (ℕ → ℕ) → ℕ → Bool
+runsOrEnded st i = eqb (st i) running || eqb (st i) finished
+
+-- one of four standings is running or ended just where it is not below running
+named : (st : ℕ → ℕ) (i : ℕ) → st i ≤ finished → runsOrEnded st i ≡ hasBegun st i
+named st i four =
+    ⊎-elim (λ (e : st i ≡ running). rw e)
+    (λ r.
+    ⊎-elim (λ (e : st i ≡ finished). rw e)
+    (λ f. rw (ne-eqb (st i) running r, ne-eqb (st i) finished f, lt-leb running (st i) (omega arith)))
+    (same-or-not (st i) finished))
+    (same-or-not (st i) running)
+
+-- so as much is in use either way
+pub in-use-named :
+    (n : ℕ) (par work out st : ℕ → ℕ)
+    → ((i : ℕ) → Task n i → st i ≤ finished)
+    → ((i : ℕ) → Task n i → par i ≤ n)
+    → inUse n par work out (hasEnded st) (runsOrEnded st) ≡ inUse n par work out (hasEnded st) (hasBegun st)
+unfolding inUse
+in-use-named n par work out st four within =
+    ap₂ (λ (a b : ℕ). a + b)
+    (sum-cong (λ i. only (runsOrEnded st i && not (hasEnded st i)) (need n par work out i))
+    (λ i. only (hasBegun st i && not (hasEnded st i)) (need n par work out i)) n
+    (λ i t. rw (named st i (four i t))))
+    (resident-cong n par out (hasEnded st) (hasEnded st) (runsOrEnded st) (hasBegun st) (λ i t. refl)
+    (λ i t d. let w = within i t in named st (par i) (four (par i) (record { low = omega arith; high = w }))))
+
+-- outside running nothing is booked, and the fullness of nothing is 0
+empty-fullness : (bound : ℕ) → fullnessOf 0 bound ≡ 0
+unfolding fullnessOf
+empty-fullness bound =
+    ⊎-elim (λ (e : bound ≡ 0). rw (eq-eqb bound 0 e))
+    (λ d. rw (ne-eqb bound 0 d, lt-leb bound 0 (omega arith)) (zero-div bound))
+    (same-or-not bound 0)
+
+pub fullness-booked : (s : State) → fullness s ≡ fullnessOf (Question.booked s) (s .chilled .bound)
+unfolding fullness Question.booked
+fullness-booked s = go (isRunning s) _
+  where
+    go : (t : Bool) (total : ℕ)
+        → only t (fullnessOf (only t total) (s .chilled .bound)) ≡ fullnessOf (only t total) (s .chilled .bound)
+    go true total = refl
+    go false total = sym (empty-fullness (s .chilled .bound))

@@ -1,0 +1,5 @@
+pub mod Rows
+pub mod Cached
+pub mod Kept
+pub mod Store
+pub mod AtRest

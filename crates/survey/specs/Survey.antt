@@ -1,0 +1,37 @@
+-- What a survey of a plan's activation order asks and answers.
+use mathlib.Core.List.{List}
+use Prim.Native.Nat.{ℕ}
+use lib.Dec.{eqb}
+use lib.ListN.{take}
+use Rattle.rules.specs.Sums.{only}
+use Rattle.rules.specs.Lists.{at}
+use Rattle.rules.specs.Peak
+use Rattle.rules.specs.Grounds.{demand}
+use Rattle.words.specs.Contents.{Contents}
+use Rattle.store.specs.Rows.{activationOf}
+use Rattle.store.specs.Cached.{Placed}
+use Rattle.survey.specs.Checks.{Parented}
+
+-- of n tasks: each parent is a task or nobody, and the first n entries of the activation order hold every task once, at the place that is
+-- noted as its rank
+pub record RankedIn (n : ℕ) (c : Contents) : Type 0 where
+  pub parented : Parented n (at (c .parents))
+  pub ranked : Placed n (take n (c .activation)) (at (c .ranks))
+
+-- a plan with its activation order
+abbrev pub Ordered : Contents → Type 0
+Ordered c = RankedIn (c .size) c
+
+-- 7 "the steps with parent 0 are not exactly one"; 8 "some step does not stand before its parent in the activation order"
+unfoldable pub orderGround : (n : ℕ) (par : ℕ → ℕ) → List ℕ → ℕ
+orderGround n par order = demand (eqb (Peak.roots n par) 1) 7 (demand (Peak.ordered par order) 8 0)
+
+-- the ground against the activation order of a plan
+abbrev pub groundOf : Contents → ℕ
+groundOf c = orderGround (c .size) (at (c .parents)) (activationOf c)
+
+-- its peak, where there is no ground
+abbrev pub peakOf : Contents → ℕ
+peakOf c =
+    only (eqb (groundOf c) 0)
+    (Peak.peak (c .size) (at (c .parents)) (at (c .chilled .works)) (at (c .chilled .outs)) (activationOf c))

@@ -1,0 +1,90 @@
+// The level of a store as the tasks of the activation order run one at a time, and the largest sum.
+// A store is given by its offset in a row.
+ghost use mathlib.Core.Path.{_≡_};
+ghost use Prim.Native.Nat.{_+_, _^_, _<_, max};
+ghost use lib.ListN.{take};
+ghost use Rattle.rules.specs.Lists.{at};
+ghost use Rattle.rules.specs.Peak;
+ghost use Rattle.words.specs.Contents.{contents, storeContents};
+ghost use Rattle.store.specs.Store.{keptOut};
+ghost use Rattle.survey.specs.Level.{AtRow, MayFeed, Fed, MayRun, MayPeak};
+use words::cell;
+use words::entry;
+use words::plan::Plan;
+
+// A row for each task, and row 0 for nobody.
+const ROWS: usize = Plan::MAX_TASKS + 1;
+
+// Adds the out of each task to the entry of its parent.
+fn feed(plan: &[u32; Plan::WORDS], store: usize, n: usize, fed: &mut [u64; ROWS])
+    requires { ⌜ MayFeed n store (now plan) (now fed) ⌝ }
+    ensures { λ _. ⌜ Fed n (at (contents (now (plan .entry)) .parents)) (at (storeContents store (now (plan .entry)) .outs)) (now (fed .exit)) ⌝ }
+{
+    let mut i = 0;
+    while i < n {
+        i += 1;
+        let parent = cell(plan, i, Plan::PARENT) as usize;
+        let out = cell(plan, i, store + Plan::OUT) as u64;
+        fed[parent] += out;
+    }
+}
+
+// The larger of two numbers.
+fn larger(a: u64, b: u64) -> u64
+    ensures { λ r. ⌜ r ≡ max a b ⌝ }
+{
+    if a < b { b } else { a }
+}
+
+// What the store holds while a task runs: its work and its out, and what was there.
+fn sum(plan: &[u32; Plan::WORDS], store: usize, task: usize, level: u64) -> u64
+    requires { ⌜ AtRow store task × (level < 2 ^ 63) ⌝ }
+    ensures { λ r. ⌜ r ≡ level + at (storeContents store (now (plan .entry)) .works) task + at (storeContents store (now (plan .entry)) .outs) task ⌝ }
+{
+    let work = cell(plan, task, store + Plan::WORK) as u64;
+    let out = cell(plan, task, store + Plan::OUT) as u64;
+    level + work + out
+}
+
+// What a task leaves in the store: its out, but nothing where it is the root.
+fn kept_out(plan: &[u32; Plan::WORDS], store: usize, task: usize) -> u64
+    requires { ⌜ AtRow store task ⌝ }
+    ensures { λ r. ⌜ (r ≡ keptOut (at (contents (now (plan .entry)) .parents) task) (at (storeContents store (now (plan .entry)) .outs) task))
+        × (r < 2 ^ 32) ⌝ }
+{
+    let out = cell(plan, task, store + Plan::OUT) as u64;
+    if cell(plan, task, Plan::PARENT) == 0 {
+        0
+    } else {
+        out
+    }
+}
+
+// The largest sum along the order, with the outs of the children of each task at hand.
+fn highest(plan: &[u32; Plan::WORDS], store: usize, n: usize, fed: &[u64; ROWS]) -> u64
+    requires { ⌜ MayRun n store (now plan) (now fed) ⌝ }
+    ensures { λ r. ⌜ r ≡ Peak.peak n (at (contents (now (plan .entry)) .parents)) (at (storeContents store (now (plan .entry)) .works))
+        (at (storeContents store (now (plan .entry)) .outs)) (take n (contents (now (plan .entry)) .activation)) ⌝ }
+{
+    let mut best = 0;
+    let mut level = 0;
+    let mut k = 0;
+    while k < n {
+        let x = entry(plan, Plan::ACTIVATION, k) as usize;
+        best = larger(best, sum(plan, store, x, level));
+        level = level + kept_out(plan, store, x) - fed[x];
+        k += 1;
+    }
+    best
+}
+
+// The peak of the activation order, where it is valid.
+pub(crate) fn peak(plan: &[u32; Plan::WORDS], store: usize, n: usize) -> u64
+    requires { ⌜ MayPeak n store (now plan) ⌝ }
+    ensures { λ r. ⌜ r ≡ Peak.peak n (at (contents (now (plan .entry)) .parents)) (at (storeContents store (now (plan .entry)) .works))
+        (at (storeContents store (now (plan .entry)) .outs)) (take n (contents (now (plan .entry)) .activation)) ⌝ }
+{
+    let mut fed = [0u64; ROWS];
+    feed(plan, store, n, &mut fed);
+    highest(plan, store, n, &fed)
+}

@@ -1,0 +1,31 @@
+// The survey of a plan's activation order, and the figures that its day begins with.
+mod checks;
+mod figures;
+mod level;
+
+pub use figures::prepare;
+ghost use mathlib.Core.Path.{_≡_};
+ghost use Rattle.words.specs.Contents.{contents};
+ghost use Rattle.survey.specs.Survey.{Ordered, groundOf, peakOf};
+use words::cell;
+use words::plan::Plan;
+
+// What a survey answers: the number of a ground, and the peak where the number is 0.
+pub struct Surveyed {
+    pub number: u8,
+    pub peak: u64,
+}
+
+// Grounds 7 and 8 against the activation order of a plan, and its peak where there is none.
+pub fn survey(plan: &[u32; Plan::WORDS]) -> Surveyed
+    requires { ⌜ Ordered (contents (now plan)) ⌝ }
+    ensures { λ r. ⌜ (r .number ≡ groundOf (contents (now (plan .entry)))) × (r .peak ≡ peakOf (contents (now (plan .entry)))) ⌝ }
+{
+    let n = cell(plan, Plan::HEAD, Plan::SIZE) as usize;
+    let number = checks::ground(plan, n);
+    if number != 0 {
+        return Surveyed { number, peak: 0 };
+    }
+    let peak = level::peak(plan, Plan::CHILLED, n);
+    Surveyed { number: 0, peak }
+}

@@ -1,0 +1,5 @@
+pub mod Layout
+pub mod Views
+pub mod Contents
+pub mod Digits
+pub mod Marks

@@ -1,0 +1,42 @@
+/* The planners' desk through libdesk.a, from C:
+
+       rt staticlib desk
+       cc -Iinclude examples/desk.c target/staticlib/libdesk.a -o target/desk && target/desk
+
+   It asks how many places a plan needs at its peak, in one activation order and in another. The lists are only read. */
+#include "cephlouk.h"
+#include <stdio.h>
+
+enum { TASKS = 3 };
+
+/* parent, work, out: 1 and 2 feed 3, the last one. */
+static const struct cephlouk_record records[TASKS] = {{3, 5, 1}, {3, 1, 4}, {0, 0, 1}};
+
+static const uint16_t orders[][TASKS] = {
+    {1, 2, 3}, /* much work first, with nothing else in the cold room */
+    {2, 1, 3}, /* much out first, which is still there meanwhile */
+    {1, 2, 2}, /* 2 twice */
+    {1, 3, 2}, /* 3 stands ahead of 2, which feeds it */
+    {1, 2, 4}, /* there is no 4 */
+};
+
+/* words to work in */
+static uint32_t room[CEPHLOUK_PLAN_WORDS];
+
+static void tell(const uint16_t *order, size_t length)
+{
+    struct cephlouk_desk_answer answer = cephlouk_desk_peak(records, TASKS, order, length, room);
+    for (size_t i = 0; i < length; i++)
+        printf("%d ", order[i]);
+    if (answer.number == CEPHLOUK_ACCEPTED)
+        printf("peak %llu\n", (unsigned long long)answer.peak);
+    else
+        printf("refused %d\n", answer.number);
+}
+
+int main(void)
+{
+    for (size_t k = 0; k < sizeof orders / sizeof *orders; k++)
+        tell(orders[k], TASKS);
+    tell(orders[0], TASKS - 1); /* an order that is too short */
+}

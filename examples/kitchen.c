@@ -1,0 +1,162 @@
+/* A kitchen in C: commands typed as text, one after another, and a plan that is kept between them.
+
+       rt staticlib cephlouk
+       cc -Iinclude examples/kitchen.c target/staticlib/libcephlouk.a -o target/kitchen && target/kitchen
+
+   The words are those of plan texts (see examples/plan-a.plan). Beside them, "ask" asks the plan how the day stands, and "if" ahead of a
+   command gives it to a copy of the plan, to see what would come of it. What is refused changes nothing, and the kitchen goes on. */
+#include "cephlouk.h"
+#include <stdio.h>
+#include <stdlib.h>
+#include <string.h>
+
+enum { LINE = 1000, FIELDS = 3, COMMAND = 8 };
+
+/* A number of a command: the word ahead of it, none in a list, and its bytes. */
+struct field {
+    const char *word;
+    size_t width;
+};
+
+/* A command as a line of text. In a list each number is a command. */
+struct form {
+    const char *word, *pattern;
+    int is_list;
+    uint8_t byte;
+    struct field fields[FIELDS];
+};
+
+static const struct form forms[] = {
+    {"plan", "plan steps N stations N places N", 0, CEPHLOUK_PLAN, {{"steps", 2}, {"stations", 1}, {"places", 4}}},
+    {"step", "step [N:] parent N work N out N", 0, CEPHLOUK_STEP, {{"parent", 2}, {"work", 2}, {"out", 2}}},
+    {"activation", "activation N ...", 1, CEPHLOUK_ACTIVATION, {{NULL, 2}}},
+    {"execution", "execution N ...", 1, CEPHLOUK_EXECUTION, {{NULL, 2}}},
+    {"begin", "begin", 0, CEPHLOUK_BEGIN, {{NULL, 0}}},
+    {"done", "done N ...", 1, CEPHLOUK_DONE, {{NULL, 2}}},
+    {NULL, NULL, 0, 0, {{NULL, 0}}},
+};
+
+static const char *const grounds[] = {
+    "", "cut short", "no such command", "not in turn", "a number outside its limits", "already in that order", "that step is not running",
+    "not exactly one last step", "a step ahead of one that feeds it", "more places needed than there are", "too short a start list",
+};
+
+static const char *const phases[] = {"empty", "steps missing", "orders", "running", "over"};
+
+static char *next_word(void)
+{
+    return strtok(NULL, " \t\r\n");
+}
+
+/* Gives a plan one command and tells what comes of it. */
+static void give(uint32_t *plan, const uint8_t *command, size_t length)
+{
+    uint16_t starts[CEPHLOUK_LEAST_STARTS];
+    struct cephlouk_answer answer = cephlouk_command(plan, command, length, 0, starts, CEPHLOUK_LEAST_STARTS);
+    if (answer.number != CEPHLOUK_ACCEPTED) {
+        printf("refused %d: %s\n", answer.number, grounds[answer.number]);
+        return;
+    }
+    if (command[0] == CEPHLOUK_BEGIN)
+        printf("peak %lu, ", (unsigned long)answer.peak);
+    if (command[0] == CEPHLOUK_BEGIN || command[0] == CEPHLOUK_DONE) {
+        printf("start");
+        for (size_t k = 0; k < answer.starts; k++)
+            printf(" %d", starts[k]);
+        printf(answer.starts == 0 ? " nothing\n" : "\n");
+    }
+}
+
+static void tell(const uint32_t *plan)
+{
+    struct cephlouk_counts counts = cephlouk_standing(plan);
+    printf("%s: %lu trays booked, %lu in use, %lu thousandths full; steps: %lu wait, %lu booked, %lu run, %lu ended\n",
+           phases[cephlouk_phase(plan)], (unsigned long)cephlouk_booked(plan), (unsigned long)cephlouk_in_use(plan),
+           (unsigned long)cephlouk_fullness(plan), (unsigned long)counts.waiting, (unsigned long)counts.activated,
+           (unsigned long)counts.running, (unsigned long)counts.finished);
+}
+
+/* Adds a number of so many bytes, lowest first; a dash is 0. It fails where the word is no such number. */
+static int add_number(uint8_t *bytes, size_t width, const char *word)
+{
+    unsigned long long number = 0;
+    if (word == NULL || (strcmp(word, "-") != 0 && word[strspn(word, "0123456789")] != '\0'))
+        return 0;
+    if (strcmp(word, "-") != 0)
+        number = strtoull(word, NULL, 10);
+    if (number >> (8 * width) != 0)
+        return 0;
+    for (size_t k = 0; k < width; k++)
+        bytes[k] = (uint8_t)(number >> (8 * k));
+    return 1;
+}
+
+/* Reads one command, `word` being the next word of its line: its length, or 0 where a word is wrong. */
+static size_t read_command(const struct form *form, char **word, uint8_t *command)
+{
+    size_t length = 1;
+    command[0] = form->byte;
+    for (size_t k = 0; k < FIELDS && form->fields[k].width > 0; k++) {
+        const struct field *field = &form->fields[k];
+        if (field->word != NULL) {
+            if (*word == NULL || strcmp(*word, field->word) != 0)
+                return 0;
+            *word = next_word();
+        }
+        if (!add_number(command + length, field->width, *word))
+            return 0;
+        *word = next_word();
+        length += field->width;
+    }
+    return length;
+}
+
+/* The commands of a line, whose first word was read. */
+static void obey(uint32_t *plan, const char *first)
+{
+    uint8_t command[COMMAND];
+    const struct form *form = forms;
+    char *word = next_word();
+    while (form->word != NULL && strcmp(first, form->word) != 0)
+        form++;
+    if (form->word == NULL) {
+        printf("'%s' is no command\n", first);
+        return;
+    }
+    if (form->byte == CEPHLOUK_STEP && word != NULL && strchr(word, ':') != NULL)
+        word = next_word(); /* a step may say its number, for whoever reads it */
+    do {
+        size_t length = read_command(form, &word, command);
+        if (length == 0 || (word != NULL && !form->is_list)) {
+            printf("write: %s\n", form->pattern);
+            return;
+        }
+        give(plan, command, length);
+    } while (word != NULL);
+}
+
+int main(void)
+{
+    static uint32_t plan[CEPHLOUK_PLAN_WORDS], copy[CEPHLOUK_PLAN_WORDS];
+    char line[LINE];
+    cephlouk_empty(plan);
+    while (fgets(line, sizeof line, stdin) != NULL) {
+        char *word;
+        if (strchr(line, '\n') == NULL && !feof(stdin)) {
+            printf("a line is too long\n");
+            return 1;
+        }
+        line[strcspn(line, "#")] = '\0';
+        word = strtok(line, " \t\r\n");
+        if (word != NULL && strcmp(word, "ask") == 0) {
+            tell(plan);
+        } else if (word != NULL && strcmp(word, "if") == 0 && (word = next_word()) != NULL) {
+            memcpy(copy, plan, sizeof plan);
+            obey(copy, word);
+        } else if (word != NULL) {
+            obey(plan, word);
+        }
+        fflush(stdout);
+    }
+    return 0;
+}
