@@ -1,4 +1,4 @@
-//! The day printer's program fed with streams and plan texts, beside what the
+//! A day printer's program fed with streams and plan texts, beside what the
 //! peer prints.
 
 use peer::listening::{listen, PATIENCE};
@@ -10,7 +10,7 @@ use std::sync::mpsc::{Receiver, RecvTimeoutError};
 use std::thread;
 use std::time::Duration;
 
-const PRINTER: &str = concat!(env!("CARGO_MANIFEST_DIR"), "/../target/bin/printer");
+const PROVED: &str = concat!(env!("CARGO_MANIFEST_DIR"), "/../target/bin/printer");
 const PLAN_TEXT: &str = concat!(
     env!("CARGO_MANIFEST_DIR"),
     "/../peer/target/release/plan-text"
@@ -18,6 +18,19 @@ const PLAN_TEXT: &str = concat!(
 
 /// After a piece, so that the next one comes by itself.
 const PAUSE: Duration = Duration::from_micros(100);
+
+/// A program that prints days: how it is called, and how long an answer of it
+/// is waited for.
+pub struct Program {
+    pub command: fn() -> Command,
+    pub patience: Duration,
+}
+
+/// The proved one.
+pub const PRINTER: Program = Program {
+    command: || Command::new(PROVED),
+    patience: PATIENCE,
+};
 
 /// What was printed, and what the peer prints.
 pub struct Difference {
@@ -49,8 +62,8 @@ fn expected_so_far(bytes: &[u8]) -> Vec<u8> {
 
 /// Feeds a stream in pieces, and waits after each for the lines that are due:
 /// each line has to come as soon as its command is whole, and none before.
-pub fn in_pieces(pieces: &[&[u8]]) -> Option<Difference> {
-    let mut printer = Printer::start(Stdio::piped());
+pub fn in_pieces(program: &Program, pieces: &[&[u8]]) -> Option<Difference> {
+    let mut printer = Printer::start(program, Stdio::piped());
     let input = printer.child.stdin.take().expect("a pipe to write to");
     let pieces = pieces.iter().map(|&piece| (piece, piece.to_vec()));
     printer.answers(input, pieces)
@@ -58,7 +71,7 @@ pub fn in_pieces(pieces: &[&[u8]]) -> Option<Difference> {
 
 /// Types a plan text into `plan-text` line by line, the printer behind it, and
 /// waits after each line for the printer's answer.
-pub fn typed(text: &str) -> Option<Difference> {
+pub fn typed(program: &Program, text: &str) -> Option<Difference> {
     let mut plan_text = start(&mut Command::new(PLAN_TEXT), Stdio::piped());
     let input = plan_text.stdin.take().expect("a pipe to write to");
     let between = plan_text.stdout.take().expect("a pipe to read from");
@@ -67,7 +80,7 @@ pub fn typed(text: &str) -> Option<Difference> {
         let bytes = translator.line(line).expect("a line of a plan text");
         (line.as_bytes(), bytes)
     });
-    let difference = Printer::start(between.into()).answers(input, lines);
+    let difference = Printer::start(program, between.into()).answers(input, lines);
     let status = plan_text.wait().expect("plan-text ends");
     assert!(status.success(), "plan-text ends well: {status}");
     difference
@@ -75,28 +88,30 @@ pub fn typed(text: &str) -> Option<Difference> {
 
 /// Gives the printer a stream as a file, so that each read is as long as the
 /// printer's room for it.
-pub fn from_file(name: &str, stream: &[u8]) -> Option<Difference> {
+pub fn from_file(program: &Program, name: &str, stream: &[u8]) -> Option<Difference> {
     let path = std::env::temp_dir().join(format!("{name}-{}.stream", std::process::id()));
     std::fs::write(&path, stream).expect("a file of the stream");
     let input = File::open(&path).expect("the file of the stream");
     std::fs::remove_file(&path).expect("the file goes, its bytes stay");
-    Printer::start(input.into()).end(expected(stream))
+    Printer::start(program, input.into()).end(expected(stream))
 }
 
 /// A printer that runs, and what it has printed so far.
 struct Printer {
     child: Child,
     heard: Receiver<Vec<u8>>,
+    patience: Duration,
     got: Vec<u8>,
 }
 
 impl Printer {
-    fn start(input: Stdio) -> Printer {
-        let mut child = start(&mut Command::new(PRINTER), input);
+    fn start(program: &Program, input: Stdio) -> Printer {
+        let mut child = start(&mut (program.command)(), input);
         let output = child.stdout.take().expect("a pipe to read from");
         Printer {
             child,
             heard: listen(output),
+            patience: program.patience,
             got: Vec::new(),
         }
     }
@@ -126,7 +141,7 @@ impl Printer {
     /// little for any that are too many.
     fn hear(&mut self, bytes: usize) {
         while self.got.len() < bytes {
-            match self.heard.recv_timeout(PATIENCE) {
+            match self.heard.recv_timeout(self.patience) {
                 Ok(more) => self.got.extend(more),
                 Err(_) => return,
             }
@@ -138,7 +153,7 @@ impl Printer {
     /// Waits for the end of the output and of the program.
     fn end(mut self, wanted: Vec<u8>) -> Option<Difference> {
         loop {
-            match self.heard.recv_timeout(PATIENCE) {
+            match self.heard.recv_timeout(self.patience) {
                 Ok(more) => self.got.extend(more),
                 Err(RecvTimeoutError::Disconnected) => break,
                 Err(RecvTimeoutError::Timeout) => {
@@ -177,5 +192,103 @@ fn feed(input: &mut ChildStdin, bytes: &[u8]) {
             panic!("the printer's input: {error}")
         }
         _ => {}
+    }
+}
+
+#[cfg(test)]
+mod tests {
+    use super::*;
+    use crate::stand_in::stand_in;
+    use crate::streams::{another_day, streams};
+    use peer::generate::stream;
+
+    /// A byte that is no command.
+    const REFUSED: &[u8] = &[0xFF];
+
+    /// Where an answer is waited for in vain.
+    const LITTLE: Duration = Duration::from_secs(1);
+
+    /// A stand-in that is waited for as the proved program is.
+    fn patient(command: fn() -> Command) -> Program {
+        Program { command, ..PRINTER }
+    }
+
+    /// A stand-in that is waited for a little.
+    fn impatient(command: fn() -> Command) -> Program {
+        Program {
+            command,
+            patience: LITTLE,
+        }
+    }
+
+    #[test]
+    fn the_peer_is_like_itself() {
+        let peer = patient(|| stand_in("none"));
+        for seed in 1..=20 {
+            let bytes = stream(seed);
+            assert!(in_pieces(&peer, &[&bytes]).is_none(), "seed {seed}");
+        }
+        for (name, bytes) in streams() {
+            let pieces: Vec<&[u8]> = bytes.chunks(30_000).collect();
+            assert!(in_pieces(&peer, &pieces).is_none(), "{name}, in pieces");
+            assert!(from_file(&peer, "peer", &bytes).is_none(), "{name}");
+        }
+        let day = another_day();
+        let pieces: Vec<&[u8]> = day.chunks(2).collect();
+        assert!(in_pieces(&peer, &pieces).is_none(), "few bytes a piece");
+        assert!(in_pieces(&peer, &[REFUSED, &day]).is_none(), "a refusal");
+    }
+
+    #[test]
+    fn lines_on_standard_error_are_told() {
+        let program = patient(|| stand_in("standard error"));
+        let told = from_file(&program, "error", &another_day()).expect("a difference");
+        assert_eq!(told.got, b"");
+    }
+
+    #[test]
+    fn lines_after_a_refusal_are_told() {
+        let program = patient(|| stand_in("goes on"));
+        let told = in_pieces(&program, &[REFUSED, &another_day()]).expect("a difference");
+        assert_eq!(told.wanted, b"refused 2 at 0\n");
+        assert!(told.got.starts_with(b"refused 2 at 0\nbegin "));
+    }
+
+    #[test]
+    fn late_lines_are_told() {
+        let day = another_day();
+        let program = patient(|| stand_in("late"));
+        let told = from_file(&program, "late", &day);
+        assert!(told.is_none(), "the lines are right, only late");
+        let program = impatient(|| stand_in("late"));
+        let pieces: Vec<&[u8]> = day.chunks(2).collect();
+        let told = in_pieces(&program, &pieces).expect("a difference");
+        assert_eq!(told.got, b"");
+        assert!(told.wanted.starts_with(b"begin "));
+    }
+
+    #[test]
+    fn a_program_that_does_not_end_is_told() {
+        let program = impatient(|| stand_in("does not end"));
+        let told = from_file(&program, "end", &another_day()).expect("a difference");
+        assert!(told.got.ends_with(b"(and does not end)\n"));
+    }
+
+    #[test]
+    fn a_short_line_is_told() {
+        let (name, bytes) = &streams()[0];
+        assert_eq!(*name, "64 starts at BEGIN");
+        let program = patient(|| stand_in("short"));
+        let told = from_file(&program, "short", bytes).expect("a difference");
+        assert!(told.wanted.starts_with(&told.got[..304]));
+        assert_eq!(told.got[304..], *b"\n");
+    }
+
+    #[test]
+    fn a_wrong_offset_is_told() {
+        let program = patient(|| stand_in("offset"));
+        let told = in_pieces(&program, &[REFUSED]).expect("a difference");
+        assert_eq!(told.got, b"refused 2 at 7\n");
+        assert_eq!(told.wanted, b"refused 2 at 0\n");
     }
 }

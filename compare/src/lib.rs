@@ -8,6 +8,8 @@ pub mod fence;
 pub mod kept;
 pub mod lists;
 pub mod programs;
+#[cfg(test)]
+mod stand_in;
 pub mod streams;
 pub mod table;
 pub mod tally;

@@ -3,7 +3,7 @@
 //! in pieces, as a file, and with another day fed after a refusal. The plan
 //! texts of examples/ are typed line by line, with `plan-text` in between.
 
-use compare::feeding::{expected, from_file, in_pieces, typed, Difference};
+use compare::feeding::{expected, from_file, in_pieces, typed, Difference, PRINTER};
 use compare::streams::{another_day, streams};
 use peer::generate::{stream, Random};
 use std::process::ExitCode;
@@ -41,10 +41,12 @@ impl Tally {
     /// with another day behind.
     fn compare_seed(&mut self, seed: u64) -> Result<(), (String, Difference)> {
         let bytes = stream(seed);
-        check(in_pieces(&[&bytes]), || format!("seed {seed}, at once"))?;
+        check(in_pieces(&PRINTER, &[&bytes]), || {
+            format!("seed {seed}, at once")
+        })?;
         if seed.is_multiple_of(PIECES_EVERY) && bytes.len() <= PIECES_MOST {
             let random = &mut Random::new(seed);
-            check(in_pieces(&cut(&bytes, FEW_BYTES, random)), || {
+            check(in_pieces(&PRINTER, &cut(&bytes, FEW_BYTES, random)), || {
                 format!("seed {seed}, in pieces")
             })?;
             self.in_pieces += 1;
@@ -60,7 +62,7 @@ impl Tally {
             self.refusals += 1;
             // What is cut is refused at the end of the input only.
             if !line.starts_with("refused 1 ") {
-                check(in_pieces(&[&bytes, &another_day()]), || {
+                check(in_pieces(&PRINTER, &[&bytes, &another_day()]), || {
                     format!("seed {seed}, another day after the refusal")
                 })?;
                 self.after_refusals += 1;
@@ -71,12 +73,14 @@ impl Tally {
 
     /// A stream made to measure: at once, as a file and in pieces.
     fn compare_made(&mut self, name: &str, bytes: &[u8]) -> Result<(), (String, Difference)> {
-        check(in_pieces(&[bytes]), || format!("{name}, at once"))?;
-        check(from_file("printer", bytes), || format!("{name}, as a file"))?;
+        check(in_pieces(&PRINTER, &[bytes]), || format!("{name}, at once"))?;
+        check(from_file(&PRINTER, "printer", bytes), || {
+            format!("{name}, as a file")
+        })?;
         self.as_files += 1;
         for most in LARGE_PIECES {
             let random = &mut Random::new(most as u64);
-            check(in_pieces(&cut(bytes, most, random)), || {
+            check(in_pieces(&PRINTER, &cut(bytes, most, random)), || {
                 format!("{name}, in pieces of up to {most} bytes")
             })?;
             self.in_pieces += 1;
@@ -86,7 +90,7 @@ impl Tally {
 
     fn compare(&mut self, count: u64) -> Result<(), (String, Difference)> {
         for (name, text) in TEXTS {
-            check(typed(text), || format!("{name}, typed"))?;
+            check(typed(&PRINTER, text), || format!("{name}, typed"))?;
         }
         for (name, bytes) in streams() {
             self.compare_made(name, &bytes)?;

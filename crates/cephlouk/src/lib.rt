@@ -3,15 +3,15 @@ ghost use mathlib.Core.Path.{_≡_};
 ghost use lib.ListN.{replicate};
 ghost use Rattle.rules.specs.Question as questions;
 ghost use Rattle.words.specs.Layout.{words};
-ghost use Rattle.plan.specs.Meaning.{planOf};
-ghost use Rattle.plan.specs.ValidPlan.{ValidPlan, Commanded};
-use plan::answer::Answer;
-use plan::booked;
+ghost use Rattle.answer.specs.Meaning.{planOf};
+ghost use Rattle.answer.specs.ValidPlan.{ValidPlan, Commanded};
+use answer::Answer;
 use plan::command;
-use plan::fullness;
-use plan::in_use;
-use plan::phase;
-use plan::standing;
+use question::booked;
+use question::fullness;
+use question::in_use;
+use question::phase;
+use question::standing;
 use words::plan::Plan;
 
 // How many words a plan has.

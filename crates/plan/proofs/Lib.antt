@@ -1,23 +1,3 @@
--- Laws of the commands.
-pub mod Clearing
-pub mod Placing
-pub mod Ordering
-pub mod Obeying
-pub mod Opening
-pub mod Meant
-pub mod Past
-pub mod Adding
-pub mod Same
-pub mod Advancing
-pub mod Proceeding
-pub mod Days
-pub mod Beginning
-pub mod Reporting
-pub mod Appending
+-- Laws of the command function, and of a new plan.
 pub mod Responding
-pub mod Counting
-pub mod Questions
 pub mod NewPlan
-pub mod Opened
-pub mod Demand
-pub mod WorkedCalls

@@ -18,11 +18,11 @@ use Rattle.words.specs.Views.{column}
 use Rattle.words.specs.Contents.{storeContents, contents}
 use Rattle.words.proofs.Views.{column-length}
 use Rattle.store.specs.Rows.{ZeroPast}
-use Rattle.plan.specs.Meaning.{planOf}
-use Rattle.plan.specs.Sound.{Unused, Sound}
-use Rattle.plan.specs.ValidPlan.{ValidPlan}
-use Rattle.plan.specs.Calls.{NewPlan}
-use Rattle.plan.proofs.Opening.{Blank, blank}
+use Rattle.answer.specs.Meaning.{planOf}
+use Rattle.answer.specs.Sound.{Unused, Sound}
+use Rattle.answer.specs.ValidPlan.{ValidPlan}
+use Rattle.answer.specs.ValidPlan.{NewPlan}
+use Rattle.opening.proofs.Opening.{Blank, blank}
 
 pub new-long : {w : List ℕ} → NewPlan w → length w ≡ words
 new-long e = ap length e ∙ length-replicate {A = ℕ} words 0

@@ -16,10 +16,11 @@ use Rattle.codec.specs.declared.Command as commands
 use Rattle.codec.specs.declared.Decoded as codec
 use Rattle.codec.specs.declared.Decoded.the-variants.{Refused, Read}
 use Rattle.words.specs.Contents.{contents}
-use Rattle.plan.specs.Meaning.{Answer, planOf, answeredOf}
-use Rattle.plan.specs.Sound.{Sound}
-use Rattle.plan.specs.ValidPlan.{ValidPlan, Obeyed, Judged, Responded, Commanded}
-use Rattle.plan.proofs.Obeying as obeying
+use Rattle.answer.specs.declared.Answer.{Answer}
+use Rattle.answer.specs.Meaning.{planOf, answeredOf}
+use Rattle.answer.specs.Sound.{Sound}
+use Rattle.answer.specs.ValidPlan.{ValidPlan, Obeyed, Judged, Responded, Commanded}
+use Rattle.answer.proofs.Obeying as obeying
 
 -- an answer of the rules that leaves a sound plan is all that is asked
 responded :

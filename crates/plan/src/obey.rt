@@ -3,17 +3,17 @@ ghost use Prim.Native.Nat.{_≤_};
 ghost use lib.ListN.{length};
 ghost use Rattle.rules.specs.Limits.{leastStarts};
 ghost use Rattle.codec.specs.Meaning.{decoded};
-ghost use Rattle.plan.specs.ValidPlan.{ValidPlan, Responded, Commanded};
-use crate::answer::Answer;
-use crate::begin::begin;
-use crate::open::add_task;
-use crate::open::open;
-use crate::order::place;
-use crate::order::rank;
-use crate::report::report;
+ghost use Rattle.answer.specs.ValidPlan.{ValidPlan, Responded, Commanded};
+use answer::Answer;
 use codec::Command;
 use codec::Decoded;
 use codec::decode;
+use day::begin::begin;
+use day::report::report;
+use opening::add_task;
+use opening::open;
+use ordering::place;
+use ordering::rank;
 use words::plan::Plan;
 
 // The answer to what was decoded.

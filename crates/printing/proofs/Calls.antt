@@ -11,9 +11,9 @@ use borrow.Author.Tests.{ne-eqb}
 use Rattle.rules.specs.Command.{decode}
 use Rattle.rules.specs.Answer as answers
 use Rattle.rules.specs.Printer as rules
-use Rattle.plan.specs.Meaning.{planOf}
-use Rattle.plan.specs.declared.answer.Answer.{Answer}
-use Rattle.plan.specs.ValidPlan.{Commanded}
+use Rattle.answer.specs.Meaning.{planOf}
+use Rattle.answer.specs.declared.Answer.{Answer}
+use Rattle.answer.specs.ValidPlan.{Commanded}
 use Rattle.printing.specs.Taken.{Taken}
 use Rattle.printing.specs.declared.Turned.{Turned}
 

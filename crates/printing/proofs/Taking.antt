@@ -14,9 +14,9 @@ use Rattle.rules.specs.Printer.{goesOn, waits, stops, idle, said, answered, isA
 use Rattle.rules.proofs.Askings.{asking-holds}
 use Rattle.rules.proofs.Reaching.{lives}
 use Rattle.words.specs.Contents.{contents}
-use Rattle.plan.specs.declared.answer.Answer.{Answer}
-use Rattle.plan.specs.Meaning.{planOf, answeredOf}
-use Rattle.plan.specs.ValidPlan.{ValidPlan, Commanded}
+use Rattle.answer.specs.declared.Answer.{Answer}
+use Rattle.answer.specs.Meaning.{planOf, answeredOf}
+use Rattle.answer.specs.ValidPlan.{ValidPlan, Commanded}
 use Rattle.lines.specs.Line.{Line}
 use Rattle.printing.specs.declared.Turned.{Turned}
 use Rattle.printing.specs.Taken.{Taken}

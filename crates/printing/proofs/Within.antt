@@ -15,7 +15,7 @@ use Rattle.rules.specs.Obey.{obey}
 use Rattle.rules.specs.Answer.{Asking, refuse, accept, judge, respond, command}
 use Rattle.rules.specs.Printer.{goesOn, waits, stops, idle, answered, isAwaited, turn}
 use Rattle.rules.proofs.Bytes.{Reading, nothing-left, no-line, cut-short, in-full, reading, read-by, All, found}
-use Rattle.plan.specs.Meaning.{planOf}
+use Rattle.answer.specs.Meaning.{planOf}
 use Rattle.printing.specs.declared.Turned.{Turned}
 use Rattle.printing.specs.Taken.{Taken}
 

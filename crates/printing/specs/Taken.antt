@@ -5,8 +5,8 @@ use Prim.Native.Nat.{ℕ, _≤_}
 use lib.ListN.{length}
 use Rattle.rules.specs.Text.{longestLine}
 use Rattle.rules.specs.Printer as rules
-use Rattle.plan.specs.Meaning.{planOf}
-use Rattle.plan.specs.ValidPlan.{ValidPlan}
+use Rattle.answer.specs.Meaning.{planOf}
+use Rattle.answer.specs.ValidPlan.{ValidPlan}
 use Rattle.put.specs.Written.{Written}
 use Rattle.printing.specs.declared.Turned.{Turned}
 

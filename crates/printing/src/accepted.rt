@@ -2,17 +2,17 @@
 ghost use Rattle.rules.specs.Text.{acceptedLine};
 ghost use Rattle.codec.specs.Meaning.{decoded};
 ghost use Rattle.words.specs.Contents.{contents};
-ghost use Rattle.plan.specs.Meaning.{answeredOf};
-ghost use Rattle.plan.specs.ValidPlan.{ValidPlan};
+ghost use Rattle.answer.specs.Meaning.{answeredOf};
+ghost use Rattle.answer.specs.ValidPlan.{ValidPlan};
 ghost use Rattle.lines.specs.Line.{Line};
+use answer::Answer;
 use codec::Command;
 use codec::Decoded;
 use lines::begin_line;
 use lines::done_line;
-use plan::answer::Answer;
-use plan::booked;
-use plan::fullness;
-use plan::in_use;
+use question::booked;
+use question::fullness;
+use question::in_use;
 use words::plan::Plan;
 
 // It is put to the front of the buffer: a line of BEGIN or DONE, and nothing for the others. The

@@ -10,16 +10,16 @@ use lib.ListN.{length, take, drop, length-append}
 use lib.Seq.{length-take-le}
 use Rattle.rules.specs.Printer as rules
 use Rattle.rules.specs.Printer.{waits, stops, moved, fronted, fed, isCounted, maxOffset, step}
-use Rattle.plan.specs.Meaning.{planOf}
-use Rattle.plan.specs.ValidPlan.{ValidPlan}
+use Rattle.answer.specs.Meaning.{planOf}
+use Rattle.answer.specs.ValidPlan.{ValidPlan}
 use Rattle.io.specs.Counts.{clamped}
-use Rattle.pump.specs.declared.position.Position.{Position}
-use Rattle.pump.specs.declared.position.Stepped.{Stepped}
+use Rattle.position.specs.declared.Position.{Position}
+use Rattle.stepping.specs.declared.Stepped.{Stepped}
 use Rattle.pump.specs.declared.room.Refilled.{Refilled}
-use Rattle.pump.specs.Standing.{positionOf, Stands}
-use Rattle.pump.specs.Stepped.{Step}
+use Rattle.position.specs.Standing.{positionOf, Stands}
+use Rattle.stepping.specs.Stepped.{Step}
 use Rattle.pump.specs.Filled.{leftOf, Filled}
-use Rattle.pump.proofs.Reach.{Reach, step-reach, step-some}
+use Rattle.stepping.proofs.Reach.{Reach, step-reach, step-some}
 
 pub record PumpLoop (input output starts w : List ℕ) (x : Position) : Type 0 where
   pub valid : ValidPlan w

@@ -1,5 +1,3 @@
 -- Laws that the proofs of this crate cite.
-pub mod Fronting
-pub mod Reach
+pub mod Refilling
 pub mod Holding
-pub mod Stepping

@@ -5,9 +5,9 @@ use Prim.Native.Nat.{ℕ, _-_}
 use lib.ListN.{length, take, drop}
 use Rattle.rules.specs.Printer as rules
 use Rattle.io.specs.Counts.{clamped}
-use Rattle.pump.specs.declared.position.Position.{Position}
+use Rattle.position.specs.declared.Position.{Position}
 use Rattle.pump.specs.declared.room.Refilled.{Refilled}
-use Rattle.pump.specs.Standing.{positionOf}
+use Rattle.position.specs.Standing.{positionOf}
 
 -- how many bytes are at hand from the next command on
 abbrev pub leftOf : Position → ℕ

@@ -1,4 +1,2 @@
--- What the contracts of this crate say of the bytes at hand and of a step over them.
-pub mod Standing
-pub mod Stepped
+-- What the contracts of this crate say of more input.
 pub mod Filled

@@ -1,14 +1,13 @@
 // The day printer on standard input and standard output. What is printed is decided by `step`; here
 // bytes are read and written.
-mod position;
 mod room;
 
 use libc::STDERR_FILENO;
 use libc::STDOUT_FILENO;
 use position::Position;
-use position::step;
 use printing::Turned;
 use room::refill;
+use stepping::step;
 use words::plan::Plan;
 
 // Prints until the input ends, a command is refused, or reading or writing fails. It answers as it

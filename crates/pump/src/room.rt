@@ -1,10 +1,10 @@
 // Room for more input.
-use crate::position::Position;
-use crate::position::to_front;
 use libc::STDIN_FILENO;
+use position::Position;
+use position::to_front;
 ghost use Prim.Native.Nat.{_-_, _<_};
 ghost use lib.ListN.{length};
-ghost use Rattle.pump.specs.Standing.{Stands};
+ghost use Rattle.position.specs.Standing.{Stands};
 ghost use Rattle.pump.specs.Filled.{Filled};
 
 // What one read answered, and where the day printer stands afterwards.

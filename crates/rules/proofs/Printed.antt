@@ -1,11 +1,11 @@
 -- However the input comes, what is printed is `print` of all of it.
 use mathlib.Core.Path.{_≡_, refl, sym, ap, subst, _∙_}
 use mathlib.Core.Bool.{Bool, true, false, cond}
-use mathlib.Core.List.{List, [], _++_, append-nil}
+use mathlib.Core.List.{List, [], _∷_, _++_, append-nil}
 use mathlib.Core.Logic.{⊎-elim}
 use Prim.Native.Nat.{ℕ, zero, suc, _+_, _≤_, _<_}
 use native.Mathlib.Omega.{arith}
-use borrow.Author.Tests.{le-ltb, eqb-true, eq-eqb, le-leb, lt-leb}
+use borrow.Author.Tests.{le-ltb, eqb-true, eq-eqb, ne-eqb, le-leb, lt-leb}
 use lib.Dec.{eqb, leb, ltb}
 use lib.ListN.{length, take, drop, replicate}
 use lib.Seq.{take-append-seam}
@@ -40,6 +40,7 @@ use Rattle.rules.specs.Printer.{
   turn,
   printFrom,
   print,
+  saidOf,
   Part,
   over,
   Prints,
@@ -47,9 +48,11 @@ use Rattle.rules.specs.Printer.{
   waits-for,
   stops-at,
 }
-use Rattle.rules.proofs.Tests.{clash, le-or-lt}
+use Rattle.rules.specs.Stream.{asking, askingsFrom, askings}
+use Rattle.rules.proofs.Tests.{clash, same-or-not, le-or-lt}
 use Rattle.rules.proofs.Bytes.{Counts, decode-counts}
 use Rattle.rules.proofs.Parts.{as-whole}
+use Rattle.rules.proofs.Stream.{here, asks-none, asks-on, asks-last}
 
 -- two answers that differ only in what stands behind the starts in their lists
 record Alike (a a′ : Answered) : Type 0 where
@@ -256,3 +259,53 @@ from {stream} {s} {place} (stops-at p stop) (suc turns) enough =
 pub prints : {stream text : List ℕ} → Prints stream none 0 text → text ≡ print stream
 unfolding print
 prints {stream} h = sym (from h (length stream) (omega arith))
+
+-- turn by turn the day printer asks what a run of the stream asks, and prints what is answered
+module _ (s : State) (stream : List ℕ) (place : ℕ) where
+  abbrev line-here : List ℕ
+  line-here = said (decode stream place) place (here s stream place)
+
+  printed-none : (turns : ℕ) → length stream ≤ place → printFrom turns s stream place ≡ []
+  unfolding printFrom turn idle isAwaited
+  printed-none zero out = refl
+  printed-none (suc turns) out = rw (le-leb (length stream) place out, printFrom)
+
+  turned : place < length stream → turn s (asking stream place) place true ≡ answered (decode stream place) place (here s stream place)
+  unfolding turn isAwaited
+  turned more = rw (lt-leb (length stream) place more)
+
+  printed-on : (turns : ℕ)
+      → place < length stream
+      → here s stream place .answer .number ≡ 0
+      → printFrom (suc turns) s stream place ≡ line-here ++ printFrom turns (here s stream place .state) stream (place + here s stream place .answer .used)
+  unfolding printFrom answered
+  printed-on turns more e = rw (turned more, eq-eqb (here s stream place .answer .number) 0 e, printFrom) (rw (turned more))
+
+  printed-last : (turns : ℕ)
+      → place < length stream
+      → (here s stream place .answer .number ≡ 0 → ⊥)
+      → printFrom (suc turns) s stream place ≡ line-here ++ []
+  unfolding printFrom answered
+  printed-last turns more some = rw (turned more, ne-eqb (here s stream place .answer .number) 0 some, printFrom)
+
+as-run : (turns : ℕ) (s : State) (stream : List ℕ) (place : ℕ)
+    → printFrom turns s stream place ≡ saidOf s (askingsFrom turns s stream place)
+unfolding saidOf printFrom askingsFrom
+as-run zero s stream place = refl
+as-run (suc turns) s stream place =
+    ⊎-elim (λ out. rw (printed-none s stream place (suc turns) out, asks-none s stream place (suc turns) out))
+    (λ more.
+    ⊎-elim
+    (λ e.
+    printed-on s stream place turns more e
+    ∙ ap (λ (rest : List ℕ). line-here s stream place ++ rest)
+    (as-run turns (here s stream place .state) stream (place + here s stream place .answer .used))
+    ∙ ap (saidOf s) (sym (asks-on s stream place turns more e)))
+    (λ some. printed-last s stream place turns more some ∙ ap (saidOf s) (sym (asks-last s stream place turns more some)))
+    (same-or-not (here s stream place .answer .number) 0))
+    (le-or-lt (length stream) place)
+
+-- the whole output is what the askings of the run are answered
+pub prints-run : (stream : List ℕ) → print stream ≡ saidOf none (askings stream)
+unfolding print askings
+prints-run stream = as-run (length stream) none stream 0

@@ -6,7 +6,7 @@ use mathlib.Core.Logic.{⊎-elim}
 use Prim.Native.Nat.{ℕ, zero, suc, _+_, _≤_, _<_}
 use native.Mathlib.Nat.{zero-add, add-zero, suc-add}
 use native.Mathlib.Omega.{arith}
-use borrow.Author.Tests.{eqb-true, eqb-false, eq-eqb, le-leb, lt-leb}
+use borrow.Author.Tests.{eqb-true, eqb-false, eq-eqb, ne-eqb, le-leb, lt-leb}
 use lib.Dec.{eqb, leb}
 use lib.ListN.{length, take, replicate, length-append}
 use Rattle.rules.specs.Limits.{leastStarts}
@@ -85,24 +85,43 @@ module _ (s : State) (stream : List ℕ) (place : ℕ) where
   unfolding runFrom accepted
   was-refused turns more r = rw (lt-leb (length stream) place more, runFrom) (rw (r .not-accepted))
 
-  -- and of the askings
-  asks-none : (turns : ℕ) → length stream ≤ place → askingsFrom turns s stream place ≡ []
+-- and of the askings
+module _ (s : State) (stream : List ℕ) (place : ℕ) where
+  abbrev pub here : Answered
+  here = command s (asking stream place)
+
+  pub asks-none : (turns : ℕ) → length stream ≤ place → askingsFrom turns s stream place ≡ []
   unfolding askingsFrom
   asks-none zero out = refl
   asks-none (suc turns) out = rw (le-leb (length stream) place out, askingsFrom)
 
-  asks-on : (turns : ℕ) (c : Command) (used : ℕ)
-      → Granted s stream place c used
-      → askingsFrom (suc turns) s stream place ≡ asking stream place ∷ askingsFrom turns (obey s c .state) stream (place + used)
-  unfolding askingsFrom accept
-  asks-on turns c used g = rw (left g, askingsFrom) (rw (answered g) (rw (answered g)))
-
-  asks-last : (turns : ℕ)
+  pub asks-on : (turns : ℕ)
       → place < length stream
-      → Refused s (asking stream place)
+      → here .answer .number ≡ 0
+      → askingsFrom (suc turns) s stream place ≡ asking stream place ∷ askingsFrom turns (here .state) stream (place + here .answer .used)
+  unfolding askingsFrom
+  asks-on turns more e = rw (lt-leb (length stream) place more, eq-eqb (here .answer .number) 0 e, askingsFrom)
+
+  pub asks-last : (turns : ℕ)
+      → place < length stream
+      → (here .answer .number ≡ 0 → ⊥)
       → askingsFrom (suc turns) s stream place ≡ asking stream place ∷ []
-  unfolding askingsFrom accepted
-  asks-last turns more r = rw (lt-leb (length stream) place more, askingsFrom) (rw (r .not-accepted))
+  unfolding askingsFrom
+  asks-last turns more some = rw (lt-leb (length stream) place more, ne-eqb (here .answer .number) 0 some, askingsFrom)
+
+  -- a refusal has a number
+  has-number : Refused s (asking stream place) → here .answer .number ≡ 0 → ⊥
+  unfolding accepted
+  has-number r = eqb-false (here .answer .number) 0 (r .not-accepted)
+
+-- where a command is obeyed
+asks-granted : (s : State) (stream : List ℕ) (place turns : ℕ) (c : Command) (used : ℕ)
+    → Granted s stream place c used
+    → askingsFrom (suc turns) s stream place ≡ asking stream place ∷ askingsFrom turns (obey s c .state) stream (place + used)
+unfolding accept
+asks-granted s stream place turns c used g =
+    asks-on s stream place turns (omega (arith, within g .0, within g .1)) (ap (λ (a : Answered). a .answer .number) (answered g))
+    ∙ ap (λ (a : Answered). asking stream place ∷ askingsFrom turns (a .state) stream (place + a .answer .used)) (answered g)
 
 -- what comes of a stream from a place on, however many turns there are
 data Runs (stream : List ℕ) : State → ℕ → Run → Type 0 where
@@ -171,19 +190,11 @@ unfolding stopped prepend after
 asked {stream} (ends s place out) turns h = rw (asks-none s stream place turns out)
 asked (obeys s place c used r g later) zero h = absurd (omega (arith, within g .0, within g .1))
 asked {stream} (obeys s place c used r g later) (suc turns) h =
-    rw (asks-on s stream place turns c used g)
+    rw (asks-granted s stream place turns c used g)
     (asked later turns (omega (arith, within g .0))
     ∙ ap (λ (t : State). after t (askingsFrom turns (obey s c .state) stream (place + used))) (sym (left-state g)))
 asked (refuses s place more r) zero h = absurd (omega arith)
-asked {stream} (refuses s place more r) (suc turns) h = rw (asks-last s stream place turns more r) (sym (r .unchanged))
-
--- a refusal has a number
-has-number : (s : State) (stream : List ℕ) (place : ℕ)
-    → Refused s (asking stream place)
-    → command s (asking stream place) .answer .number ≡ 0
-    → ⊥
-unfolding accepted
-has-number s stream place r = eqb-false (command s (asking stream place) .answer .number) 0 (r .not-accepted)
+asked {stream} (refuses s place more r) (suc turns) h = rw (asks-last s stream place turns more (has-number s stream place r)) (sym (r .unchanged))
 
 holds : {stream : List ℕ} {s : State} {place : ℕ} {r : Run} → Runs stream s place r → place ≤ length stream → RunHolds s stream r
 unfolding stopped prepend acceptsAll obeyAll

@@ -2,7 +2,7 @@
 -- on a refusal `refused K at O` (number, byte offset of the command counted from 0), then stops."
 use mathlib.Core.Path.{_≡_}
 use mathlib.Core.Bool.{Bool, true, false, cond}
-use mathlib.Core.List.{List, [], _++_}
+use mathlib.Core.List.{List, [], _∷_, _++_}
 use Prim.Native.Nat.{ℕ, zero, suc, _+_, _-_, _≤_}
 use lib.Dec.{eqb, leb, ltb}
 use lib.ListN.{length, replicate}
@@ -157,6 +157,12 @@ printFrom (suc turns) s stream place =
 -- the day printer: standard input to standard output
 unfoldable pub print : List ℕ → List ℕ
 print stream = printFrom (length stream) none stream 0
+
+-- what is printed of askings, each where it stands in the input: "one line per accepted BEGIN or DONE, and on a refusal `refused K at O`"
+unfoldable pub saidOf : State → List Asking → List ℕ
+saidOf s [] = []
+saidOf s (a ∷ later) =
+    said (decode (a .stream) (a .place)) (a .place) (command s a) ++ saidOf (command s a .state) later
 
 -- the command at a place of the stream with a part of it around it: what came ahead of the part has been dropped, and what comes after it
 -- has not come yet. The start list may be any of at least 64 entries

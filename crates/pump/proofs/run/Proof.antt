@@ -8,7 +8,7 @@ use lib.ListN.{length}
 use lib.Seq.{length-take-le}
 use Rattle.rules.specs.Printer.{isCounted}
 use Rattle.plan.proofs.NewPlan.{new-valid}
-use Rattle.pump.specs.Standing.{positionOf}
+use Rattle.position.specs.Standing.{positionOf}
 use Rattle.pump.proofs.Holding.{PumpLoop, at-size, at-start, bytesLeft, in-output, onward, room, falls, refalls, refilled}
 use Rattle.pump.proofs.run.Statement.{statement}
 use Rattle.pump.proofs.run.Tie as tie

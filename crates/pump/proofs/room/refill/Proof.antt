@@ -7,8 +7,8 @@ use mir.Val.{toZ, ofZ}
 use lib.ListN.{length, take, drop}
 use borrow.Rule.Slice.PartMut.{putMid}
 use borrow.Author.Needs.{needs}
-use Rattle.pump.specs.Standing.{positionOf}
-use Rattle.pump.proofs.Fronting.{front-stays, came, length-behind, left-over}
+use Rattle.position.specs.Standing.{positionOf}
+use Rattle.pump.proofs.Refilling.{front-stays, came, length-behind, left-over}
 use Rattle.pump.proofs.room.refill.Statement.{statement}
 use Rattle.pump.proofs.room.refill.Tie as tie
 

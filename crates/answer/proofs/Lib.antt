@@ -1,0 +1,3 @@
+-- Laws of what words and answers mean.
+pub mod Meant
+pub mod Obeying

@@ -1,0 +1,134 @@
+-- What a sound plan means: the lists of its meaning have for each task what its columns have.
+use mathlib.Core.Path.{_≡_, sym, ap, fun-ext, subst, _∙_}
+use mathlib.Core.Logic.{⊎-elim}
+use mathlib.Core.List.{List, [], _∷_, _++_}
+use Prim.Native.Nat.{ℕ, suc, _+_, _≤_, _<_}
+use native.Mathlib.Numerals.{add-one}
+use native.Mathlib.Omega.{arith}
+use lib.Dec.{leb}
+use lib.ListN.{length, take, set, length-take, List·getD-eq-default}
+use lib.Seq.{getD-take, take-suc-set}
+use borrow.Author.Tests.{le-leb}
+use Rattle.rules.specs.Lists.{at}
+use Rattle.rules.specs.Need.{need}
+use Rattle.rules.specs.Phase
+use Rattle.rules.specs.State.{needs}
+use Rattle.rules.specs.Reachable.{Reachable}
+use Rattle.rules.specs.Invariant.{Valid, Roomy}
+use Rattle.rules.proofs.Tests.{le-or-lt}
+use Rattle.rules.proofs.Sums.{only-true}
+use Rattle.rules.proofs.InDay.{booksOf, needs-roomy}
+use Rattle.rules.proofs.Reaching.{lives}
+use Rattle.words.specs.Contents.{Contents}
+use Rattle.store.specs.Rows.{rowsOf, books, activationOf}
+use Rattle.store.specs.Kept.{Kept}
+use Rattle.store.proofs.Rows.{rows-is}
+use Rattle.answer.specs.Meaning.{dayRows, meaning}
+use Rattle.answer.specs.Sound.{Unused, Sound}
+
+-- the entries given so far are all that a column says
+pub given-is : (given : ℕ) (l : List ℕ) → Unused given l → at (take given l) ≡ at l
+given-is given l unused =
+    fun-ext
+    (λ a.
+    ⊎-elim
+    (λ (h : given ≤ a).
+    List·getD-eq-default (take given l) 0 (let t = length-take given l in omega arith) ∙ sym (unused .later a h))
+    (λ (h : a < given). getD-take given l a 0 h)
+    (le-or-lt given a))
+
+-- where one entry more is given, it stands behind the others
+pub given-more :
+    (l : List ℕ) (given entry : ℕ) → given < length l → take (given + 1) (set l given entry) ≡ take given l ++ (entry ∷ [])
+given-more l given entry more = rw add-one (take-suc-set l given entry more)
+
+module _ (c : Contents) (sound : Sound c) where
+  -- the columns of the plan, in any phase
+  pub parents-meant : at (meaning c .parents) ≡ at (c .parents)
+  parents-meant = given-is (c .given) (c .parents) (sound .parents)
+
+  pub works-meant : at (meaning c .chilled .works) ≡ at (c .chilled .works)
+  works-meant = given-is (c .given) (c .chilled .works) (sound .works)
+
+  pub outs-meant : at (meaning c .chilled .outs) ≡ at (c .chilled .outs)
+  outs-meant = given-is (c .given) (c .chilled .outs) (sound .outs)
+
+  -- the needs, by the columns
+  pub needs-columns :
+      needs (meaning c) ≡ need (c .size) (at (c .parents)) (at (c .chilled .works)) (at (c .chilled .outs))
+  needs-columns = rw (parents-meant, works-meant, outs-meant)
+
+  -- every parent is a task or nobody
+  pub parents-small : Reachable (meaning c) → (i : ℕ) → at (c .parents) i ≤ c .size
+  parents-small reached =
+      subst (λ (f : ℕ → ℕ). (i : ℕ) → f i ≤ c .size) parents-meant (lives reached .formed .parents)
+
+-- in a day its columns have an entry for each task, and one for nobody
+pub day-rows : (c : Contents) → Phase.running ≤ c .phase → dayRows c ≡ suc (c .size)
+day-rows c day = only-true (leb Phase.running (c .phase)) (suc (c .size)) (le-leb Phase.running (c .phase) day)
+
+module _ (c : Contents) (sound : Sound c) (day : Phase.running ≤ c .phase) where
+  -- the lists of the day are the rows of the tasks
+  pub standings-rows : meaning c .standings ≡ rowsOf (c .size) (c .standings)
+  standings-rows = ap (λ (r : ℕ). take r (c .standings)) (day-rows c day)
+
+  pub booked-rows : meaning c .chilled .booked ≡ rowsOf (c .size) (c .chilled .booked)
+  booked-rows = ap (λ (r : ℕ). take r (c .chilled .booked)) (day-rows c day)
+
+  pub books-rows : booksOf (meaning c) ≡ books c
+  books-rows = rw (day-rows c day)
+
+  -- and have for each task what the columns have
+  pub standings-meant : at (meaning c .standings) ≡ at (c .standings)
+  standings-meant = ap at standings-rows ∙ rows-is (c .size) (c .standings) (sound .day day .cached .standings-zero)
+
+  -- the needs are those that were weighed
+  pub needs-meant : needs (meaning c) ≡ at (c .chilled .needs)
+  needs-meant = needs-columns c sound ∙ sym (fun-ext (sound .day day .cached .store .needed))
+
+  -- the activation order is whole
+  pub activation-meant : meaning c .activation ≡ activationOf c
+  activation-meant = ap (λ (k : ℕ). take k (c .activation)) (sound .day day .ranked-all)
+
+-- a plan in its day that commands led to
+module _ (c : Contents) (reached : Reachable (meaning c)) (sound : Sound c) (day : Phase.running ≤ c .phase) where
+  -- its activation order holds each task once, before its parent
+  pub order-valid : Valid (c .size) (at (c .parents)) (activationOf c)
+  order-valid =
+      rw (parents-meant c sound, activation-meant c sound day) at (lives reached .day day .1 .planned .valid)
+
+  -- its books keep what holds of a day
+  pub still-kept : Kept c
+  still-kept =
+      let inDay = lives reached .day day .1 in
+      record {
+        invariant =
+            record {
+              small = sound .small;
+              bounded = sound .bounded;
+              valid = order-valid;
+              parents = parents-small c sound reached;
+              roomy =
+                  subst (λ (par : ℕ → ℕ). Roomy (c .size) par (at (c .chilled .needs)) (at (c .chilled .outs))) (parents-meant c sound)
+                  (subst (λ (f : ℕ → ℕ). Roomy (c .size) (at (meaning c .parents)) f (at (c .chilled .outs)))
+                  (needs-meant c sound day)
+                  (subst (λ (out : ℕ → ℕ). Roomy (c .size) (at (meaning c .parents)) (needs (meaning c)) out) (outs-meant c sound)
+                  (needs-roomy (meaning c) (meaning c .chilled))));
+              good =
+                  rw (
+                    needs-meant c sound day,
+                    parents-meant c sound,
+                    activation-meant c sound day,
+                    outs-meant c sound,
+                    books-rows c sound day,
+                  ) at (inDay .settled .good);
+            };
+        cached = sound .day day .cached;
+      }
+
+  -- no more tasks run than there are processors
+  pub staffed : c .active ≤ c .processors
+  staffed =
+      let r = sound .day day .cached .runs in
+      let s = rw (standings-rows c sound day) at (lives reached .day day .1 .settled .staffed) in
+      omega arith

@@ -1,0 +1,47 @@
+-- What the words of a plan and the answers of the code mean in the rules.
+use mathlib.Core.List.{List}
+use Prim.Native.Nat.{ℕ, suc}
+use lib.Dec.{leb}
+use lib.ListN.{take}
+use Rattle.rules.specs.Sums.{only}
+use Rattle.rules.specs.Phase
+use Rattle.rules.specs.State.{State}
+use Rattle.rules.specs.Answer as rules
+use Rattle.words.specs.Contents.{Contents, contents}
+use Rattle.answer.specs.declared.Answer.{Answer}
+
+-- how many entries the columns of a day have: one for nobody and one for each task, from BEGIN on
+abbrev pub dayRows : Contents → ℕ
+dayRows c = only (leb Phase.running (c .phase)) (suc (c .size))
+
+-- the plan of the rules whose lists are the entries given so far
+abbrev pub meaning : Contents → State
+meaning c =
+    record {
+      phase = c .phase;
+      size = c .size;
+      processors = c .processors;
+      parents = take (c .given) (c .parents);
+      activation = take (c .ranked) (c .activation);
+      execution = take (c .placed) (c .execution);
+      standings = take (dayRows c) (c .standings);
+      chilled =
+          record {
+            bound = c .chilled .bound;
+            works = take (c .given) (c .chilled .works);
+            outs = take (c .given) (c .chilled .outs);
+            booked = take (dayRows c) (c .chilled .booked);
+          };
+    }
+
+-- the plan in some words
+abbrev pub planOf : List ℕ → State
+planOf w = meaning (contents w)
+
+abbrev pub answerOf : Answer → rules.Answer
+answerOf a =
+    record { number = a .number; used = a .used; starts = a .starts; peak = a .peak; offers = a .offers }
+
+-- an answer, with the plan and the start list afterwards
+abbrev pub answeredOf : Answer → Contents → List ℕ → rules.Answered
+answeredOf a c list = record { answer = answerOf a; state = meaning c; list = list }

@@ -1,0 +1,258 @@
+-- BEGIN in code: what the survey answers is the ground of the rules, and what it leaves is what preparing the day asks.
+use mathlib.Core.Path.{_≡_, refl, sym, ap, ap₂, subst, _∙_}
+use mathlib.Core.Bool.{Bool, true, false, _&&_}
+use mathlib.Core.Logic.{⊎-elim}
+use mathlib.Core.List.{List}
+use Prim.Native.Nat.{ℕ, _≤_, _<_}
+use native.Mathlib.Omega.{arith}
+use lib.Dec.{eqb, leb}
+use lib.ListN.{length, take}
+use lib.Seq.{getD-take, length-take-le}
+use borrow.Author.Tests.{eqb-true, eq-eqb, le-leb, lt-leb}
+use Rattle.rules.specs.Sums.{only}
+use Rattle.rules.specs.Lists.{at, every, distinct}
+use Rattle.rules.specs.Limits.{leastStarts}
+use Rattle.rules.specs.Peak.{roots, ordered, peak}
+use Rattle.rules.specs.Phase
+use Rattle.rules.specs.State.{State}
+use Rattle.rules.specs.Command.{begin}
+use Rattle.rules.specs.Grounds as grounds
+use Rattle.rules.specs.Reachable.{Reachable}
+use Rattle.rules.specs.Obey.{fresh, proceed, obey}
+use Rattle.rules.specs.Answer.{accept}
+use Rattle.rules.proofs.Tests.{decide, and-true}
+use Rattle.rules.proofs.Formed.{Formed}
+use Rattle.rules.proofs.Reaching.{lives}
+use Rattle.rules.proofs.Judging.{ground-turn, ground-own}
+use Rattle.words.specs.Contents.{Contents}
+use Rattle.words.proofs.Contents.{Lengths}
+use Rattle.store.specs.Rows.{activationOf, executionOf}
+use Rattle.store.specs.Cached.{Placed}
+use Rattle.survey.specs.Survey.{Ordered, orderGround, groundOf, peakOf}
+use Rattle.survey.proofs.Grounds as surveying
+use Rattle.answer.specs.Meaning.{meaning}
+use Rattle.answer.specs.Sound.{Unused, Noted, Sound}
+use Rattle.day.specs.Day.{begins, MayBegin, Begun}
+use Rattle.answer.proofs.Meant.{parents-meant, works-meant, outs-meant, parents-small}
+use Rattle.day.proofs.Proceeding.{Whole, same, sound-then}
+
+-- the ground against BEGIN, from the ground against its activation order
+module _ (s : State) where
+  pub begin-refused :
+      (k : ℕ)
+      → orderGround (s .size) (at (s .parents)) (s .activation) ≡ k
+      → (k ≡ 0 → ⊥)
+      → grounds.ownGround s begin ≡ k
+  unfolding grounds.ownGround orderGround
+  begin-refused k g some =
+      ⊎-elim
+      (λ (r : eqb (roots (s .size) (at (s .parents))) 1 ≡ true).
+      ⊎-elim
+      (λ (o : ordered (at (s .parents)) (s .activation) ≡ true). absurd (some (sym g ∙ rw (r, o))))
+      (λ (o : ordered (at (s .parents)) (s .activation) ≡ false).
+      (let here : grounds.ownGround s begin ≡ 8 = rw (r, o) in
+      let there : orderGround (s .size) (at (s .parents)) (s .activation) ≡ 8 = rw (r, o) in
+      here ∙ sym there ∙ g))
+      (decide (ordered (at (s .parents)) (s .activation))))
+      (λ (r : eqb (roots (s .size) (at (s .parents))) 1 ≡ false).
+      (let here : grounds.ownGround s begin ≡ 7 = rw r in
+      let there : orderGround (s .size) (at (s .parents)) (s .activation) ≡ 7 = rw r in
+      here ∙ sym there ∙ g))
+      (decide (eqb (roots (s .size) (at (s .parents))) 1))
+
+  pub begin-weighed :
+      orderGround (s .size) (at (s .parents)) (s .activation) ≡ 0
+      → grounds.ownGround s begin ≡ grounds.demand (leb (grounds.peakOf s) (s .chilled .bound)) 9 0
+  unfolding grounds.ownGround orderGround
+  begin-weighed g =
+      ⊎-elim
+      (λ (r : eqb (roots (s .size) (at (s .parents))) 1 ≡ true).
+      ⊎-elim
+      (λ (o : ordered (at (s .parents)) (s .activation) ≡ true). rw (r, o))
+      (λ (o : ordered (at (s .parents)) (s .activation) ≡ false).
+      (let there : orderGround (s .size) (at (s .parents)) (s .activation) ≡ 8 = rw (r, o) in absurd (omega arith)))
+      (decide (ordered (at (s .parents)) (s .activation))))
+      (λ (r : eqb (roots (s .size) (at (s .parents))) 1 ≡ false).
+      (let there : orderGround (s .size) (at (s .parents)) (s .activation) ≡ 7 = rw r in absurd (omega arith)))
+      (decide (eqb (roots (s .size) (at (s .parents))) 1))
+
+module _ (c : Contents) (sound : Sound c) (long : Lengths c) where
+  -- how many entries the two orders have
+  ranked-length : length (meaning c .activation) ≡ c .ranked
+  ranked-length =
+      length-take-le (c .ranked) (c .activation)
+      (let f = sound .activation .few in let s = sound .small in let l = long .activation in omega arith)
+
+  placed-length : length (meaning c .execution) ≡ c .placed
+  placed-length =
+      length-take-le (c .placed) (c .execution)
+      (let f = sound .execution .few in let s = sound .small in let l = long .execution in omega arith)
+
+  turn-is : grounds.inTurn (meaning c) begin ≡ begins c
+  unfolding grounds.inTurn begins
+  turn-is =
+      ap₂ (λ (a b : ℕ). eqb (c .phase) Phase.orders && eqb a (c .size) && eqb b (c .size)) ranked-length placed-length
+
+  -- out of turn
+  pub begin-late : begins c ≡ false → grounds.ground (meaning c) begin ≡ 3
+  begin-late e = ground-turn (meaning c) begin (turn-is ∙ e)
+
+  -- in turn: both orders are whole
+  module _ (reached : Reachable (meaning c)) (turn : begins c ≡ true) where
+    pub whole : Whole c
+    unfolding begins
+    whole =
+        let first = and-true (eqb (c .phase) Phase.orders && eqb (c .ranked) (c .size)) (eqb (c .placed) (c .size)) turn in
+        let second = and-true (eqb (c .phase) Phase.orders) (eqb (c .ranked) (c .size)) (first .0) in
+        let now = eqb-true (c .phase) Phase.orders (second .0) in
+        record {
+          sound = sound;
+          given = omega arith;
+          ranked-all = eqb-true (c .ranked) (c .size) (second .1);
+          placed-all = eqb-true (c .placed) (c .size) (first .1);
+        }
+
+    now : c .phase ≡ Phase.orders
+    unfolding begins
+    now =
+        eqb-true (c .phase) Phase.orders
+        (and-true (eqb (c .phase) Phase.orders) (eqb (c .ranked) (c .size))
+        (and-true (eqb (c .phase) Phase.orders && eqb (c .ranked) (c .size)) (eqb (c .placed) (c .size)) turn .0) .0)
+
+    formed : Formed (meaning c)
+    formed = lives reached .formed
+
+    order-is : meaning c .activation ≡ activationOf c
+    order-is = ap (λ (k : ℕ). take k (c .activation)) (whole .ranked-all)
+
+    execution-is : meaning c .execution ≡ executionOf c
+    execution-is = ap (λ (k : ℕ). take k (c .execution)) (whole .placed-all)
+
+    noted-in : (count : ℕ) (order places : List ℕ) → count ≡ c .size → Noted (c .size) count order places → (e : ℕ) → e < c .size → at places (at (take (c .size) order) e) ≡ e
+    noted-in count order places all noted e h =
+        ap (at places) (getD-take (c .size) order e 0 h) ∙ noted .noted e (omega arith)
+
+    -- what the survey asks
+    pub may-survey : Ordered c
+    may-survey =
+        record {
+          parented = record { small = sound .small; inside = λ i _. parents-small c sound reached i };
+          ranked =
+              record {
+                inside = subst (λ (l : List ℕ). every (λ i. grounds.within i (c .size)) l ≡ true) order-is (formed .activation-inside);
+                once = subst (λ (l : List ℕ). distinct l ≡ true) order-is (formed .activation-once);
+                whole = ap length (sym order-is) ∙ ranked-length ∙ whole .ranked-all;
+                placed = noted-in (c .ranked) (c .activation) (c .ranks) (whole .ranked-all) (sound .activation);
+              };
+        }
+
+    is-placed : Placed (c .size) (executionOf c) (at (c .places))
+    is-placed =
+        record {
+          inside = subst (λ (l : List ℕ). every (λ i. grounds.within i (c .size)) l ≡ true) execution-is (formed .execution-inside);
+          once = subst (λ (l : List ℕ). distinct l ≡ true) execution-is (formed .execution-once);
+          whole = ap length (sym execution-is) ∙ placed-length ∙ whole .placed-all;
+          placed = noted-in (c .placed) (c .execution) (c .places) (whole .placed-all) (sound .execution);
+        }
+
+    own : grounds.ground (meaning c) begin ≡ grounds.ownGround (meaning c) begin
+    unfolding grounds.inLimits
+    own = ground-own (meaning c) begin (turn-is ∙ turn) refl
+
+    ground-is : orderGround (c .size) (at (meaning c .parents)) (meaning c .activation) ≡ groundOf c
+    ground-is =
+        ap₂ (λ (f : ℕ → ℕ) (l : List ℕ). orderGround (c .size) f l) (parents-meant c sound) order-is
+
+    peak-is :
+        grounds.peakOf (meaning c)
+        ≡ peak (c .size) (at (c .parents)) (at (c .chilled .works)) (at (c .chilled .outs)) (activationOf c)
+    unfolding grounds.peakOf
+    peak-is =
+        λ z.
+        peak (c .size) (parents-meant c sound z) (works-meant c sound z) (outs-meant c sound z) (order-is z)
+
+    module _ {number high : ℕ} (is-number : number ≡ groundOf c) (is-high : high ≡ peakOf c) where
+      -- 7 or 8
+      pub surveyed-refused : (number ≡ 0 → ⊥) → grounds.ground (meaning c) begin ≡ number
+      surveyed-refused some = own ∙ begin-refused (meaning c) number (ground-is ∙ sym is-number) some
+
+      module _ (fine : number ≡ 0) where
+        -- the peak
+        pub high-is : high ≡ grounds.peakOf (meaning c)
+        high-is =
+            is-high
+            ∙ ap
+            (λ (b : Bool).
+            only b (peak (c .size) (at (c .parents)) (at (c .chilled .works)) (at (c .chilled .outs)) (activationOf c)))
+            (eq-eqb (groundOf c) 0 (sym is-number ∙ fine))
+            ∙ sym peak-is
+
+        weighed : grounds.ground (meaning c) begin ≡ grounds.demand (leb (grounds.peakOf (meaning c)) (c .chilled .bound)) 9 0
+        weighed = own ∙ begin-weighed (meaning c) (ground-is ∙ sym is-number ∙ fine)
+
+        -- 9
+        pub too-high : c .chilled .bound < high → grounds.ground (meaning c) begin ≡ 9
+        too-high h =
+            weighed
+            ∙ ap (λ (b : Bool). grounds.demand b 9 0)
+            (lt-leb (grounds.peakOf (meaning c)) (c .chilled .bound) (let e = high-is in omega arith))
+
+        -- none
+        pub low-enough : high ≤ c .chilled .bound → grounds.ground (meaning c) begin ≡ 0
+        low-enough h =
+            weighed
+            ∙ ap (λ (b : Bool). grounds.demand b 9 0)
+            (le-leb (grounds.peakOf (meaning c)) (c .chilled .bound) (let e = high-is in omega arith))
+
+        given-past : (l : List ℕ) → Unused (c .given) l → (a : ℕ) → c .size < a → at l a ≡ 0
+        given-past l unused a h = unused .later a (let g = sound .given .whole (whole .given) in omega arith)
+
+        -- what the day asks
+        pub may-begin : (list : List ℕ) → leastStarts ≤ length list → MayBegin c list
+        may-begin list room =
+            record {
+              may =
+                  record {
+                    long = sound .long;
+                    small = sound .small;
+                    bounded = sound .bounded;
+                    parents = parents-small c sound reached;
+                    works =
+                        record {
+                          light = λ i. sound .light i .0;
+                          nobody = sound .works .nobody;
+                          past = given-past (c .chilled .works) (sound .works);
+                        };
+                    outs =
+                        record {
+                          light = λ i. sound .light i .1;
+                          nobody = sound .outs .nobody;
+                          past = given-past (c .chilled .outs) (sound .outs);
+                        };
+                    valid =
+                        surveying.no-ground (c .size) (at (c .parents)) (at (c .ranks)) (activationOf c) (may-survey .parented)
+                        (may-survey .ranked) (sym is-number ∙ fine);
+                    placed = is-placed;
+                    rest = sound .rest (let e = now in omega arith);
+                  };
+              few = sound .few;
+              room = room;
+            }
+
+        -- all that the caller of BEGIN receives
+        module _ {c′ : Contents} {list list′ : List ℕ} {count : ℕ} (b : Begun c c′ list list′ count) where
+          pub begin-answers :
+              (used : ℕ)
+              → record {
+                answer = record { number = 0; used = used; starts = count; peak = high; offers = 0 };
+                state = meaning c′;
+                list = list′;
+              }
+              ≡ accept (obey (meaning c) begin) used list
+          unfolding obey
+          begin-answers used =
+              same whole b (omega arith) used high 0
+              ∙ ap (λ (v : ℕ). accept (proceed (meaning c) Phase.running (fresh (c .size)) v 0) used list) high-is
+
+          pub begin-sound : Sound c′
+          begin-sound = sound-then whole b (omega arith) (omega arith)

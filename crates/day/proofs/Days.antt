@@ -1,0 +1,91 @@
+-- BEGIN and DONE, one part after the other.
+use mathlib.Core.Path.{_≡_, refl, ap, _∙_}
+use mathlib.Core.Bool.{cond}
+use mathlib.Core.List.{List}
+use Prim.Native.Nat.{ℕ, _≤_}
+use native.Mathlib.Omega.{arith}
+use lib.Dec.{eqb}
+use lib.ListN.{set}
+use Rattle.rules.specs.Lists.{at}
+use Rattle.rules.specs.Phase
+use Rattle.rules.specs.Standing.{running, finished, count}
+use Rattle.rules.proofs.Reporting.{one-fewer}
+use Rattle.words.specs.Contents.{Contents, withHead}
+use Rattle.store.specs.Rows.{books}
+use Rattle.store.proofs.Rows.{at-rows}
+use Rattle.starting.specs.Started.{MayStart}
+use Rattle.survey.specs.Prepare.{Prepared}
+use Rattle.dispatch.specs.Finished.{Finished}
+use Rattle.day.specs.Advanced.{Advanced}
+use Rattle.day.specs.Day.{MayBegin, Begun, MayEnd, Ended}
+use Rattle.day.proofs.Same.{same-tasks, prepared-same}
+
+-- a day on which nothing has happened
+module _ {c c₁ : Contents} {list : List ℕ} (may : MayBegin c list) (prepared : Prepared c c₁) where
+  pub begin-advances : MayStart c₁ list
+  begin-advances =
+      let s = prepared-same prepared .processors in
+      let few = may .few in
+      let idle = prepared .idle in
+      record { kept = prepared .kept; busy = omega arith; few = omega arith; room = may .room }
+
+  pub begun :
+      {c₂ c₃ : Contents} {list₂ : List ℕ} {count : ℕ}
+      → Advanced c₁ c₂ list list₂ count
+      → c₃ ≡ withHead 0 Phase.running c₂
+      → Begun c c₃ list list₂ count
+  begun advanced phased =
+      record {
+        between = c₁;
+        after = _;
+        same = prepared-same prepared;
+        kept = prepared .kept;
+        books = prepared .books;
+        advanced = advanced;
+        phased = phased;
+      }
+
+-- a day on which a task has ended
+module _ {c c₁ : Contents} {j : ℕ} {list : List ℕ} {offers : ℕ} (may : MayEnd c j list) (ends : Finished c j c₁ offers) where
+  -- one task fewer runs
+  fewer : c₁ .active ≤ c .active
+  fewer =
+      let i = may .may .kept .invariant in
+      let t = may .may .task in
+      let here = at-rows (c .size) (c .standings) j (t .high) ∙ may .may .runs in
+      let one = one-fewer (c .size) (books c .standings) j (i .good .sized) t here in
+      let was = may .may .kept .cached .runs in
+      let is : c₁ .active ≡ count (c .size) (at (set (books c .standings) j finished)) running =
+      ends .kept .cached .runs ∙ (λ z. count (ends .same .size z) (at (ends .books z .standings)) running)
+      in
+      omega arith
+
+  pub end-advances : MayStart c₁ list
+  end-advances =
+      let s = ends .same .processors in
+      let few = may .few in
+      let busy = may .busy in
+      let less = fewer in
+      record { kept = ends .kept; busy = omega arith; few = omega arith; room = may .room }
+
+  pub ended :
+      {c₂ c₃ : Contents} {list₂ : List ℕ} {count phase : ℕ}
+      → Advanced c₁ c₂ list list₂ count
+      → phase ≡ cond (eqb (at (c .parents) j) 0) Phase.over Phase.running
+      → c₃ ≡ withHead 0 phase c₂
+      → Ended c j c₃ list list₂ count offers
+  ended {c₂ = c₂} {c₃ = c₃} advanced is phased =
+      record {
+        left = c₁;
+        finished = ends;
+        proceeded =
+            record {
+              between = c₁;
+              after = c₂;
+              same = same-tasks (ends .same);
+              kept = ends .kept;
+              books = refl;
+              advanced = advanced;
+              phased = phased ∙ ap (λ (p : ℕ). withHead 0 p c₂) is;
+            };
+      }

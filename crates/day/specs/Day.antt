@@ -1,0 +1,70 @@
+-- What BEGIN and DONE ask and leave of the contents of a plan.
+use mathlib.Core.Path.{_≡_}
+use mathlib.Core.Bool.{Bool, cond, _&&_}
+use mathlib.Core.List.{List}
+use Prim.Native.Nat.{ℕ, _≤_}
+use lib.Dec.{eqb}
+use lib.ListN.{length}
+use Rattle.rules.specs.Lists.{at}
+use Rattle.rules.specs.Limits.{maxProcessors, leastStarts}
+use Rattle.rules.specs.Phase
+use Rattle.rules.specs.Obey.{fresh}
+use Rattle.rules.specs.Booking.{Books}
+use Rattle.words.specs.Contents.{Contents, withHead}
+use Rattle.store.specs.Rows.{books}
+use Rattle.store.specs.Kept.{Kept}
+use Rattle.survey.specs.Prepare.{MayPrepare}
+use Rattle.dispatch.specs.Finished.{MayFinish, Finished}
+use Rattle.day.specs.Advanced.{Advanced}
+
+-- "BEGIN is in turn in orders once both orders have n entries"
+unfoldable pub begins : Contents → Bool
+begins c = eqb (c .phase) Phase.orders && eqb (c .ranked) (c .size) && eqb (c .placed) (c .size)
+
+-- what is given of a plan, which no day changes
+pub record SameTasks (c c′ : Contents) : Type 0 where
+  pub size : c′ .size ≡ c .size
+  pub processors : c′ .processors ≡ c .processors
+  pub given : c′ .given ≡ c .given
+  pub ranked : c′ .ranked ≡ c .ranked
+  pub placed : c′ .placed ≡ c .placed
+  pub parents : c′ .parents ≡ c .parents
+  pub ranks : c′ .ranks ≡ c .ranks
+  pub places : c′ .places ≡ c .places
+  pub activation : c′ .activation ≡ c .activation
+  pub execution : c′ .execution ≡ c .execution
+  pub bound : c′ .chilled .bound ≡ c .chilled .bound
+  pub works : c′ .chilled .works ≡ c .chilled .works
+  pub outs : c′ .chilled .outs ≡ c .chilled .outs
+
+-- a plan of which a part of the day is done, then booking ahead and starting, in a phase
+pub record Proceeded (c : Contents) (k : Books) (phase : ℕ) (c′ : Contents) (list list′ : List ℕ) (count : ℕ) : Type 0 where
+  pub between : Contents
+  pub after : Contents
+  pub same : SameTasks c between
+  pub kept : Kept between
+  pub books : books between ≡ k
+  pub advanced : Advanced between after list list′ count
+  pub phased : c′ ≡ withHead 0 phase after
+
+-- BEGIN, once there is no ground against it
+pub record MayBegin (c : Contents) (list : List ℕ) : Type 0 where
+  pub may : MayPrepare c
+  pub few : c .processors ≤ maxProcessors
+  pub room : leastStarts ≤ length list
+
+abbrev pub Begun : (c c′ : Contents) (list list′ : List ℕ) (count : ℕ) → Type 0
+Begun c c′ list list′ count = Proceeded c (fresh (c .size)) Phase.running c′ list list′ count
+
+-- DONE, once there is no ground against it
+pub record MayEnd (c : Contents) (j : ℕ) (list : List ℕ) : Type 0 where
+  pub may : MayFinish c j
+  pub busy : c .active ≤ c .processors
+  pub few : c .processors ≤ maxProcessors
+  pub room : leastStarts ≤ length list
+
+pub record Ended (c : Contents) (j : ℕ) (c′ : Contents) (list list′ : List ℕ) (count offers : ℕ) : Type 0 where
+  pub left : Contents
+  pub finished : Finished c j left offers
+  pub proceeded :
+      Proceeded c (books left) (cond (eqb (at (c .parents) j) 0) Phase.over Phase.running) c′ list list′ count

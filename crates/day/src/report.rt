@@ -1,0 +1,88 @@
+// DONE: a task has ended.
+ghost use mathlib.Core.Path.{_≡_};
+ghost use mathlib.Core.Bool.{cond};
+ghost use Prim.Native.Nat.{_≤_};
+ghost use lib.Dec.{eqb};
+ghost use lib.ListN.{length};
+ghost use Rattle.rules.specs.Phase;
+ghost use Rattle.rules.specs.Command as rules;
+ghost use Rattle.rules.specs.Limits.{leastStarts};
+ghost use Rattle.words.specs.Contents.{contents};
+ghost use Rattle.answer.specs.ValidPlan.{ValidPlan, Judged};
+ghost use Rattle.rules.specs.Grounds.{ground};
+ghost use Rattle.answer.specs.Meaning.{planOf};
+ghost use Rattle.day.specs.Day.{MayEnd, Ended};
+use crate::advance::advance;
+use answer::Answer;
+use dispatch::finish;
+use measure::is_within;
+use words::cell;
+use words::plan::Plan;
+use words::set_cell;
+
+// What is counted of a report that is accepted.
+pub(crate) struct Counted {
+    pub(crate) starts: usize,
+    pub(crate) offers: usize,
+}
+
+// "when the root ends the phase is over"
+fn phase_after(parent: u32) -> u32
+    ensures { λ r. ⌜ r ≡ cond (eqb parent 0) Phase.over Phase.running ⌝ }
+{
+    if parent == 0 {
+        Plan::OVER
+    } else {
+        Plan::RUNNING
+    }
+}
+
+// The ground against a report; 0 is none.
+fn report_ground(plan: &[u32; Plan::WORDS], task: usize) -> u8
+    requires { ⌜ ValidPlan (now plan) ⌝ }
+    ensures { λ r. ⌜ r ≡ ground (planOf (now (plan .entry))) (rules.done task) ⌝ }
+{
+    if cell(plan, Plan::HEAD, Plan::PHASE) != Plan::RUNNING {
+        return 3;
+    }
+    if !is_within(task, cell(plan, Plan::HEAD, Plan::SIZE) as usize) {
+        return 4;
+    }
+    if cell(plan, task, Plan::STANDING) != Plan::STARTED {
+        return 6;
+    }
+    0
+}
+
+// "DONE shares out, books ahead and starts."
+fn end(plan: &mut [u32; Plan::WORDS], task: usize, starts: &mut [u16]) -> Counted
+    requires { ⌜ MayEnd (contents (now plan)) task (now starts) ⌝ }
+    ensures { λ r. ⌜ Ended (contents (now (plan .entry))) task (contents (now (plan .exit))) (now (starts .entry)) (now (starts .exit)) (r .starts) (r .offers) ⌝ }
+{
+    let parent = cell(plan, task, Plan::PARENT);
+    let offers = finish(plan, task);
+    let started = advance(plan, starts);
+    set_cell(plan, Plan::HEAD, Plan::PHASE, phase_after(parent));
+    Counted {
+        starts: started,
+        offers,
+    }
+}
+
+pub fn report(plan: &mut [u32; Plan::WORDS], task: u16, used: usize, starts: &mut [u16]) -> Answer
+    requires { ⌜ ValidPlan (now plan) × (leastStarts ≤ length (now starts)) ⌝ }
+    ensures { λ r. ⌜ Judged (now (plan .entry)) (rules.done task) used (now (starts .entry)) r (now (plan .exit)) (now (starts .exit)) ⌝ }
+{
+    let ground = report_ground(plan, task as usize);
+    if ground != 0 {
+        return Answer::refused(ground);
+    }
+    let counted = end(plan, task as usize, starts);
+    Answer {
+        number: 0,
+        used,
+        starts: counted.starts,
+        peak: 0,
+        offers: counted.offers,
+    }
+}

@@ -1,0 +1,76 @@
+-- Calls of the command function, one after another, by its contract, and what the questions answer, by theirs.
+use mathlib.Core.Path.{_≡_}
+use mathlib.Core.Bool.{Bool, false, _||_}
+use mathlib.Core.List.{List, [], _∷_, _++_, map}
+use Prim.Native.Nat.{ℕ}
+use Rattle.rules.specs.Answer as rules
+use Rattle.rules.specs.Question as questions
+use Rattle.rules.specs.Day as days
+use Rattle.words.specs.Contents.{contents}
+use Rattle.answer.specs.declared.Answer.{Answer}
+use Rattle.answer.specs.Meaning.{planOf, answeredOf}
+use Rattle.answer.specs.ValidPlan.{Commanded}
+
+-- one call: what was asked, on any bytes at any place with any start list, and what the caller received: the answer, and the words of
+-- the plan and the start list as they are then
+pub record Call : Type 0 where
+  pub asking : rules.Asking
+  pub answer : Answer
+  pub left : List ℕ
+  pub list : List ℕ
+
+-- what the command function ensures of a call on the words w
+abbrev pub CallContract : List ℕ → Call → Type 0
+CallContract w c = Commanded w (c .asking) (c .answer) (c .left) (c .list)
+
+-- "Each finds the plan as the one before left it"
+unfoldable pub Calls : List ℕ → List Call → Type 0
+Calls w [] = Unit {0}
+Calls w (c ∷ later) = CallContract w c × Calls (c .left) later
+
+-- the words that a list of calls leaves
+unfoldable pub leftBy : List ℕ → List Call → List ℕ
+leftBy w [] = w
+leftBy w (c ∷ later) = leftBy (c .left) later
+
+-- all that was received with a call, and with a list of calls, and what was asked
+abbrev pub received : Call → rules.Answered
+received c = answeredOf (c .answer) (contents (c .left)) (c .list)
+
+unfoldable pub asked : List Call → List rules.Asking
+asked calls = map (λ c. c .asking) calls
+
+unfoldable pub allReceived : List Call → List rules.Answered
+allReceived calls = map received calls
+
+-- a call that is accepted, one that opens a day and one that opens a plan, by the bytes that were asked and what was received
+abbrev pub accepted : Call → Bool
+accepted c = days.accepts (received c)
+
+abbrev pub opensDay : Call → Bool
+opensDay c = days.beginsDay (c .asking) (received c)
+
+abbrev pub opensPlan : Call → Bool
+opensPlan c = days.beginsPlan (c .asking) (received c)
+
+unfoldable pub nextPlan : List Call → Bool
+nextPlan [] = false
+nextPlan (c ∷ later) = opensPlan c || nextPlan later
+
+-- what happened with a list of calls, in order
+unfoldable pub history : List Call → List days.Event
+history [] = []
+history (c ∷ later) = days.happens (c .asking) (received c) ++ history later
+
+-- answers to the questions, asked of the words w, as each question ensures its own
+pub record Answers (w : List ℕ) : Type 0 where
+  pub phase : ℕ
+  pub booked : ℕ
+  pub inUse : ℕ
+  pub fullness : ℕ
+  pub standing : List ℕ
+  pub phase-is : phase ≡ planOf w .phase
+  pub booked-is : booked ≡ questions.booked (planOf w)
+  pub in-use-is : inUse ≡ questions.inUse (planOf w)
+  pub fullness-is : fullness ≡ questions.fullness (planOf w)
+  pub standing-is : standing ≡ questions.standing (planOf w)

@@ -1,0 +1,95 @@
+-- Demand 3 of the code: one statement about every list of calls that starts with a new plan.
+use mathlib.Core.Path.{_≡_}
+use mathlib.Core.Bool.{true, false}
+use mathlib.Core.Logic.{_↔_}
+use mathlib.Core.List.{List, _∷_, _++_}
+use Prim.Native.Nat.{ℕ, _≤_, _<_}
+use lib.ListN.{length}
+use Rattle.rules.specs.Sums.{countTo}
+use Rattle.rules.specs.Lists.{at}
+use Rattle.rules.specs.Phase
+use Rattle.rules.specs.Standing
+use Rattle.rules.specs.State.{State, none}
+use Rattle.rules.specs.Command as rules
+use Rattle.rules.specs.Question as questions
+use Rattle.rules.specs.Day.{Event, ends, after, answers}
+use Rattle.rules.specs.Theorem.{DayHolds, OrdersHold, SamePlan, runs, usedBy}
+use Rattle.answer.specs.Meaning.{planOf}
+use Rattle.answer.specs.ValidPlan.{ValidPlan, NewPlan}
+use Rattle.demand.specs.Calls.{
+  Call,
+  Calls,
+  Answers,
+  leftBy,
+  asked,
+  allReceived,
+  accepted,
+  opensDay,
+  nextPlan,
+  history,
+}
+
+-- what the questions answer in a day: w are the words of the plan as it stands, and `happened` the day's starts and ends so far
+pub record AnswersHold (w : List ℕ) (happened : List Event) (q : Answers w) : Type 0 where
+  -- running while fewer than n reports were accepted, and over from the n-th on
+  pub running : (q .phase ≡ Phase.running) ↔ (length (ends happened) < planOf w .size)
+  pub over : (q .phase ≡ Phase.over) ↔ (length (ends happened) ≡ planOf w .size)
+  -- trays in use are reckoned from the starts and ends; they are never more than trays booked, and these never more than places
+  pub used : q .inUse ≡ usedBy (planOf w) (planOf w .chilled) happened
+  pub covered : q .inUse ≤ q .booked
+  pub within : q .booked ≤ planOf w .chilled .bound
+  -- the standing counts the running and the ended steps of the day
+  pub running-tasks : at (q .standing) Standing.running ≡ countTo (runs happened) (planOf w .size)
+  pub finished-tasks : at (q .standing) Standing.finished ≡ length (ends happened)
+
+-- what is promised of a day: BEGIN found the words w, and they are w′ as the plan stands
+pub record DayOfCalls (w w′ : List ℕ) (happened : List Event) : Type 0 where
+  -- all that the rules promise of a day holds of the plan and of what happened
+  pub day : DayHolds (planOf w′) happened
+  pub orders : OrdersHold (planOf w′)
+  -- the plan is the one that BEGIN found, with its places
+  pub plan : SamePlan (planOf w) (planOf w′)
+  pub places : planOf w′ .chilled .bound ≡ planOf w .chilled .bound
+  -- and the questions answer what is promised of them in a day
+  pub questions : (q : Answers w′) → AnswersHold w′ happened q
+
+-- "PLAN: n, p, M": a plan that was opened with these
+pub record OpenedWith (n p m : ℕ) (s : State) : Type 0 where
+  pub size : s .size ≡ n
+  pub processors : s .processors ≡ p
+  pub bound : s .chilled .bound ≡ m
+
+-- what is promised of a list of calls on the words w
+pub record CallsHold (w : List ℕ) (calls : List Call) : Type 0 where
+  -- every call was answered as the rules have it, start lists included: accepted or refused, by its number, with its starts
+  pub answered : allReceived calls ≡ answers none (asked calls)
+  -- and left the plan that the rules leave
+  pub leaves : planOf (leftBy w calls) ≡ after none (asked calls)
+  pub valid : ValidPlan (leftBy w calls)
+  -- what the questions answer then is what the rules give for the list
+  pub questions :
+      (q : Answers (leftBy w calls))
+      → (q .phase ≡ after none (asked calls) .phase)
+      × (q .booked ≡ questions.booked (after none (asked calls)))
+      × (q .inUse ≡ questions.inUse (after none (asked calls)))
+      × (q .fullness ≡ questions.fullness (after none (asked calls)))
+      × (q .standing ≡ questions.standing (after none (asked calls)))
+  -- a call that opens a plan: as long as no next plan is opened, n, p and M are those that its bytes gave
+  pub plans :
+      (earlier : List Call) (opening : Call) (later : List Call) (n p m used : ℕ)
+      → calls ≡ earlier ++ opening ∷ later
+      → accepted opening ≡ true
+      → rules.decode (opening .asking .stream) (opening .asking .place) ≡ rules.read (rules.plan n p m) used
+      → nextPlan later ≡ false
+      → OpenedWith n p m (planOf (leftBy w calls))
+  -- a call that opens a day: as long as no next plan is opened, all that is promised of a day holds
+  pub days :
+      (earlier : List Call) (opening : Call) (later : List Call)
+      → calls ≡ earlier ++ opening ∷ later
+      → opensDay opening ≡ true
+      → nextPlan (opening ∷ later) ≡ false
+      → DayOfCalls (leftBy w earlier) (leftBy w calls) (history (opening ∷ later))
+
+-- for every list of calls of the command function that starts with a new plan
+abbrev pub EveryCallHolds : Type 0
+EveryCallHolds = (w : List ℕ) → NewPlan w → (calls : List Call) → Calls w calls → CallsHold w calls

@@ -1,0 +1,101 @@
+// 03 and 04: the next task in the activation order, and in the execution order.
+ghost use mathlib.Core.Path.{_≡_};
+ghost use mathlib.Core.Bool.{Bool};
+ghost use lib.ListN.{take};
+ghost use Rattle.rules.specs.Lists.{mem};
+ghost use Rattle.words.specs.Layout.{entries};
+ghost use Rattle.words.specs.Views.{column, part};
+ghost use Rattle.rules.specs.Command as rules;
+ghost use Rattle.answer.specs.ValidPlan.{ValidPlan, Obeyed};
+ghost use Rattle.ordering.specs.Order.{Sought, OrderAt, groundAt, Appended};
+use answer::Answer;
+use measure::is_within;
+use words::cell;
+use words::entry;
+use words::plan::Plan;
+use words::set_cell;
+use words::set_entry;
+
+// "the step is already in that order": its noted place is one of the first `count`, and the order
+// has it there. What is noted for a task outside the order may be any number.
+fn contains(
+    plan: &[u32; Plan::WORDS],
+    base: usize,
+    column: usize,
+    count: usize,
+    task: usize,
+) -> bool
+    requires { ⌜ Sought base column count task (now plan) ⌝ }
+    ensures { λ r. ⌜ r ≡ mem task (take count (part base entries (now (plan .entry)))) ⌝ }
+{
+    let place = cell(plan, task, column) as usize;
+    if count <= place {
+        return false;
+    }
+    entry(plan, base, place) as usize == task
+}
+
+// The ground against one task more in an order; 0 is none.
+fn next_ground(
+    plan: &[u32; Plan::WORDS],
+    counted: usize,
+    base: usize,
+    column: usize,
+    task: u16,
+) -> u8
+    requires { ⌜ OrderAt counted base column (now plan) ⌝ }
+    ensures { λ r. ⌜ r ≡ groundAt counted base (now (plan .entry)) task ⌝ }
+{
+    if cell(plan, Plan::HEAD, Plan::PHASE) != Plan::ORDERS {
+        return 3;
+    }
+    let size = cell(plan, Plan::HEAD, Plan::SIZE) as usize;
+    let count = cell(plan, Plan::HEAD, counted) as usize;
+    if size <= count {
+        return 3;
+    }
+    if !is_within(task as usize, size) {
+        return 4;
+    }
+    if contains(plan, base, column, count, task as usize) {
+        return 5;
+    }
+    0
+}
+
+// One task more in an order, with its place.
+fn append(
+    plan: &mut [u32; Plan::WORDS],
+    counted: usize,
+    base: usize,
+    column: usize,
+    task: u16,
+    used: usize,
+) -> Answer
+    requires { ⌜ OrderAt counted base column (now plan) ⌝ }
+    ensures { λ r. ⌜ Appended counted base column task used (now (plan .entry)) r (now (plan .exit)) ⌝ }
+{
+    let ground = next_ground(plan, counted, base, column, task);
+    if ground != 0 {
+        return Answer::refused(ground);
+    }
+    let count = cell(plan, Plan::HEAD, counted);
+    set_entry(plan, base, count as usize, task as u32);
+    set_cell(plan, task as usize, column, count);
+    set_cell(plan, Plan::HEAD, counted, count + 1);
+    Answer::plain(used)
+}
+
+pub fn rank(plan: &mut [u32; Plan::WORDS], task: u16, used: usize) -> Answer
+    requires { ⌜ ValidPlan (now plan) ⌝ }
+    ensures { λ r. ⌜ Obeyed (now (plan .entry)) (rules.activation task) used r (now (plan .exit)) ⌝ }
+{
+    append(plan, Plan::RANKED, Plan::ACTIVATION, Plan::RANK, task, used)
+}
+
+pub fn place(plan: &mut [u32; Plan::WORDS], task: u16, used: usize) -> Answer
+    requires { ⌜ ValidPlan (now plan) ⌝ }
+    ensures { λ r. ⌜ Obeyed (now (plan .entry)) (rules.execution task) used r (now (plan .exit)) ⌝ }
+{
+    append(plan, Plan::PLACED, Plan::EXECUTION, Plan::PLACE, task, used)
+}

@@ -1,9 +1,0 @@
-pub mod Meaning
-pub mod Sound
-pub mod ValidPlan
-pub mod Cleared
-pub mod Order
-pub mod Advanced
-pub mod Day
-pub mod Calls
-pub mod Demand

@@ -1,0 +1,3 @@
+-- Laws of the questions.
+pub mod Counting
+pub mod Questions

@@ -1,0 +1,3 @@
+-- Laws of steps.
+pub mod Reach
+pub mod Stepping
