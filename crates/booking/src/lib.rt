@@ -2,14 +2,14 @@
 ghost use Rattle.words.specs.Contents.{contents};
 ghost use Rattle.store.specs.Kept.{Kept};
 ghost use Rattle.booking.specs.Booked.{MayActivate, DidActivate, SomeWait, BookedNext, BookedAhead};
+use cells::cell;
+use cells::entry;
+use cells::set_cell;
 use ready::insert;
 use store::grant;
 use store::has_room;
 use store::missing;
-use words::cell;
-use words::entry;
 use words::plan::Plan;
-use words::set_cell;
 
 // A task becomes booked, and is ready where all its children have ended.
 fn activate(plan: &mut [u32; Plan::WORDS], task: usize)

@@ -7,7 +7,7 @@ use starting::start_ready;
 use words::plan::Plan;
 
 // How many tasks it starts.
-pub fn advance(plan: &mut [u32; Plan::WORDS], starts: &mut [u16]) -> usize
+pub(crate) fn advance(plan: &mut [u32; Plan::WORDS], starts: &mut [u16]) -> usize
     requires { ⌜ MayStart (contents (now plan)) (now starts) ⌝ }
     ensures { λ r. ⌜ Advanced (contents (now (plan .entry))) (contents (now (plan .exit))) (now (starts .entry)) (now (starts .exit)) r ⌝ }
 {

@@ -9,11 +9,11 @@ ghost use Rattle.answer.specs.ValidPlan.{ValidPlan, Judged};
 ghost use Rattle.day.specs.Day.{begins, MayBegin, Begun};
 use crate::advance::advance;
 use answer::Answer;
+use cells::cell;
+use cells::set_cell;
 use survey::prepare;
 use survey::survey;
-use words::cell;
 use words::plan::Plan;
-use words::set_cell;
 
 // Whether both orders are whole and the plan waits for its BEGIN.
 fn is_in_turn(plan: &[u32; Plan::WORDS]) -> bool

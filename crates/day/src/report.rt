@@ -14,11 +14,11 @@ ghost use Rattle.answer.specs.Meaning.{planOf};
 ghost use Rattle.day.specs.Day.{MayEnd, Ended};
 use crate::advance::advance;
 use answer::Answer;
+use cells::cell;
+use cells::set_cell;
 use dispatch::finish;
 use measure::is_within;
-use words::cell;
 use words::plan::Plan;
-use words::set_cell;
 
 // What is counted of a report that is accepted.
 pub(crate) struct Counted {

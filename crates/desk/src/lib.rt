@@ -2,11 +2,11 @@
 // copied once into flat columns, and these into the rows of a plan, which is surveyed as at BEGIN.
 mod room;
 
+use cells::set_cell;
 use measure::is_within;
 use measure::least;
 use survey::survey;
 use words::plan::Plan;
-use words::set_cell;
 ghost use mathlib.Core.Path.{_≡_};
 ghost use Prim.Native.Nat.{min};
 ghost use lib.ListN.{replicate};

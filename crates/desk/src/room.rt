@@ -15,10 +15,10 @@ ghost use Rattle.words.specs.Layout.{words};
 ghost use Rattle.words.specs.Contents.{contents};
 ghost use Rattle.desk.specs.Columns.{ofTask};
 ghost use Rattle.desk.specs.Room.{AtRow, withRow, RowsWritten, MayWriteOrder, Ranked, OrderWritten};
-use words::cell;
+use cells::cell;
+use cells::set_cell;
+use cells::set_entry;
 use words::plan::Plan;
-use words::set_cell;
-use words::set_entry;
 
 // Writes the row of a task, and says whether its parent is one of n tasks or nobody.
 fn write_row(

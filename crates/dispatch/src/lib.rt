@@ -4,14 +4,14 @@ ghost use Rattle.words.specs.Contents.{contents};
 ghost use Rattle.dispatch.specs.Climb.{MayClimb, DidClimb};
 ghost use Rattle.dispatch.specs.Ended.{MayEnd, ended, MayFeed, Fed};
 ghost use Rattle.dispatch.specs.Finished.{MayFinish, Finished};
+use cells::cell;
+use cells::set_cell;
 use ready::insert;
 use store::free;
 use store::pass;
 use store::release;
 use store::rest;
-use words::cell;
 use words::plan::Plan;
-use words::set_cell;
 
 pub(crate) struct Passed {
     // the tasks on the way, each one offer

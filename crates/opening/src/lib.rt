@@ -7,10 +7,10 @@ ghost use Rattle.rules.specs.Command as rules;
 ghost use Rattle.opening.specs.Cleared.{MayClear, Cleared, MayEmpty, Emptied};
 ghost use Rattle.answer.specs.ValidPlan.{ValidPlan, Obeyed};
 use answer::Answer;
+use cells::cell;
+use cells::set_cell;
 use measure::is_within;
-use words::cell;
 use words::plan::Plan;
-use words::set_cell;
 
 // Sets the words from one to another to 0.
 fn clear(plan: &mut [u32; Plan::WORDS], from: usize, to: usize)

@@ -9,12 +9,12 @@ ghost use Rattle.rules.specs.Command as rules;
 ghost use Rattle.answer.specs.ValidPlan.{ValidPlan, Obeyed};
 ghost use Rattle.ordering.specs.Order.{Sought, OrderAt, groundAt, Appended};
 use answer::Answer;
+use cells::cell;
+use cells::entry;
+use cells::set_cell;
+use cells::set_entry;
 use measure::is_within;
-use words::cell;
-use words::entry;
 use words::plan::Plan;
-use words::set_cell;
-use words::set_entry;
 
 // "the step is already in that order": its noted place is one of the first `count`, and the order
 // has it there. What is noted for a task outside the order may be any number.

@@ -6,7 +6,7 @@ ghost use Rattle.rules.specs.Phase;
 ghost use Rattle.rules.specs.Question as rules;
 ghost use Rattle.answer.specs.Meaning.{planOf};
 ghost use Rattle.answer.specs.ValidPlan.{ValidPlan};
-use words::cell;
+use cells::cell;
 use words::plan::Plan;
 
 // A figure of a day, 0 outside running.

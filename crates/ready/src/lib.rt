@@ -7,9 +7,9 @@ ghost use lib.Count.{trailingZeros};
 ghost use Rattle.words.specs.Layout.{bits};
 ghost use Rattle.words.specs.Contents.{contents};
 ghost use Rattle.words.specs.Marks.{MayChange, Changed, FirstMarked, Marked};
-use words::entry;
+use cells::entry;
+use cells::set_entry;
 use words::plan::Plan;
-use words::set_entry;
 
 // The word with one bit.
 fn bit(place: usize) -> u32

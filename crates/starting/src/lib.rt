@@ -1,13 +1,13 @@
 // Starting: while a processor is free, the first ready task in the execution order runs.
 ghost use Rattle.words.specs.Contents.{contents};
 ghost use Rattle.starting.specs.Started.{MayRun, OneStarted, MayStart, Started};
+use cells::cell;
+use cells::entry;
+use cells::set_cell;
 use ready::first_ready;
 use ready::remove;
 use store::load;
-use words::cell;
-use words::entry;
 use words::plan::Plan;
-use words::set_cell;
 
 // The ready task at a place of the execution order runs.
 fn run(plan: &mut [u32; Plan::WORDS], place: usize) -> u16

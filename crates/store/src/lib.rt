@@ -6,9 +6,9 @@ ghost use Rattle.rules.specs.Lists.{at};
 ghost use Rattle.words.specs.Layout.{words, chilled};
 ghost use Rattle.words.specs.Contents.{contents};
 ghost use Rattle.store.specs.Store as stores;
-use words::cell;
+use cells::cell;
+use cells::set_cell;
 use words::plan::Plan;
-use words::set_cell;
 
 // What is missing of `need`, never below 0.
 fn lack(need: u32, figure: u32) -> u32

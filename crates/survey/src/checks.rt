@@ -9,7 +9,7 @@ ghost use Rattle.rules.specs.Peak;
 ghost use Rattle.words.specs.Contents.{contents};
 ghost use Rattle.survey.specs.Survey.{RankedIn, orderGround};
 ghost use Rattle.survey.specs.Checks.{isLate, Parented};
-use words::cell;
+use cells::cell;
 use words::plan::Plan;
 
 // How many tasks have no parent.

@@ -6,9 +6,9 @@ ghost use Rattle.rules.specs.Lists.{at};
 ghost use Rattle.words.specs.Layout.{row};
 ghost use Rattle.words.specs.Contents.{contents};
 ghost use Rattle.survey.specs.Prepare.{MayAdd, MayWeigh, weighed, MayPrepare, Prepared};
-use words::cell;
+use cells::cell;
+use cells::set_cell;
 use words::plan::Plan;
-use words::set_cell;
 
 // A word of a row grows.
 fn add(plan: &mut [u32; Plan::WORDS], line: usize, column: usize, more: u32)

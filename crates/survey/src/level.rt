@@ -8,8 +8,8 @@ ghost use Rattle.rules.specs.Peak;
 ghost use Rattle.words.specs.Contents.{contents, storeContents};
 ghost use Rattle.store.specs.Store.{keptOut};
 ghost use Rattle.survey.specs.Level.{AtRow, MayFeed, Fed, MayRun, MayPeak};
-use words::cell;
-use words::entry;
+use cells::cell;
+use cells::entry;
 use words::plan::Plan;
 
 // A row for each task, and row 0 for nobody.

@@ -7,7 +7,7 @@ pub use figures::prepare;
 ghost use mathlib.Core.Path.{_≡_};
 ghost use Rattle.words.specs.Contents.{contents};
 ghost use Rattle.survey.specs.Survey.{Ordered, groundOf, peakOf};
-use words::cell;
+use cells::cell;
 use words::plan::Plan;
 
 // What a survey answers: the number of a ground, and the peak where the number is 0.

@@ -1,8 +1,2 @@
-// The words of a plan: where everything lies, and reading and writing it.
-mod cells;
+// The words of a plan: its limits, and where everything lies.
 pub mod plan;
-
-pub use cells::cell;
-pub use cells::entry;
-pub use cells::set_cell;
-pub use cells::set_entry;

@@ -1,10 +1,10 @@
-// One word of a plan: of a row, and of an order.
+// One word of a plan: of a row, and of an order. All other functions speak of rows and columns.
 ghost use mathlib.Core.Path.{_≡_};
 ghost use Prim.Native.Nat.{_+_, _*_, _≤_, _<_};
 ghost use lib.ListN.{set};
 ghost use Rattle.rules.specs.Lists.{at};
 ghost use Rattle.words.specs.Layout.{row, rows, words};
-use crate::plan::Plan;
+use words::plan::Plan;
 
 // A word of a row.
 pub fn cell(plan: &[u32; Plan::WORDS], line: usize, column: usize) -> u32
