@@ -47,7 +47,7 @@ match:
 examples:
 	./compare/examples
 
-# Commands timed, the command function beside the peer's.
+# Commands, and why a step is not starting, timed beside the peer's.
 bench:
 	@./compare/bench
 

@@ -3,8 +3,9 @@
        rt staticlib cephlouk
        cc -Iinclude examples/kitchen.c target/staticlib/libcephlouk.a -o target/kitchen && target/kitchen
 
-   The words are those of plan texts (see examples/plan-a.plan). Beside them, "ask" asks the plan how the day stands, and "if" ahead of a
-   command gives it to a copy of the plan, to see what would come of it. What is refused changes nothing, and the kitchen goes on. */
+   The words are those of plan texts (see examples/plan-a.plan). Beside them, "ask" asks the plan how the day stands, "why" asks why steps
+   are not starting, and "if" ahead of a command gives it to a copy of the plan, to see what would come of it. What is refused changes
+   nothing, and the kitchen goes on. */
 #include "cephlouk.h"
 #include <stdio.h>
 #include <stdlib.h>
@@ -76,6 +77,33 @@ static void tell(const uint32_t *plan)
            (unsigned long)counts.running, (unsigned long)counts.finished);
 }
 
+/* Tells why a step is not starting. */
+static void explain(const uint32_t *plan, uint16_t step)
+{
+    struct cephlouk_reason reason = cephlouk_why(plan, step);
+    if (reason.number != CEPHLOUK_ACCEPTED) {
+        printf("refused %d: %s\n", reason.number, grounds[reason.number]);
+        return;
+    }
+    printf("step %d ", step);
+    switch (reason.kind) {
+    case CEPHLOUK_REASON_ENDED:
+        printf("has ended\n");
+        break;
+    case CEPHLOUK_REASON_RUNNING:
+        printf("is running\n");
+        break;
+    case CEPHLOUK_REASON_NOT_BOOKED:
+        printf("is not booked: step %d is next, and %lu places are lacking\n", reason.task, (unsigned long)reason.lack);
+        break;
+    case CEPHLOUK_REASON_UNFED:
+        printf("waits for step %d\n", reason.task);
+        break;
+    case CEPHLOUK_REASON_NO_PROCESSOR:
+        printf("waits for a station\n");
+    }
+}
+
 /* Adds a number of so many bytes, lowest first; a dash is 0. It fails where the word is no such number. */
 static int add_number(uint8_t *bytes, size_t width, const char *word)
 {
@@ -135,6 +163,21 @@ static void obey(uint32_t *plan, const char *first)
     } while (word != NULL);
 }
 
+/* The questions of a line, each about a step. */
+static void explain_all(const uint32_t *plan)
+{
+    uint8_t step[2];
+    char *word = next_word();
+    do {
+        if (!add_number(step, sizeof step, word)) {
+            printf("write: why N ...\n");
+            return;
+        }
+        explain(plan, (uint16_t)(step[0] | step[1] << 8));
+        word = next_word();
+    } while (word != NULL);
+}
+
 int main(void)
 {
     static uint32_t plan[CEPHLOUK_PLAN_WORDS], copy[CEPHLOUK_PLAN_WORDS];
@@ -150,6 +193,8 @@ int main(void)
         word = strtok(line, " \t\r\n");
         if (word != NULL && strcmp(word, "ask") == 0) {
             tell(plan);
+        } else if (word != NULL && strcmp(word, "why") == 0) {
+            explain_all(plan);
         } else if (word != NULL && strcmp(word, "if") == 0 && (word = next_word()) != NULL) {
             memcpy(copy, plan, sizeof plan);
             obey(copy, word);

@@ -45,7 +45,7 @@ enum {
     CEPHLOUK_ACCEPTED = 0,
     CEPHLOUK_CUT_SHORT = 1,        /* no byte is left at the place, or operands are cut short */
     CEPHLOUK_UNKNOWN_BYTE = 2,     /* the byte is none of 01 to 06 */
-    CEPHLOUK_OUT_OF_TURN = 3,      /* the command is not in turn in this phase */
+    CEPHLOUK_OUT_OF_TURN = 3,      /* the command, or the question why a step is not starting, is not in turn in this phase */
     CEPHLOUK_OUTSIDE_LIMITS = 4,   /* n, p, a parent or a step number is outside its limits */
     CEPHLOUK_REPEATED = 5,         /* the step is already in that order */
     CEPHLOUK_NOT_RUNNING = 6,      /* DONE for a step that is not running */
@@ -78,6 +78,23 @@ struct cephlouk_counts {
     uint32_t waiting, activated, running, finished;
 };
 
+/* Why a step is not starting: the first that is true, in this order. */
+enum {
+    CEPHLOUK_REASON_REFUSED = 0,      /* none: see the number */
+    CEPHLOUK_REASON_ENDED = 1,        /* it has ended */
+    CEPHLOUK_REASON_RUNNING = 2,      /* it is running */
+    CEPHLOUK_REASON_NOT_BOOKED = 3,   /* it is not booked: the first waiting step in the activation order, it or another, lacks trays */
+    CEPHLOUK_REASON_UNFED = 4,        /* it waits for a feeder */
+    CEPHLOUK_REASON_NO_PROCESSOR = 5  /* all stations are taken */
+};
+
+struct cephlouk_reason {
+    uint8_t number; /* CEPHLOUK_ACCEPTED; OUT_OF_TURN outside running; then OUTSIDE_LIMITS for a number that is no step's */
+    uint8_t kind;   /* CEPHLOUK_REASON_... */
+    uint16_t task;  /* of NOT_BOOKED the first waiting step, of UNFED the lowest-numbered child that has not ended; else 0 */
+    uint32_t lack;  /* of NOT_BOOKED: with so many more places that first step would be booked now, with one fewer not; else 0 */
+};
+
 /* CEPHLOUK_PLAN_WORDS, as the library has it: a program that was compiled with another header may ask. */
 size_t cephlouk_plan_words(void);
 
@@ -95,6 +112,7 @@ uint32_t cephlouk_booked(const uint32_t *plan);                   /* trays booke
 uint32_t cephlouk_in_use(const uint32_t *plan);                   /* trays in use; 0 outside running */
 uint32_t cephlouk_fullness(const uint32_t *plan);                 /* trays booked, in thousandths of the places; 0 outside running */
 struct cephlouk_counts cephlouk_standing(const uint32_t *plan);   /* four zeros outside running and over */
+struct cephlouk_reason cephlouk_why(const uint32_t *plan, uint16_t task); /* why a step is not starting */
 
 /* The planners' desk, in libdesk.a: the peak of the caller's own records in an activation order, with no plan. A record stands for a
    task: the first is task 1. */

@@ -3,6 +3,7 @@
 use crate::answer::Answer;
 use crate::desk::TaskRecord;
 use crate::phase::Standing;
+use crate::reason::FlatReason;
 
 /// What the desk is answered.
 #[repr(C)]
@@ -34,6 +35,8 @@ extern "C" {
     pub(crate) fn cephlouk_fullness(plan: *const u32) -> u32;
 
     pub(crate) fn cephlouk_standing(plan: *const u32) -> Standing;
+
+    pub(crate) fn cephlouk_why(plan: *const u32, task: u16) -> FlatReason;
 
     pub(crate) fn cephlouk_desk_peak(
         records: *const TaskRecord,

@@ -17,7 +17,7 @@
 //! Two salads go into one bowl, and the cold room has 7 places:
 //!
 //! ```
-//! use cephlouk::{Phase, Plan, Refusal};
+//! use cephlouk::{Phase, Plan, Reason, Refusal};
 //!
 //! let mut plan = Plan::new();
 //! plan.command(&[0x01, 3, 0, 2, 7, 0, 0, 0])?; // 3 steps, 2 stations, 7 places
@@ -34,7 +34,8 @@
 //! assert_eq!(begun.starts, [1]);
 //! assert_eq!(plan.booked(), 6);
 //!
-//! // Step 2 has to wait, and what is refused changes nothing.
+//! // Step 2 has to wait: it lacks 5 places. What is refused changes nothing.
+//! assert_eq!(plan.why(2), Ok(Reason::NotBooked { first: 2, lack: 5 }));
 //! assert_eq!(plan.command(&[0x06, 2, 0]), Err(Refusal::NotRunning));
 //!
 //! assert_eq!(plan.command(&[0x06, 1, 0])?.starts, [2]);
@@ -49,10 +50,12 @@ mod desk;
 mod exported;
 mod phase;
 mod plan;
+mod reason;
 mod refusal;
 
 pub use answer::{Accepted, Answer};
 pub use desk::{desk_peak, desk_peak_in, TaskRecord};
 pub use phase::{Phase, Standing};
 pub use plan::Plan;
+pub use reason::Reason;
 pub use refusal::Refusal;

@@ -3,6 +3,7 @@
 use crate::answer::{Accepted, Answer};
 use crate::exported;
 use crate::phase::{Phase, Standing};
+use crate::reason::Reason;
 use crate::refusal::Refusal;
 use std::fmt::{self, Debug, Formatter};
 
@@ -135,6 +136,37 @@ impl Plan {
     /// running and over.
     pub fn standing(&self) -> Standing {
         unsafe { exported::cephlouk_standing(self.words.as_ptr()) }
+    }
+
+    /// Why a step is not starting. Refused out of turn outside running, then
+    /// outside limits for a number that is no step's.
+    ///
+    /// ```
+    /// use cephlouk::{Plan, Reason, Refusal};
+    ///
+    /// let mut plan = Plan::new();
+    /// assert_eq!(plan.why(1), Err(Refusal::OutOfTurn));
+    /// // Two steps feed the third, and there is one station.
+    /// plan.command(&[0x01, 3, 0, 1, 0, 0, 0, 0])?;
+    /// for parent in [3, 3, 0] {
+    ///     plan.command(&[0x02, parent, 0, 0, 0, 0, 0])?;
+    /// }
+    /// for step in 1..=3 {
+    ///     plan.command(&[0x03, step, 0])?;
+    ///     plan.command(&[0x04, step, 0])?;
+    /// }
+    /// plan.command(&[0x05])?;
+    /// assert_eq!(plan.why(1), Ok(Reason::Running));
+    /// assert_eq!(plan.why(2), Ok(Reason::NoProcessor));
+    /// assert_eq!(plan.why(3), Ok(Reason::Unfed(1)));
+    /// assert_eq!(plan.why(4), Err(Refusal::OutsideLimits));
+    /// plan.command(&[0x06, 1, 0])?;
+    /// assert_eq!(plan.why(1), Ok(Reason::Ended));
+    /// assert_eq!(plan.why(3), Ok(Reason::Unfed(2)));
+    /// # Ok::<(), Refusal>(())
+    /// ```
+    pub fn why(&self, step: u16) -> Result<Reason, Refusal> {
+        unsafe { exported::cephlouk_why(self.words.as_ptr(), step) }.told()
     }
 
     /// All that it is: to be stored, and taken up again by

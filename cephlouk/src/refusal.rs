@@ -3,8 +3,8 @@
 use std::error::Error;
 use std::fmt::{Display, Formatter, Result};
 
-/// Why a command, or what the desk was asked, is refused. Nothing has changed
-/// then.
+/// Why a command, or what a plan or the desk was asked, is refused. Nothing has
+/// changed then.
 ///
 /// ```
 /// use cephlouk::{Plan, Refusal};
@@ -12,7 +12,7 @@ use std::fmt::{Display, Formatter, Result};
 /// let refusal = Plan::new().command(&[0x05]).unwrap_err();
 /// assert_eq!(refusal, Refusal::OutOfTurn);
 /// assert_eq!(refusal.number(), 3);
-/// assert_eq!(refusal.to_string(), "the command is not in turn");
+/// assert_eq!(refusal.to_string(), "not in turn in this phase");
 /// ```
 #[derive(Clone, Copy, Debug, PartialEq, Eq, Hash)]
 #[repr(u8)]
@@ -21,7 +21,8 @@ pub enum Refusal {
     CutShort = 1,
     /// The byte is none of 01 to 06.
     UnknownByte = 2,
-    /// The command is not in turn in this phase.
+    /// The command, or the question why a step is not starting, is not in turn
+    /// in this phase.
     OutOfTurn = 3,
     /// n, p, a parent or a step number is outside its limits. At the desk also
     /// lists of unequal lengths, of none or of too many entries.
@@ -74,7 +75,7 @@ impl Display for Refusal {
         to.write_str(match self {
             Refusal::CutShort => "no byte is left, or the operands are cut short",
             Refusal::UnknownByte => "the byte is no command",
-            Refusal::OutOfTurn => "the command is not in turn",
+            Refusal::OutOfTurn => "not in turn in this phase",
             Refusal::OutsideLimits => "a number is outside its limits",
             Refusal::Repeated => "the step is already in that order",
             Refusal::NotRunning => "the step is not running",

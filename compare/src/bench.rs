@@ -1,10 +1,12 @@
-//! Commands timed, the proved command function beside the peer's, and the two
-//! day printers, printed as Markdown. No figure fails anything.
+//! Commands and the question why a step is not starting timed, the proved
+//! functions beside the peer's, and the two day printers, printed as Markdown.
+//! No figure fails anything.
 
-use compare::clock::{medians, Batch, SAMPLES};
+use compare::clock::{medians, Batch, Calls, SAMPLES};
 use compare::day::Day;
 use compare::programs::{self, COMMANDS, RUNS};
 use compare::table::{print_table, Extremes, Pair};
+use std::hint::black_box;
 use std::ops::Range;
 
 /// About so many tasks have the copies of a plan that are timed together.
@@ -15,8 +17,9 @@ fn main() {
     let done = print_table("DONE", reports);
     let begin = print_table("BEGIN, divided by n", begin);
     let setup = print_table("PLAN, STEP, 03 and 04", setup);
+    let why = print_table("Why a step is not starting", why);
     let programs = programs::times();
-    print_aims([done, begin, setup], programs);
+    print_aims([done, begin, setup], &why, programs);
 }
 
 /// How the figures come about.
@@ -30,6 +33,7 @@ fn print_notes() {
          the clock. The two sides take turns, and a figure is the median of {SAMPLES} samples.\n\
          - Parents have lower numbers than their children, the activation order falls and the execution order is mixed; works \
          and outs are 0 to 20; any running step ends next.\n\
+         - Why a step is not starting is asked of every step once half of the reports came; the figure is that of one asking.\n\
          - Growth is the figure at n = 1024 over the figure at n = 64."
     );
 }
@@ -53,6 +57,26 @@ fn setup(day: &Day) -> Pair {
     pair(day, day.setup(), day.bytes.len(), 1 + 3 * day.tasks)
 }
 
+/// An asking why a task is not starting: the mean of all tasks at noon.
+fn why(day: &Day) -> Pair {
+    let proved = day.led(cephlouk::Plan::new(), day.noon());
+    let peer = day.led(peer::Plan::new(), day.noon());
+    let tasks = 1..=day.tasks as u16;
+    let times = medians([
+        &mut Calls(|| {
+            for task in tasks.clone() {
+                let _ = black_box(proved.why(task));
+            }
+        }),
+        &mut Calls(|| {
+            for task in tasks.clone() {
+                black_box(peer.why(task));
+            }
+        }),
+    ]);
+    times.map(|time| time / day.tasks as f64)
+}
+
 /// A command of those at some places, on a plan that was led to a place.
 fn pair(day: &Day, places: Range<usize>, led_to: usize, commands: usize) -> Pair {
     let copies = (TASKS_TOGETHER / day.tasks).max(1);
@@ -66,7 +90,7 @@ fn pair(day: &Day, places: Range<usize>, led_to: usize, commands: usize) -> Pair
 }
 
 /// What is aimed at, and what was measured.
-fn print_aims([done, begin, setup]: [Extremes; 3], [printer, peer]: [[f64; 2]; 2]) {
+fn print_aims([done, begin, setup]: [Extremes; 3], why: &Extremes, [printer, peer]: [[f64; 2]; 2]) {
     let ratio = |extremes: &Extremes| {
         let [least, most] = extremes.at_largest;
         format!(
@@ -84,6 +108,7 @@ fn print_aims([done, begin, setup]: [Extremes; 3], [printer, peer]: [[f64; 2]; 2
         "| PLAN, STEP, 03 and 04 | at most 0.8 | {} |",
         ratio(&setup)
     );
+    println!("| why a step is not starting | – | {} |", ratio(why));
     for (name, extremes) in [
         ("DONE", done),
         ("BEGIN", begin),

@@ -86,6 +86,17 @@ impl<P: Kept + Clone> Timed for Batch<'_, P> {
     }
 }
 
+/// Calls that change nothing.
+pub struct Calls<F>(pub F);
+
+impl<F: FnMut()> Timed for Calls<F> {
+    fn prepare(&mut self) {}
+
+    fn run(&mut self) {
+        self.0();
+    }
+}
+
 /// `struct timespec` of the C library on 64-bit Linux.
 #[repr(C)]
 struct Timespec {

@@ -1,6 +1,6 @@
 //! Whole days to be timed.
 
-use crate::kept::Kept;
+use crate::kept::{give, Kept};
 use peer::generate::{encode, Random, Shape};
 use peer::{desk_peak, Command, Plan, Record};
 use std::ops::Range;
@@ -48,6 +48,12 @@ impl Day {
         self.begin + 1..self.bytes.len()
     }
 
+    /// The place behind half of the reports.
+    pub fn noon(&self) -> usize {
+        let report = encode(Command::Done(1)).len();
+        self.reports().start + self.tasks / 2 * report
+    }
+
     /// A plan with all commands up to a place.
     pub fn led<P: Kept>(&self, mut plan: P, place: usize) -> P {
         self.run(0..place, &mut plan, &mut [0; Plan::STARTS]);
@@ -56,12 +62,7 @@ impl Day {
 
     /// Gives a plan the commands at some places; all are accepted.
     pub fn run(&self, places: Range<usize>, plan: &mut impl Kept, starts: &mut [u16]) {
-        let mut place = places.start;
-        while place < places.end {
-            let answer = plan.command(&self.bytes, place, starts);
-            assert_eq!(answer.number, 0, "the command at {place}");
-            place += answer.used;
-        }
+        give(plan, &self.bytes, places, starts);
     }
 }
 

@@ -1,6 +1,7 @@
 //! A plan that is kept and asked: the proved one, and the peer's.
 
 use cephlouk::{Answer, Phase, Standing};
+use std::ops::Range;
 
 /// What a plan is asked, whoever has it.
 pub trait Kept {
@@ -25,6 +26,16 @@ pub struct Questions {
     pub in_use: u32,
     pub fullness: u32,
     pub standing: Standing,
+}
+
+/// Gives a plan the commands at some places of bytes; all are accepted.
+pub fn give(plan: &mut impl Kept, bytes: &[u8], places: Range<usize>, starts: &mut [u16]) {
+    let mut place = places.start;
+    while place < places.end {
+        let answer = plan.command(bytes, place, starts);
+        assert_eq!(answer.number, 0, "the command at {place}");
+        place += answer.used;
+    }
 }
 
 impl Kept for cephlouk::Plan {

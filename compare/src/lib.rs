@@ -8,6 +8,7 @@ pub mod fence;
 pub mod kept;
 pub mod lists;
 pub mod programs;
+pub mod reasons;
 #[cfg(test)]
 mod stand_in;
 pub mod streams;

@@ -18,6 +18,8 @@ pub struct DeskPeak;
 impl Tool for DeskPeak {
     type Lent = Lists;
 
+    const NUMBERS: usize = 2;
+
     fn lend(random: &mut Random, commands: &[u8]) -> Lists {
         let given = if random.chance(50) {
             of_commands(commands)

@@ -64,6 +64,11 @@ impl Depths {
         self.note("cephlouk_standing", || {
             black_box(plan.standing());
         });
+        for task in [1, Plan::MAX_TASKS as u16] {
+            self.note("cephlouk_why", || {
+                let _ = black_box(plan.why(task));
+            });
+        }
     }
 
     /// A star of the most tasks, at the desk.

@@ -1,6 +1,7 @@
 //! A tool beside the peer's: it is asked where the commands of a stream led to
 //! a plan, cut at any of them, and with good and bad operands.
 
+use crate::kept::{give, Kept};
 use peer::generate::{stream, Random};
 use peer::Plan;
 use std::collections::BTreeMap;
@@ -14,11 +15,17 @@ pub trait Tool {
     /// What is lent where these commands led to a plan, some of it with flaws.
     fn lend(random: &mut Random, commands: &[u8]) -> Self::Lent;
 
-    /// The numbers of the answer. The first is that of the refusal, or 0.
+    /// How many numbers one answer has. The first is that of the refusal, or 0.
+    const NUMBERS: usize;
+
+    /// The numbers of all that is answered.
     fn answer(commands: &[u8], lent: &mut Self::Lent) -> Vec<u64>;
 }
 
-/// How many cases were answered with which first number.
+/// How many phases a plan has.
+const PHASES: usize = 5;
+
+/// How many answers had which first number.
 pub type Tally = BTreeMap<u64, u64>;
 
 /// Compares the answers and all that was lent, afterwards. An error tells the
@@ -42,40 +49,59 @@ pub fn compare<T: Tool>(
                 commands.len()
             ));
         }
-        *tally.entry(wanted[0]).or_default() += 1;
+        for answer in wanted.chunks(T::NUMBERS) {
+            *tally.entry(answer[0]).or_default() += 1;
+        }
     }
     Ok(tally)
 }
 
-/// A stream's commands up to any of those that an empty plan accepts.
+/// A plan with all of some commands, which it accepts.
+pub fn led<P: Kept>(mut plan: P, commands: &[u8]) -> P {
+    give(
+        &mut plan,
+        commands,
+        0..commands.len(),
+        &mut [0; Plan::STARTS],
+    );
+    plan
+}
+
+/// A stream's commands up to any of those that an empty plan accepts. Each
+/// phase that it comes to is as likely as the others.
 fn cut(random: &mut Random, stream: &[u8]) -> Vec<u8> {
     let mut plan = Plan::new();
-    let mut ends = vec![0];
+    let mut ends = [const { Vec::new() }; PHASES];
     let mut place = 0;
     loop {
+        ends[plan.phase() as usize].push(place);
         let answer = plan.command(stream, place, &mut [0; Plan::STARTS]);
         if answer.number != 0 {
             break;
         }
         place += answer.used;
-        ends.push(place);
     }
-    stream[..random.pick(&ends)].to_vec()
+    let reached = ends.iter().filter(|ends| !ends.is_empty());
+    let of_phase = random.pick(&reached.collect::<Vec<_>>());
+    stream[..random.pick(of_phase)].to_vec()
 }
 
 #[cfg(test)]
 mod tests {
     use super::*;
-    use crate::lists::{DeskPeak, Lists};
+    use crate::lists::DeskPeak;
+    use crate::reasons::Why;
+    use std::cell::RefCell;
+    use std::collections::BTreeSet;
 
     /// What is told of the peer with a fault in its answers or lists.
-    fn told(fault: impl Fn(&mut Vec<u64>, &mut Lists)) -> String {
-        let faulty = |commands: &[u8], lent: &mut Lists| {
-            let mut answer = DeskPeak::answer(commands, lent);
+    fn told<T: Tool>(fault: impl Fn(&mut Vec<u64>, &mut T::Lent)) -> String {
+        let faulty = |commands: &[u8], lent: &mut T::Lent| {
+            let mut answer = T::answer(commands, lent);
             fault(&mut answer, lent);
             answer
         };
-        let told = compare::<DeskPeak>(faulty, 1_000);
+        let told = compare::<T>(faulty, 1_000);
         told.expect_err("a difference")
     }
 
@@ -87,18 +113,18 @@ mod tests {
 
     #[test]
     fn a_wrong_count_is_told() {
-        let told = told(|answer, _| answer[1] += u64::from(answer[0] == 0));
+        let told = told::<DeskPeak>(|answer, _| answer[1] += u64::from(answer[0] == 0));
         assert!(told.starts_with("seed "), "{told}");
     }
 
     #[test]
     fn a_wrong_refusal_is_told() {
-        told(|answer, _| answer[0] = answer[0].min(7));
+        told::<DeskPeak>(|answer, _| answer[0] = answer[0].min(7));
     }
 
     #[test]
     fn a_touched_entry_is_told() {
-        told(|_, lent| {
+        told::<DeskPeak>(|_, lent| {
             if let Some(last) = lent.activation.last_mut() {
                 *last ^= 1;
             }
@@ -109,16 +135,63 @@ mod tests {
     fn commands_are_cut_in_every_phase() {
         let phases = (0..200).map(|seed| {
             let commands = cut(&mut Random::new(seed), &stream(seed));
-            let mut plan = Plan::new();
-            let mut place = 0;
-            while place < commands.len() {
-                let answer = plan.command(&commands, place, &mut [0; Plan::STARTS]);
-                assert_eq!(answer.number, 0, "only accepted commands are left");
-                place += answer.used;
-            }
-            format!("{:?}", plan.phase())
+            format!("{:?}", led(Plan::new(), &commands).phase())
         });
-        let phases: std::collections::BTreeSet<String> = phases.collect();
-        assert_eq!(phases.len(), 5, "{phases:?}");
+        let phases: BTreeSet<String> = phases.collect();
+        assert_eq!(phases.len(), PHASES, "{phases:?}");
+    }
+
+    /// A reason is a refusal, which one it is, a task and a lack.
+    #[test]
+    fn every_reason_is_told() {
+        let told = RefCell::new(BTreeSet::new());
+        let noting = |commands: &[u8], lent: &mut <Why as Tool>::Lent| {
+            let answer = Why::answer(commands, lent);
+            told.borrow_mut().extend(
+                answer
+                    .chunks(Why::NUMBERS)
+                    .map(|reason| [reason[0], reason[1]]),
+            );
+            answer
+        };
+        compare::<Why>(noting, 1_000).expect("no difference");
+        let all = [[0, 1], [0, 2], [0, 3], [0, 4], [0, 5], [3, 0], [4, 0]];
+        assert_eq!(told.into_inner(), all.into());
+    }
+
+    /// A fault in the reasons of one kind.
+    fn reason_told(kind: u64, fault: fn(&mut [u64])) -> String {
+        told::<Why>(|answer, _| {
+            answer
+                .chunks_mut(Why::NUMBERS)
+                .filter(|reason| reason[1] == kind)
+                .for_each(fault);
+        })
+    }
+
+    #[test]
+    fn a_wrong_lack_is_told() {
+        let told = reason_told(3, |reason| reason[3] += 1);
+        assert!(told.starts_with("seed "), "{told}");
+    }
+
+    #[test]
+    fn another_first_task_is_told() {
+        reason_told(3, |reason| reason[2] ^= 1);
+    }
+
+    #[test]
+    fn another_child_is_told() {
+        reason_told(4, |reason| reason[2] += 1);
+    }
+
+    #[test]
+    fn refusals_exchanged_are_told() {
+        reason_told(0, |reason| reason[0] = 7 - reason[0]);
+    }
+
+    #[test]
+    fn a_later_reason_is_told() {
+        reason_told(4, |reason| reason.copy_from_slice(&[0, 5, 0, 0]));
     }
 }

@@ -1,10 +1,12 @@
 //! The tools beside the peer's: `tools [CASES]`, 200,000 of each tool unless it
 //! says otherwise. Both get the same operands and lists, and must answer the
-//! same numbers and leave the same lists.
+//! same numbers and leave the same lists. A case of `why` has many answers.
 
 mod desk;
+mod why;
 
 use compare::lists::DeskPeak;
+use compare::reasons::Why;
 use compare::tool::{compare, Tally};
 use std::process::ExitCode;
 
@@ -12,7 +14,10 @@ use std::process::ExitCode;
 type Comparison = fn(u64) -> Result<Tally, String>;
 
 /// Each tool.
-const TOOLS: [(&str, Comparison); 1] = [("desk", |cases| compare::<DeskPeak>(desk::peak, cases))];
+const TOOLS: [(&str, Comparison); 2] = [
+    ("desk", |cases| compare::<DeskPeak>(desk::peak, cases)),
+    ("why", |cases| compare::<Why>(why::reasons, cases)),
+];
 
 fn main() -> ExitCode {
     let cases: u64 = std::env::args()
@@ -30,7 +35,7 @@ fn main() -> ExitCode {
     ExitCode::SUCCESS
 }
 
-/// How many cases had which number.
+/// How many answers had which number.
 fn told(tally: &Tally) -> String {
     let counts = tally.iter().map(|(&number, count)| match number {
         0 => format!(", {count} accepted"),

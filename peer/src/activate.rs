@@ -9,14 +9,21 @@ impl Plan {
     /// doesn't fit. No later task is tried.
     pub(crate) fn activate(&mut self) {
         while let Some(&task) = self.activation.entries().get(self.activated) {
-            let figures = &self.figures[index(task)];
-            let missing = figures.need.saturating_sub(figures.by_subtree);
+            let missing = self.missing(task);
             // B + missing is at most M; B alone always is.
             if missing > self.memory_bound - self.booked {
                 break;
             }
             self.activate_task(task, missing);
         }
+    }
+
+    /// The missing trays of a task, which is the first waiting one: its need
+    /// less (its own booked trays plus the subtree figures of its children),
+    /// never below 0.
+    pub(crate) fn missing(&self, task: u16) -> u32 {
+        let figures = &self.figures[index(task)];
+        figures.need.saturating_sub(figures.by_subtree)
     }
 
     /// The first waiting task gets its missing units and becomes activated.

@@ -1,5 +1,6 @@
 //! An independent writing of the rules in document 01: the plan, the booking
-//! and the day. It shares nothing with the tool it is compared with.
+//! and the day; and of request 01 in document 02: why a step isn't starting.
+//! It shares nothing with the tool it is compared with.
 //!
 //! Terms follow research report RR-8966: a step is a task, a station a
 //! processor, the tray places the memory bound, and booked trays are booked
@@ -30,6 +31,7 @@ mod start;
 pub mod text;
 mod tree;
 mod turn;
+mod why;
 
 pub use answer::{Answer, DeskAnswer};
 pub use command::{decode, Command};
@@ -40,3 +42,4 @@ pub use phase::Phase;
 pub use plan::Plan;
 pub use record::Record;
 pub use refusal::Refusal;
+pub use why::Reason;

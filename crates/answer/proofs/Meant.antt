@@ -13,11 +13,12 @@ use Rattle.rules.specs.Lists.{at}
 use Rattle.rules.specs.Need.{need}
 use Rattle.rules.specs.Phase
 use Rattle.rules.specs.State.{needs}
+use Rattle.rules.specs.Obey.{booksOf}
 use Rattle.rules.specs.Reachable.{Reachable}
 use Rattle.rules.specs.Invariant.{Valid, Roomy}
 use Rattle.rules.proofs.Tests.{le-or-lt}
 use Rattle.rules.proofs.Sums.{only-true}
-use Rattle.rules.proofs.InDay.{booksOf, needs-roomy}
+use Rattle.rules.proofs.InDay.{needs-roomy}
 use Rattle.rules.proofs.Reaching.{lives}
 use Rattle.words.specs.Contents.{Contents}
 use Rattle.store.specs.Rows.{rowsOf, books, activationOf}

@@ -1,16 +1,16 @@
 -- Booking ahead, one turn after the other: what is still to come is booking ahead along the rest of the order.
-use mathlib.Core.Path.{_≡_, refl, sym, ap, ap₂, _∙_}
+use mathlib.Core.Path.{_≡_, sym, ap, ap₂, _∙_}
 use mathlib.Core.Bool.{true, false}
 use mathlib.Core.List.{List, [], _∷_}
-use Prim.Native.Nat.{ℕ, zero, suc, _+_, _≤_, _<_}
+use Prim.Native.Nat.{ℕ, suc, _+_, _≤_, _<_}
 use native.Mathlib.Omega.{arith}
 use lib.ListN.{length, take, drop}
 use lib.Seq.{drop-length}
-use borrow.Author.Tests.{eq-eqb, ne-eqb}
+use borrow.Author.Tests.{eq-eqb}
 use Rattle.rules.specs.Lists.{at}
 use Rattle.rules.specs.Standing.{waiting}
 use Rattle.rules.specs.Booking.{Books, activate}
-use Rattle.rules.proofs.Branches.{activate-pass, activate-book, activate-stop}
+use Rattle.rules.proofs.Branches.{activate-book, activate-stop, passes-all}
 use Rattle.words.specs.Contents.{Contents}
 use Rattle.words.proofs.Contents.{Lengths}
 use Rattle.store.specs.Rows.{books, activationOf}
@@ -30,17 +30,6 @@ pub record Ahead (c₀ c : Contents) (next : ℕ) : Type 0 where
   pub same : SamePlan c₀ c
   pub here : next ≡ c .next
   pub coming : along c₀ (activationOf c₀) (books c₀) ≡ along c (drop next (activationOf c)) (books c)
-
--- booking ahead passes all that do not wait
-passes-all :
-    (n : ℕ) (par need : ℕ → ℕ) (bound : ℕ) (l : List ℕ) (next : ℕ) (k : Books)
-    → ((e : ℕ) → e < next → at (k .standings) (at l e) ≡ waiting → ⊥)
-    → activate n par need bound l k ≡ activate n par need bound (drop next l) k
-passes-all n par need bound l zero k busy = refl
-passes-all n par need bound [] (suc next) k busy = refl
-passes-all n par need bound (x ∷ l) (suc next) k busy =
-    activate-pass n par need bound x l k (ne-eqb (at (k .standings) x) waiting (busy 0 (omega arith)))
-    ∙ passes-all n par need bound l next k (λ e h. busy (suc e) (omega arith))
 
 pub ahead-first : {c : Contents} {next : ℕ} → Kept c → next ≡ c .next → Ahead c c next
 ahead-first {c} {next} kept here =

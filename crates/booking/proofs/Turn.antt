@@ -13,8 +13,8 @@ use Rattle.rules.specs.Sums.{Task, only}
 use Rattle.rules.specs.Lists.{at}
 use Rattle.rules.specs.Grounds.{within}
 use Rattle.rules.specs.Standing.{waiting, activated, finished}
-use Rattle.rules.specs.Booking.{Books, total, lacks, allows, book, ready, fed}
-use Rattle.rules.specs.Invariant.{rankIn, Tree, Good}
+use Rattle.rules.specs.Booking.{Books, total, misses, allows, book, ready, fed}
+use Rattle.rules.specs.Invariant.{rankIn, Tree, FirstWaiting, Good}
 use Rattle.rules.proofs.Tests.{same-or-not}
 use Rattle.rules.proofs.Sums.{term-le, sum-change, only-true}
 use Rattle.rules.proofs.Orders.{within-task, every-mem, mem-at, place-lt, place-at, place-of}
@@ -23,7 +23,7 @@ use Rattle.rules.proofs.Tree.{parent-task}
 use Rattle.rules.proofs.Shape.{Moved, child-before, same-ended}
 use Rattle.rules.proofs.Balance.{missing-is}
 use Rattle.rules.proofs.Entries.{moved-by-set}
-use Rattle.rules.proofs.Ahead.{FirstWaiting, book-good}
+use Rattle.rules.proofs.Ahead.{book-good}
 use Rattle.words.specs.Layout.{rows}
 use Rattle.store.specs.Rows.{rowsOf, booksIn}
 use Rattle.store.specs.Cached.{Figured, Counted, Reached}
@@ -85,8 +85,8 @@ module _ {n bound : ℕ} {par need out : ℕ → ℕ} {order unended booked figu
   whole = sym (take-append-drop next order) ∙ ap (λ (l : List ℕ). take next order ++ l) rest
 
   -- it is the first that waits
-  first-waiting : FirstWaiting n (rankIn order) (at (rowsOf n standings)) x
-  first-waiting =
+  pub next-is-first : FirstWaiting n (rankIn order) (at (rowsOf n standings)) x
+  next-is-first =
       record {
         task = task;
         waits = turn .reached .from-next next (omega arith) (turn .more);
@@ -102,17 +102,17 @@ module _ {n bound : ℕ} {par need out : ℕ → ℕ} {order unended booked figu
       }
 
   pub waits : at (rowsOf n standings) x ≡ waiting
-  waits = first-waiting .waits
+  waits = next-is-first .waits
 
   no-child-waits : (c : ℕ) → Task n c → par c ≡ x → at (rowsOf n standings) c ≡ waiting → ⊥
   no-child-waits c t e =
-      first-waiting .first c t
+      next-is-first .first c t
       (child-before n par (rankIn order) tree (at (rowsOf n standings)) (turn .invariant .good .shape) x c task t e)
 
   -- what it misses by the rules
-  lacks-it : lacks n par need (booksIn n standings booked) x ≡ m
-  unfolding lacks
-  lacks-it =
+  pub misses-it : misses n par need (booksIn n standings booked) x ≡ m
+  unfolding misses
+  misses-it =
       missing-is n par (rankIn order) tree need out (at (rowsOf n standings)) (at (rowsOf n booked))
       (turn .invariant .good .shape) [] 0 (turn .invariant .good .stock .books) x task
       ∙ ap (λ (v : ℕ). need x - v)
@@ -122,7 +122,7 @@ module _ {n bound : ℕ} {par need out : ℕ → ℕ} {order unended booked figu
   -- whether it may be booked
   pub allowed-is : leb (sum + m) bound ≡ allows n par need bound (booksIn n standings booked) x
   unfolding allows
-  allowed-is = ap₂ (λ (a b : ℕ). leb (a + b) bound) (turn .totals) (sym lacks-it)
+  allowed-is = ap₂ (λ (a b : ℕ). leb (a + b) bound) (turn .totals) (sym misses-it)
 
   module _ (fits : leb (sum + m) bound ≡ true) where
     -- the columns once it is booked
@@ -148,7 +148,7 @@ module _ {n bound : ℕ} {par need out : ℕ → ℕ} {order unended booked figu
           standings = rows-set n standings x activated high i;
           booked =
               (rows-set n booked x (at booked x + m) high
-              ∙ ap₂ (λ (a b : ℕ). set (rowsOf n booked) x (a + b)) (sym (at-rows n booked x high)) (sym lacks-it))
+              ∙ ap₂ (λ (a b : ℕ). set (rowsOf n booked) x (a + b)) (sym (at-rows n booked x high)) (sym misses-it))
               i;
         }
 
@@ -163,7 +163,7 @@ module _ {n bound : ℕ} {par need out : ℕ → ℕ} {order unended booked figu
           roomy = g .roomy;
           good =
               subst (λ (k : Books). Good n par (rankIn order) need out bound k) (sym books-are)
-              (book-good n par order (g .valid) tree need out (g .roomy) bound (booksIn n standings booked) x (g .good) first-waiting
+              (book-good n par order (g .valid) tree need out (g .roomy) bound (booksIn n standings booked) x (g .good) next-is-first
               allowed);
         }
 

@@ -2,9 +2,12 @@
 ghost use mathlib.Core.Path.{_≡_};
 ghost use lib.ListN.{replicate};
 ghost use Rattle.rules.specs.Question as questions;
+ghost use Rattle.rules.specs.Why as reasons;
 ghost use Rattle.words.specs.Layout.{words};
 ghost use Rattle.answer.specs.Meaning.{planOf};
 ghost use Rattle.answer.specs.ValidPlan.{ValidPlan, Commanded};
+ghost use Rattle.reason.specs.Meaning.{reasonOf};
+ghost use Rattle.cephlouk.specs.Flat.{flat};
 use answer::Answer;
 use plan::command;
 use question::booked;
@@ -12,6 +15,8 @@ use question::fullness;
 use question::in_use;
 use question::phase;
 use question::standing;
+use reason::Reason;
+use reason::why;
 use words::plan::Plan;
 
 // How many words a plan has.
@@ -92,4 +97,70 @@ pub extern "C" fn cephlouk_standing(plan: &[u32; Plan::WORDS]) -> Standing
 {
     let counts = standing(plan);
     Standing { counts }
+}
+
+// Why a task is not starting, as plain numbers: the ground of a refusal, or 0; which reason it is, in
+// the order in which they are tried; the task that it names; and the places that are lacking. What a
+// reason does not tell is 0.
+#[repr(C)]
+pub struct FlatReason {
+    pub number: u8,
+    pub kind: u8,
+    pub task: u16,
+    pub lack: u32,
+}
+
+impl FlatReason {
+    pub const REFUSED: u8 = 0;
+
+    pub const ENDED: u8 = 1;
+
+    pub const RUNNING: u8 = 2;
+
+    pub const NOT_BOOKED: u8 = 3;
+
+    pub const UNFED: u8 = 4;
+
+    pub const NO_PROCESSOR: u8 = 5;
+}
+
+// A reason that is told.
+fn told(kind: u8, task: u16, lack: u32) -> FlatReason
+    ensures { λ r. ⌜ r ≡ record { number = 0; kind = kind; task = task; lack = lack } ⌝ }
+{
+    FlatReason {
+        number: 0,
+        kind,
+        task,
+        lack,
+    }
+}
+
+// The numbers of a reason, case by case.
+fn flatten(reason: Reason) -> FlatReason
+    ensures { λ r. ⌜ r ≡ flat (reasonOf reason) ⌝ }
+{
+    match reason {
+        Reason::Refused(number) => FlatReason {
+            number,
+            kind: FlatReason::REFUSED,
+            task: 0,
+            lack: 0,
+        },
+        Reason::Ended => told(FlatReason::ENDED, 0, 0),
+        Reason::Running => told(FlatReason::RUNNING, 0, 0),
+        Reason::NotBooked { first, lack } => told(FlatReason::NOT_BOOKED, first, lack),
+        Reason::Unfed(child) => told(FlatReason::UNFED, child, 0),
+        Reason::NoProcessor => told(FlatReason::NO_PROCESSOR, 0, 0),
+    }
+}
+
+// "Given a step in the running phase, the tool says the first that is true".
+#[no_mangle]
+pub extern "C" fn cephlouk_why(plan: &[u32; Plan::WORDS], task: u16) -> FlatReason
+    requires { ⌜ ValidPlan (now plan) ⌝ }
+    ensures { λ r. ⌜ r ≡ flat (reasons.why (planOf (now (plan .entry))) task) ⌝ }
+{
+    let reason = why(plan, task);
+    flatten(reason)
 }

@@ -12,8 +12,11 @@ use Rattle.rules.specs.State.{State, none}
 use Rattle.rules.specs.Command.{plan, read, decode}
 use Rattle.rules.specs.Answer as rules
 use Rattle.rules.specs.Question as questions
+use Rattle.rules.specs.Why.{Reason, why}
+use Rattle.rules.specs.Reasons.{ReasonHolds}
 use Rattle.rules.specs.Day as days
 use Rattle.rules.specs.Theorem.{DayHolds, OrdersHold, SamePlan}
+use Rattle.rules.proofs.Reasons.{every-reason-holds}
 use Rattle.rules.proofs.Theorem.{after-append, theorem}
 use Rattle.answer.specs.Meaning.{planOf}
 use Rattle.answer.specs.ValidPlan.{ValidPlan, NewPlan}
@@ -203,7 +206,12 @@ every-call-holds w new calls e =
             q .in-use-is ∙ ap questions.inUse leaves,
             q .fullness-is ∙ ap questions.fullness leaves,
             q .standing-is ∙ ap questions.standing leaves,
+            λ i fits. q .reason-is i fits ∙ ap (λ (s : State). why s i) leaves,
           );
+      reasons =
+          λ q i fits.
+          subst (λ (r : Reason). ReasonHolds (planOf (leftBy w calls)) i r) (sym (q .reason-is i fits))
+          (every-reason-holds (planOf (leftBy w calls)) (left-valid calls w e (new-valid new) .reached) i);
       plans =
           λ earlier opening later n p m used split granted bytes next.
           subst (λ (l : List Call). OpenedWith n p m (planOf (leftBy w l))) (sym split)

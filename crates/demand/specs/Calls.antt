@@ -2,9 +2,10 @@
 use mathlib.Core.Path.{_≡_}
 use mathlib.Core.Bool.{Bool, false, _||_}
 use mathlib.Core.List.{List, [], _∷_, _++_, map}
-use Prim.Native.Nat.{ℕ}
+use Prim.Native.Nat.{ℕ, _^_, _<_}
 use Rattle.rules.specs.Answer as rules
 use Rattle.rules.specs.Question as questions
+use Rattle.rules.specs.Why.{Reason, why}
 use Rattle.rules.specs.Day as days
 use Rattle.words.specs.Contents.{contents}
 use Rattle.answer.specs.declared.Answer.{Answer}
@@ -69,8 +70,11 @@ pub record Answers (w : List ℕ) : Type 0 where
   pub inUse : ℕ
   pub fullness : ℕ
   pub standing : List ℕ
+  -- why each task is not starting, by its number, which has 16 bits
+  pub reason : ℕ → Reason
   pub phase-is : phase ≡ planOf w .phase
   pub booked-is : booked ≡ questions.booked (planOf w)
   pub in-use-is : inUse ≡ questions.inUse (planOf w)
   pub fullness-is : fullness ≡ questions.fullness (planOf w)
   pub standing-is : standing ≡ questions.standing (planOf w)
+  pub reason-is : (i : ℕ) → i < 2 ^ 16 → reason i ≡ why (planOf w) i

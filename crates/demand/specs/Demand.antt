@@ -3,7 +3,7 @@ use mathlib.Core.Path.{_≡_}
 use mathlib.Core.Bool.{true, false}
 use mathlib.Core.Logic.{_↔_}
 use mathlib.Core.List.{List, _∷_, _++_}
-use Prim.Native.Nat.{ℕ, _≤_, _<_}
+use Prim.Native.Nat.{ℕ, _^_, _≤_, _<_}
 use lib.ListN.{length}
 use Rattle.rules.specs.Sums.{countTo}
 use Rattle.rules.specs.Lists.{at}
@@ -12,6 +12,8 @@ use Rattle.rules.specs.Standing
 use Rattle.rules.specs.State.{State, none}
 use Rattle.rules.specs.Command as rules
 use Rattle.rules.specs.Question as questions
+use Rattle.rules.specs.Why.{why}
+use Rattle.rules.specs.Reasons.{ReasonHolds}
 use Rattle.rules.specs.Day.{Event, ends, after, answers}
 use Rattle.rules.specs.Theorem.{DayHolds, OrdersHold, SamePlan, runs, usedBy}
 use Rattle.answer.specs.Meaning.{planOf}
@@ -74,6 +76,9 @@ pub record CallsHold (w : List ℕ) (calls : List Call) : Type 0 where
       × (q .inUse ≡ questions.inUse (after none (asked calls)))
       × (q .fullness ≡ questions.fullness (after none (asked calls)))
       × (q .standing ≡ questions.standing (after none (asked calls)))
+      × ((i : ℕ) → i < 2 ^ 16 → q .reason i ≡ why (after none (asked calls)) i)
+  -- and why a task is not starting is told by the first reason that is true
+  pub reasons : (q : Answers (leftBy w calls)) (i : ℕ) → i < 2 ^ 16 → ReasonHolds (planOf (leftBy w calls)) i (q .reason i)
   -- a call that opens a plan: as long as no next plan is opened, n, p and M are those that its bytes gave
   pub plans :
       (earlier : List Call) (opening : Call) (later : List Call) (n p m used : ℕ)

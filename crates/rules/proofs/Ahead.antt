@@ -10,8 +10,8 @@ use lib.ListN.{set, length-set}
 use borrow.Author.Tests.{eqb-true, eqb-false, leb-true}
 use Rattle.rules.specs.Lists.{at, mem}
 use Rattle.rules.specs.Standing.{waiting, activated}
-use Rattle.rules.specs.Booking.{Books, total, missing, lacks, allows, book, activate}
-use Rattle.rules.specs.Invariant.{Valid, rankIn, Tree, Shape, Roomy, Stocked, Good}
+use Rattle.rules.specs.Booking.{Books, total, missing, misses, allows, book, activate}
+use Rattle.rules.specs.Invariant.{Valid, rankIn, Tree, Shape, FirstWaiting, Roomy, Stocked, Good}
 use Rattle.rules.proofs.Tests.{decide, same-or-not, or-cases}
 use Rattle.rules.proofs.Sums.{Task}
 use Rattle.rules.proofs.Orders.{mem-append, mem-rest, nobody}
@@ -23,12 +23,6 @@ use Rattle.rules.proofs.Activating.{activating-shape, activating-balanc
 use Rattle.rules.proofs.Branches.{activate-pass, activate-book, activate-stop}
 use Rattle.rules.proofs.Entries.{at-set, at-other, moved-by-set, given-by-set}
 
--- x waits, and nobody of lower rank does
-pub record FirstWaiting (n : ℕ) (rank st : ℕ → ℕ) (x : ℕ) : Type 0 where
-  pub task : Task n x
-  pub waits : st x ≡ waiting
-  pub first : (j : ℕ) → Task n j → rank j < rank x → st j ≡ waiting → ⊥
-
 -- what booking ahead makes of the books k
 pub record Activated (n : ℕ) (par rank need out : ℕ → ℕ) (bound : ℕ) (k k′ : Books) : Type 0 where
   pub good : Good n par rank need out bound k′
@@ -37,6 +31,17 @@ pub record Activated (n : ℕ) (par rank need out : ℕ → ℕ) (bound : ℕ) (
   pub waited : (i : ℕ) → Task n i → at (k .standings) i ≡ waiting → at (k′ .standings) i ≤ activated
   -- the first that still waits is not allowed
   pub halted : (x : ℕ) → FirstWaiting n rank (at (k′ .standings)) x → allows n par need bound k′ x ≡ false
+
+-- two tasks that are first to wait are one
+pub first-waiting-one :
+    (n : ℕ) (par : ℕ → ℕ) (order : List ℕ) (valid : Valid n par order) (st : ℕ → ℕ) (x y : ℕ)
+    → FirstWaiting n (rankIn order) st x
+    → FirstWaiting n (rankIn order) st y
+    → x ≡ y
+first-waiting-one n par order valid st x y v w =
+    let low : rankIn order x < rankIn order y → ⊥ = λ h. w .first x (v .task) h (v .waits) in
+    let high : rankIn order y < rankIn order x → ⊥ = λ h. v .first y (w .task) h (w .waits) in
+    same-rank n par order valid x y (v .task) (w .task) (omega arith)
 
 -- one store in which x gets what it misses, where that is within the bound
 pub book-stocked :
@@ -72,7 +77,7 @@ module _ (n : ℕ) (par : ℕ → ℕ) (order : List ℕ) (valid : Valid n par o
       → FirstWaiting n (rankIn order) (at (k .standings)) x
       → allows n par need bound k x ≡ true
       → Good n par (rankIn order) need out bound (book n par need k x)
-  unfolding book lacks allows
+  unfolding book misses allows
   book-good k x good w a =
       let moved = moved-by-set n (k .standings) x activated (good .sized) (w .task) in
       record {
@@ -151,14 +156,6 @@ module _ (n : ℕ) (par : ℕ → ℕ) (order : List ℕ) (valid : Valid n par o
         halted = done .halted;
       }
 
-  -- two tasks that are first to wait are one
-  first-waiting-one :
-      (st : ℕ → ℕ) (x y : ℕ) → FirstWaiting n (rankIn order) st x → FirstWaiting n (rankIn order) st y → x ≡ y
-  first-waiting-one st x y v w =
-      let low : rankIn order x < rankIn order y → ⊥ = λ h. w .first x (v .task) h (v .waits) in
-      let high : rankIn order y < rankIn order x → ⊥ = λ h. v .first y (w .task) h (w .waits) in
-      same-rank n par order valid x y (v .task) (w .task) (omega arith)
-
   -- along what is left of the order, where nobody in front waits
   pub activates :
       (pre later : List ℕ) (k : Books)
@@ -201,7 +198,7 @@ module _ (n : ℕ) (par : ℕ → ℕ) (order : List ℕ) (valid : Valid n par o
         good = good;
         kept = λ i u d. refl;
         waited = λ i u z. omega arith;
-        halted = λ y v. ap (allows n par need bound k) (first-waiting-one (at (k .standings)) y x v first) ∙ a;
+        halted = λ y v. ap (allows n par need bound k) (first-waiting-one n par order valid (at (k .standings)) y x v first) ∙ a;
       }))
       (decide (allows n par need bound k x)))
       (λ (w : eqb (at (k .standings) x) waiting ≡ false).

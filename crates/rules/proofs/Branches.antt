@@ -1,10 +1,12 @@
 -- The rules' recursions, one equation a branch: no later proof opens them.
-use mathlib.Core.Path.{_≡_}
+use mathlib.Core.Path.{_≡_, refl, _∙_}
 use mathlib.Core.Bool.{Bool, true, false, _||_}
 use mathlib.Core.List.{List, [], _∷_}
-use Prim.Native.Nat.{ℕ, suc, _+_, _-_}
+use Prim.Native.Nat.{ℕ, zero, suc, _+_, _-_, _<_}
+use native.Mathlib.Omega.{arith}
 use lib.Dec.{eqb}
-use lib.ListN.{set}
+use lib.ListN.{length, set, drop}
+use borrow.Author.Tests.{ne-eqb}
 use Rattle.rules.specs.Lists.{at, first}
 use Rattle.rules.specs.Standing.{waiting, running}
 use Rattle.rules.specs.Booking.{Books, allows, book, activate, ready, starts, Share, spent, pass, release, offer, climb}
@@ -30,6 +32,17 @@ module _ (n : ℕ) (par need : ℕ → ℕ) (bound : ℕ) (i : ℕ) (later : Lis
       → activate n par need bound (i ∷ later) s ≡ s
   unfolding activate
   activate-stop e a = rw (e, a, activate)
+
+-- booking ahead passes all that do not wait
+pub passes-all :
+    (n : ℕ) (par need : ℕ → ℕ) (bound : ℕ) (l : List ℕ) (next : ℕ) (k : Books)
+    → ((e : ℕ) → e < next → at (k .standings) (at l e) ≡ waiting → ⊥)
+    → activate n par need bound l k ≡ activate n par need bound (drop next l) k
+passes-all n par need bound l zero k busy = refl
+passes-all n par need bound [] (suc next) k busy = refl
+passes-all n par need bound (x ∷ l) (suc next) k busy =
+    activate-pass n par need bound x l k (ne-eqb (at (k .standings) x) waiting (busy 0 (omega arith)))
+    ∙ passes-all n par need bound l next k (λ e h. busy (suc e) (omega arith))
 
 module _ (n : ℕ) (par : ℕ → ℕ) (execution : List ℕ) (free : ℕ) (st : List ℕ) where
   -- starting stops where nobody is ready, and starts the first that is
@@ -66,6 +79,19 @@ module _ (test : ℕ → Bool) (x : ℕ) (later : List ℕ) where
   pub first-later : test x ≡ false → first test (x ∷ later) ≡ first test later
   unfolding first
   first-later e = rw (e, first)
+
+-- the first entry of a list that passes, by its place
+pub first-at :
+    (test : ℕ → Bool) (l : List ℕ) (e : ℕ)
+    → e < length l
+    → ((k : ℕ) → k < e → test (at l k) ≡ false)
+    → test (at l e) ≡ true
+    → first test l ≡ at l e
+first-at test [] e h earlier here = absurd (omega arith)
+first-at test (x ∷ l) zero h earlier here = first-here test x l here
+first-at test (x ∷ l) (suc e) h earlier here =
+    first-later test x l (earlier 0 (omega arith))
+    ∙ first-at test l e (omega arith) (λ k p. earlier (suc k) (omega arith)) here
 
 -- the booked trays of an ended task, with and without a parent
 module _ (par out : ℕ → ℕ) (b : List ℕ) (j : ℕ) where

@@ -1,5 +1,5 @@
 -- Opens the rules for computing: whoever unfolds `computing` may evaluate a command, a day or the printer.
-use Rattle.rules.specs.Sums.{sumTo, everyTo, countTo}
+use Rattle.rules.specs.Sums.{sumTo, everyTo, countTo, lowestTo}
 use Rattle.rules.specs.Lists.{mem, first, largest}
 use Rattle.rules.specs.Need.{children, need, resident}
 use Rattle.rules.specs.Need
@@ -29,7 +29,7 @@ use Rattle.rules.specs.Booking.{
   childrenFigure,
   missing,
   fed,
-  lacks,
+  misses,
   allows,
   book,
   activate,
@@ -62,6 +62,7 @@ use Rattle.rules.specs.Obey.{
 }
 use Rattle.rules.specs.Answer.{refuse, front, accept, judge, respond, command}
 use Rattle.rules.specs.Question.{isRunning, booked, inUse, fullnessOf, fullness}
+use Rattle.rules.specs.Why.{firstWaiting, lackIn, unendedChild, why}
 use Rattle.rules.specs.Day.{after, answers, accepted, acceptedOnly, isPlan, isBegin, reported, events, log, opensDay, opensPlan, nextPlan}
 use Rattle.rules.specs.Day
 use Rattle.rules.specs.Theorem.{runs, usedBy}
@@ -85,6 +86,7 @@ unfolding
     sumTo
     everyTo
     countTo
+    lowestTo
     mem
     first
     largest
@@ -122,7 +124,7 @@ unfolding
     childrenFigure
     missing
     fed
-    lacks
+    misses
     allows
     book
     activate
@@ -159,6 +161,10 @@ unfolding
     isRunning
     booked
     inUse
+    firstWaiting
+    lackIn
+    unendedChild
+    why
     after
     answers
     accepted

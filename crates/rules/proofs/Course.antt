@@ -17,7 +17,7 @@ use Rattle.rules.specs.Booking.{
   figure,
   childrenFigure,
   missing,
-  lacks,
+  misses,
   allows,
   activate,
   ready,
@@ -26,12 +26,12 @@ use Rattle.rules.specs.Booking.{
   free,
 }
 use Rattle.rules.specs.Day.{Event, started}
-use Rattle.rules.specs.Invariant.{Valid, rankIn, Tree, Roomy, Good}
+use Rattle.rules.specs.Invariant.{Valid, rankIn, Tree, FirstWaiting, Roomy, Good}
 use Rattle.rules.proofs.Tests.{same-or-not, eqb-above}
 use Rattle.rules.proofs.Sums.{Task, sum-cong}
 use Rattle.rules.proofs.Counts.{count-cong}
 use Rattle.rules.proofs.Orders.{all-in, nobody}
-use Rattle.rules.proofs.Ahead.{FirstWaiting, Activated, activates}
+use Rattle.rules.proofs.Ahead.{Activated, activates}
 use Rattle.rules.proofs.Starts.{Startable, starts-startable, starts-length, starts-halt, start-count, start-good, start-kind}
 use Rattle.rules.proofs.Log.{Logged, InOrder, logged-same, starts-logged}
 
@@ -55,7 +55,7 @@ pub allows-same :
     → (x : ℕ)
     → allows n par need bound (record { standings = st′; booked = b }) x
     ≡ allows n par need bound (record { standings = st; booked = b }) x
-unfolding allows lacks
+unfolding allows misses
 allows-same n par need bound st st′ b same x =
     ap (λ (m : ℕ). leb (total n (at b) + m) bound) (missing-same n par need (at st) (at st′) (at b) same x)
 

@@ -16,7 +16,7 @@ use Rattle.rules.specs.Phase
 use Rattle.rules.specs.Standing.{activated, running, finished, count, counts}
 use Rattle.rules.specs.State.{Store, State, needsIn}
 use Rattle.rules.specs.Grounds.{within, peakOf}
-use Rattle.rules.specs.Booking.{total, missing, lacks, allows, ready, fed}
+use Rattle.rules.specs.Booking.{total, missing, misses, allows, ready, fed}
 use Rattle.rules.specs.Question
 use Rattle.rules.specs.Day.{Event, starts, ends}
 use Rattle.rules.specs.Theorem.{runs, usedBy, StoreHolds, DayHolds}
@@ -177,7 +177,7 @@ module _ (s : State) (happened : List Event) (day : InDay s happened) where
 
   -- the first waiting task would fit, and it does not; so all have ended
   stuck-at : count (s .size) (at (s .standings)) running ≡ 0 → Found (at (s .standings)) (s .activation) → ⊥
-  unfolding allows lacks peakOf
+  unfolding allows misses peakOf
   stuck-at none found =
       clash
       (le-leb _ (s .chilled .bound) (fits-there (s .chilled) (day .settled .good .stock) (day .planned .fits) none found))

@@ -17,7 +17,7 @@ use Rattle.rules.specs.State.{Store, State, needsIn, needs}
 use Rattle.rules.specs.Command.{begin}
 use Rattle.rules.specs.Grounds.{inTurn, demand, peakOf, ownGround}
 use Rattle.rules.specs.Booking.{Books, total}
-use Rattle.rules.specs.Obey.{withBooks, ahead, begun, proceed, fresh}
+use Rattle.rules.specs.Obey.{withBooks, booksOf, ahead, begun, proceed, fresh}
 use Rattle.rules.specs.Day.{Event, started}
 use Rattle.rules.specs.Theorem.{OrdersHold}
 use Rattle.rules.specs.Invariant.{Valid, rankIn, Tree, Roomy, arrived, Stocked, Good}
@@ -39,10 +39,6 @@ pub record Planned (s : State) : Type 0 where
   pub rooted : roots (s .size) (at (s .parents)) ≡ 1
   pub staffed : 1 ≤ s .processors
   pub fits : peakOf s ≤ s .chilled .bound
-
--- the books of a plan
-abbrev pub booksOf : State → Books
-booksOf s = record { standings = s .standings; booked = s .chilled .booked }
 
 -- the root has not ended, or all have
 pub data Closing (s : State) : Type 0 where

@@ -9,6 +9,7 @@ pub mod Bytes
 pub mod Tests
 pub mod Sums
 pub mod Counts
+pub mod Lowest
 pub mod Orders
 pub mod Turns
 pub mod Peaks
@@ -49,6 +50,8 @@ pub mod Refusals
 pub mod Askings
 pub mod Theorem
 pub mod Reaching
+pub mod Why
+pub mod Reasons
 -- a stream given to an empty plan
 pub mod Stream
 -- the day printer

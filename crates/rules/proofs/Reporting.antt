@@ -14,7 +14,7 @@ use Rattle.rules.specs.Standing.{running, finished, count}
 use Rattle.rules.specs.State.{State, needs}
 use Rattle.rules.specs.Command.{done}
 use Rattle.rules.specs.Grounds.{inTurn, inLimits, ownGround}
-use Rattle.rules.specs.Obey.{withBooks, proceed, endedStandings, shared, phaseAfter, obey}
+use Rattle.rules.specs.Obey.{withBooks, booksOf, proceed, endedStandings, shared, phaseAfter, obey}
 use Rattle.rules.specs.Obey
 use Rattle.rules.specs.Day.{Event, started, ended}
 use Rattle.rules.specs.Invariant.{rankIn, Good}
@@ -27,7 +27,7 @@ use Rattle.rules.proofs.Entries.{at-set, at-other}
 use Rattle.rules.proofs.Sharing.{sharing-good}
 use Rattle.rules.proofs.Log.{Logged, InOrder, logged-runs, ended-logged, ended-in-order}
 use Rattle.rules.proofs.Formed.{Accepted, demand-none}
-use Rattle.rules.proofs.InDay.{InDay, Closing, open-day, closed, booksOf, tree, needs-roomy, proceeds, proceed-in-day}
+use Rattle.rules.proofs.InDay.{InDay, Closing, open-day, closed, tree, needs-roomy, proceeds, proceed-in-day}
 
 -- one fewer runs
 pub one-fewer :

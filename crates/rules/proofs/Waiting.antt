@@ -12,7 +12,7 @@ use Rattle.rules.specs.Need.{need}
 use Rattle.rules.specs.Peak.{peak}
 use Rattle.rules.specs.Standing.{waiting, finished}
 use Rattle.rules.specs.Booking.{total, missing}
-use Rattle.rules.specs.Invariant.{Valid, rankIn, Tree, Shape, Balanced, Roomy}
+use Rattle.rules.specs.Invariant.{Valid, rankIn, Tree, Shape, FirstWaiting, Balanced, Roomy}
 use Rattle.rules.proofs.Tests.{decide, clash, same-or-not, le-or-lt}
 use Rattle.rules.proofs.Sums.{Task}
 use Rattle.rules.proofs.Orders.{mem-rest, nobody}
@@ -20,7 +20,6 @@ use Rattle.rules.proofs.Peaks.{resident-cong, sum-le-peak}
 use Rattle.rules.proofs.Ranks.{entry, in-front, same-rank}
 use Rattle.rules.proofs.Tree.{parent-task}
 use Rattle.rules.proofs.Progress.{Stuck, ended, endedOr, waits-or-ended, fits}
-use Rattle.rules.proofs.Ahead.{FirstWaiting}
 
 -- where the first waiting task of a list stands
 pub record Found (st : ℕ → ℕ) (l : List ℕ) : Type 0 where

@@ -6,9 +6,11 @@ use Prim.Native.Nat.{ℕ, _<_}
 use native.Mathlib.Omega.{arith}
 use Rattle.rules.specs.Sums.{countTo}
 use Rattle.rules.specs.State.{none}
-use Rattle.rules.specs.Command.{plan, begin, done, bytes}
+use Rattle.rules.specs.Command.{Command, plan, task, begin, done, bytes}
 use Rattle.rules.specs.Answer.{Asking}
 use Rattle.rules.specs.Question
+use Rattle.rules.specs.Why
+use Rattle.rules.specs.Why.{why}
 use Rattle.rules.specs.Day.{started, ended, after, answers, acceptedOnly, log, opensDay, nextPlan}
 use Rattle.rules.specs.Theorem.{runs, DayHolds, EveryDay}
 use Rattle.rules.specs.Marked.{ask, asks, inOrder, tasksA, planA, planC, reading, short}
@@ -34,6 +36,10 @@ morning =
 -- the whole day, with reports that come twice
 unfoldable pub whole : List Asking
 whole = morning ++ (ask (done 1) ∷ ask (done 2) ∷ ask (done 3) ∷ ask (done 3) ∷ [])
+
+-- plan A with one processor, and places for all its tasks at once
+unfoldable pub alone : List Command
+alone = (plan 3 1 15 ∷ task 3 5 1 ∷ task 3 5 1 ∷ task 0 0 1 ∷ []) ++ inOrder (1 ∷ 2 ∷ 3 ∷ [])
 
 -- BEGIN opens the day, and no next plan is opened in it
 opens : opensDay (after none (asks (planA 7))) (ask begin) ≡ true
@@ -79,6 +85,31 @@ worked-next = refl
 pub worked-second : opensDay (after none ((asks (planA 7) ++ ask begin ∷ whole) ++ asks planC)) (ask begin) ≡ true
 unfolding computing asks tasksA planA planC inOrder ask reading short morning whole
 worked-second = refl
+
+-- why no other task starts: in plan A, once task 1 runs, task 2 is next and lacks 5 of the 6 places that it misses
+pub worked-lack :
+    map (why (after none (asks (planA 7 ++ begin ∷ [])))) (0 ∷ 1 ∷ 2 ∷ 3 ∷ 4 ∷ [])
+    ≡ Why.refused 4 ∷ Why.running ∷ Why.notBooked 2 5 ∷ Why.notBooked 2 5 ∷ Why.refused 4 ∷ []
+unfolding computing asks tasksA planA inOrder ask
+worked-lack = refl
+
+-- with one processor and places for all, once task 1 runs, task 2 waits for the processor and task 3 for its children
+pub worked-feeder :
+    map (why (after none (asks (alone ++ begin ∷ [])))) (1 ∷ 2 ∷ 3 ∷ []) ≡ Why.running ∷ Why.noProcessor ∷ Why.unfed 1 ∷ []
+unfolding computing asks alone inOrder ask
+worked-feeder = refl
+
+-- once task 1 has ended, task 3 waits for the other child
+pub worked-other :
+    map (why (after none (asks (alone ++ begin ∷ done 1 ∷ [])))) (1 ∷ 2 ∷ 3 ∷ []) ≡ Why.ended ∷ Why.running ∷ Why.unfed 2 ∷ []
+unfolding computing asks alone inOrder ask
+worked-other = refl
+
+-- once the day is over nothing is told
+pub worked-over :
+    map (why (after none (asks (alone ++ begin ∷ done 1 ∷ done 2 ∷ done 3 ∷ [])))) (0 ∷ 1 ∷ []) ≡ Why.refused 3 ∷ Why.refused 3 ∷ []
+unfolding computing asks alone inOrder ask
+worked-over = refl
 
 -- wrong: "booked trays are fewer than the places"
 abbrev pub Below : Type 0

@@ -24,9 +24,13 @@ total n b = sumTo b n
 unfoldable pub figure : (n : ℕ) (par b : ℕ → ℕ) → ℕ → ℕ
 figure n par b i = sumTo (λ k. only (mem i (chain n par k)) (b k)) n
 
+-- c is a child of i and has not ended
+abbrev pub isUnendedChild : (par st : ℕ → ℕ) → ℕ → ℕ → Bool
+isUnendedChild par st i c = isChild par i c && not (eqb (st c) finished)
+
 -- the sum of the subtree figures of the children of i; "an ended child's subtree figure is 0"
 unfoldable pub childrenFigure : (n : ℕ) (par st b : ℕ → ℕ) → ℕ → ℕ
-childrenFigure n par st b i = sumTo (λ c. only (isChild par i c && not (eqb (st c) finished)) (figure n par b c)) n
+childrenFigure n par st b i = sumTo (λ c. only (isUnendedChild par st i c) (figure n par b c)) n
 
 -- "Its missing trays are its need less (its own booked trays plus the subtree figures of its children), never below 0"
 unfoldable pub missing : (n : ℕ) (par need st b : ℕ → ℕ) → ℕ → ℕ
@@ -34,7 +38,7 @@ missing n par need st b i = need i - (b i + childrenFigure n par st b i)
 
 -- "has all its children ended"
 unfoldable pub fed : (n : ℕ) (par st : ℕ → ℕ) → ℕ → Bool
-fed n par st i = eqb (countTo (λ c. isChild par i c && not (eqb (st c) finished)) n) 0
+fed n par st i = eqb (countTo (isUnendedChild par st i) n) 0
 
 -- what booking changes: standings and booked trays
 pub record Books : Type 0 where
@@ -43,19 +47,19 @@ pub record Books : Type 0 where
 
 module _ (n : ℕ) (par need : ℕ → ℕ) where
   -- the missing trays of task i
-  unfoldable pub lacks : Books → ℕ → ℕ
-  lacks s i = missing n par need (at (s .standings)) (at (s .booked)) i
+  unfoldable pub misses : Books → ℕ → ℕ
+  misses s i = missing n par need (at (s .standings)) (at (s .booked)) i
 
   -- "If B + missing is at most M"
   unfoldable pub allows : (bound : ℕ) → Books → ℕ → Bool
-  allows bound s i = leb (total n (at (s .booked)) + lacks s i) bound
+  allows bound s i = leb (total n (at (s .booked)) + misses s i) bound
 
   -- "it gets them and becomes booked"
   unfoldable pub book : Books → ℕ → Books
   book s i =
       record {
         standings = set (s .standings) i activated;
-        booked = set (s .booked) i (at (s .booked) i + lacks s i);
+        booked = set (s .booked) i (at (s .booked) i + misses s i);
       }
 
   -- "Booking ahead. Look at the first waiting step in the activation order. .. it gets them and becomes booked, and the next is

@@ -44,6 +44,12 @@ pub record Shape (n : ℕ) (par rank st : ℕ → ℕ) : Type 0 where
   -- there are four standings
   pub four : (i : ℕ) → Task n i → st i ≤ finished
 
+-- x waits, and nobody of lower rank does
+pub record FirstWaiting (n : ℕ) (rank st : ℕ → ℕ) (x : ℕ) : Type 0 where
+  pub task : Task n x
+  pub waits : st x ≡ waiting
+  pub first : (j : ℕ) → Task n j → rank j < rank x → st j ≡ waiting → ⊥
+
 -- i is booked or runs
 pub record Active (st : ℕ → ℕ) (i : ℕ) : Type 0 where
   pub from : activated ≤ st i

@@ -16,6 +16,7 @@ pub mod Grounds
 pub mod Obey
 pub mod Answer
 pub mod Question
+pub mod Why
 pub mod Desk
 pub mod Text
 pub mod Printer
@@ -24,5 +25,6 @@ pub mod Day
 pub mod Invariant
 pub mod Theorem
 pub mod Reachable
+pub mod Reasons
 pub mod Stream
 pub mod Marked

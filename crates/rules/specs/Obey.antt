@@ -82,6 +82,30 @@ withBooks s phase st b =
           record { bound = s .chilled .bound; works = s .chilled .works; outs = s .chilled .outs; booked = b };
     }
 
+-- the books of a plan
+abbrev pub booksOf : State → Books
+booksOf s = record { standings = s .standings; booked = s .chilled .booked }
+
+-- the plan with other places of the cold room
+unfoldable pub withBound : State → ℕ → State
+withBound s bound =
+    record {
+      phase = s .phase;
+      size = s .size;
+      processors = s .processors;
+      parents = s .parents;
+      activation = s .activation;
+      execution = s .execution;
+      standings = s .standings;
+      chilled =
+          record {
+            bound = bound;
+            works = s .chilled .works;
+            outs = s .chilled .outs;
+            booked = s .chilled .booked;
+          };
+    }
+
 -- what booking ahead makes of the books
 unfoldable pub ahead : State → Books → Books
 ahead s = activate (s .size) (at (s .parents)) (needs s) (s .chilled .bound) (s .activation)

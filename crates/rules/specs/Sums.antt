@@ -1,6 +1,7 @@
 -- Sums and counts over the tasks 1 to n.
-use mathlib.Core.Bool.{Bool, true, false, _&&_}
+use mathlib.Core.Bool.{Bool, true, false, cond, _&&_}
 use Prim.Native.Nat.{ℕ, zero, suc, _+_, _≤_}
+use lib.Dec.{eqb}
 
 -- "n steps, numbered 1 to n": i is one of them
 pub record Task (n i : ℕ) : Type 0 where
@@ -25,3 +26,8 @@ everyTo test (suc n) = everyTo test n && test (suc n)
 -- how many of 1 to n pass the test
 unfoldable pub countTo : (ℕ → Bool) → ℕ → ℕ
 countTo test n = sumTo (λ i. only (test i) 1) n
+
+-- the lowest of 1 to n that passes the test, 0 where none does
+unfoldable pub lowestTo : (ℕ → Bool) → ℕ → ℕ
+lowestTo test zero = 0
+lowestTo test (suc n) = cond (eqb (lowestTo test n) 0) (only (test (suc n)) (suc n)) (lowestTo test n)

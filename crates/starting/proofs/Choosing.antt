@@ -3,7 +3,7 @@ use mathlib.Core.Path.{_≡_, refl, sym, ap, _∙_}
 use mathlib.Core.Bool.{Bool, true, false, cond, _&&_}
 use mathlib.Core.List.{List, [], _∷_}
 use mathlib.Core.Logic.{⊎-elim}
-use Prim.Native.Nat.{ℕ, zero, suc, _<_}
+use Prim.Native.Nat.{ℕ, suc, _<_}
 use native.Mathlib.Omega.{arith}
 use lib.Dec.{ltb}
 use lib.ListN.{length}
@@ -11,7 +11,7 @@ use borrow.Author.Tests.{lt-ltb, ltb-true, ltb-false}
 use Rattle.rules.specs.Lists.{at, first}
 use Rattle.rules.specs.Booking.{ready}
 use Rattle.rules.proofs.Tests.{decide, and-true}
-use Rattle.rules.proofs.Branches.{first-here, first-later}
+use Rattle.rules.proofs.Branches.{first-later, first-at}
 use Rattle.words.specs.Layout.{entries}
 use Rattle.words.specs.Contents.{Contents}
 use Rattle.words.specs.Digits.{firstIn}
@@ -21,19 +21,7 @@ use Rattle.store.specs.Rows.{books, executionOf}
 use Rattle.store.specs.Cached.{isReadyAt}
 use Rattle.store.specs.Kept.{Kept}
 
--- the first entry of a list that passes, by its place
-first-at :
-    (test : ℕ → Bool) (l : List ℕ) (e : ℕ)
-    → e < length l
-    → ((k : ℕ) → k < e → test (at l k) ≡ false)
-    → test (at l e) ≡ true
-    → first test l ≡ at l e
-first-at test [] e h earlier here = absurd (omega arith)
-first-at test (x ∷ l) zero h earlier here = first-here test x l here
-first-at test (x ∷ l) (suc e) h earlier here =
-    first-later test x l (earlier 0 (omega arith))
-    ∙ first-at test l e (omega arith) (λ k p. earlier (suc k) (omega arith)) here
-
+-- no entry of a list passes
 first-nowhere :
     (test : ℕ → Bool) (l : List ℕ) → ((k : ℕ) → k < length l → test (at l k) ≡ false) → first test l ≡ 0
 unfolding first

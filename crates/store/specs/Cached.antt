@@ -11,7 +11,7 @@ use Rattle.rules.specs.Lists.{at, mem, every, distinct}
 use Rattle.rules.specs.Need.{need, inUse}
 use Rattle.rules.specs.Grounds.{within}
 use Rattle.rules.specs.Standing.{waiting, running, finished, count}
-use Rattle.rules.specs.Booking.{Books, chain, figure, total, ready}
+use Rattle.rules.specs.Booking.{Books, chain, figure, total, isUnendedChild, ready}
 use Rattle.words.specs.Layout.{words}
 use Rattle.words.specs.Contents.{StoreContents, Contents}
 use Rattle.words.specs.Marks.{Marks}
@@ -32,7 +32,7 @@ partialFigureWith n par st b x r i =
 
 -- the children that have not ended
 unfoldable pub unendedChildren : (n : ℕ) (par st : ℕ → ℕ) → ℕ → ℕ
-unendedChildren n par st i = countTo (λ c. eqb (par c) i && not (eqb (st c) finished)) n
+unendedChildren n par st i = countTo (isUnendedChild par st i) n
 
 -- the figures of the tasks, and the children that they still wait for
 abbrev pub Figured : (n : ℕ) (par : ℕ → ℕ) (k : Books) (figures : List ℕ) → Type 0

@@ -10,11 +10,11 @@ use cells::cell;
 use cells::set_cell;
 use words::plan::Plan;
 
-// What is missing of `need`, never below 0.
-fn lack(need: u32, figure: u32) -> u32
-    ensures { λ r. ⌜ r ≡ need - figure ⌝ }
+// One number less another, never below 0.
+fn less(from: u32, taken: u32) -> u32
+    ensures { λ r. ⌜ r ≡ from - taken ⌝ }
 {
-    if figure < need { need - figure } else { 0 }
+    if taken < from { from - taken } else { 0 }
 }
 
 // "its need less (its own booked trays plus the subtree figures of its children), never below 0"
@@ -22,7 +22,7 @@ pub fn missing(plan: &[u32; Plan::WORDS], store: usize, task: usize) -> u32
     requires { ⌜ stores.AtTask store task (contents (now plan)) ⌝ }
     ensures { λ r. ⌜ r ≡ at (contents (now (plan .entry)) .chilled .needs) task - at (contents (now (plan .entry)) .chilled .figures) task ⌝ }
 {
-    lack(
+    less(
         cell(plan, task, store + Plan::NEED),
         cell(plan, task, store + Plan::FIGURE),
     )
@@ -36,6 +36,16 @@ pub fn has_room(plan: &[u32; Plan::WORDS], store: usize, units: u32) -> bool
     let bound = cell(plan, Plan::HEAD, store + Plan::BOUND);
     let total = cell(plan, Plan::HEAD, store + Plan::TOTAL);
     units <= bound - total
+}
+
+// "the number of trays that step lacks": what B + missing has above M.
+pub fn shortage(plan: &[u32; Plan::WORDS], store: usize, units: u32) -> u32
+    requires { ⌜ (store ≡ chilled) × (contents (now plan) .chilled .total ≤ contents (now plan) .chilled .bound) ⌝ }
+    ensures { λ r. ⌜ r ≡ contents (now (plan .entry)) .chilled .total + units - contents (now (plan .entry)) .chilled .bound ⌝ }
+{
+    let bound = cell(plan, Plan::HEAD, store + Plan::BOUND);
+    let total = cell(plan, Plan::HEAD, store + Plan::TOTAL);
+    less(units, bound - total)
 }
 
 // An entry grows, where there is a task to have it.
@@ -82,7 +92,7 @@ pub fn pass(plan: &mut [u32; Plan::WORDS], store: usize, task: usize, left: u32)
         × (r ≡ left - stores.gift task left (contents (now (plan .entry)) .chilled)) ⌝ }
 {
     let figure = cell(plan, task, store + Plan::FIGURE) - left;
-    let gift = lack(cell(plan, task, store + Plan::NEED), figure);
+    let gift = less(cell(plan, task, store + Plan::NEED), figure);
     let booked = cell(plan, task, store + Plan::BOOKED);
     set_cell(plan, task, store + Plan::BOOKED, booked + gift);
     set_cell(plan, task, store + Plan::FIGURE, figure + gift);

@@ -37,6 +37,7 @@ fn compare(plan: &mut Plan, naive: &mut Naive, asking: &Asking) {
     );
     for task in 0..=LARGEST + 1 {
         assert_eq!(plan.booked_by(task) as usize, naive.booked_by(task.into()));
+        assert_eq!(plan.why(task), naive.why(task.into()));
     }
 }
 

@@ -1,7 +1,7 @@
 //! Properties of days, of plans small and large, whatever is asked meanwhile.
 
 use crate::menu::ask;
-use crate::watch::Watch;
+use crate::watch::{follow, Watch};
 use peer::generate::{askings, stream};
 use peer::Plan;
 
@@ -26,19 +26,7 @@ fn after_each_command_of_a_day() {
 fn after_each_command_of_a_stream() {
     let mut days = 0;
     for seed in 1000..1250 {
-        let stream = stream(seed);
-        let (mut plan, mut watch) = (Plan::new(), Watch::default());
-        let mut place = 0;
-        loop {
-            let (answer, starts) = ask(&mut plan, &stream, place, 64);
-            if answer.number != 0 {
-                break;
-            }
-            watch.accepted(&stream, place, &answer, &starts);
-            watch.check(&plan);
-            place += answer.used;
-        }
-        days += watch.days;
+        days += follow(&stream(seed), |watch, plan| watch.check(plan)).days;
     }
     assert!(days > 150);
 }

@@ -1,4 +1,5 @@
-//! The rules of document 01, tried on this implementation.
+//! The rules of document 01, and request 01 of document 02, tried on this
+//! implementation.
 
 mod against_naive;
 mod astray;
@@ -18,3 +19,5 @@ mod plan_text_typed;
 mod printer;
 mod table;
 mod watch;
+mod why;
+mod why_days;

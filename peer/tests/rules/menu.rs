@@ -1,7 +1,7 @@
 //! Plans to try things on, and ways to give commands.
 
 use peer::generate::encode;
-use peer::{Answer, Command, Plan, Record};
+use peer::{Answer, Command, Plan, Reason, Record};
 
 /// What unused entries of a start list hold before a command.
 pub const MARK: u16 = 0xbeef;
@@ -133,6 +133,7 @@ pub fn ask(plan: &mut Plan, bytes: &[u8], place: usize, starts_len: usize) -> (A
 /// Everything that can be asked of a plan.
 fn answers(plan: &Plan) -> impl PartialEq + std::fmt::Debug {
     let booked_by: Vec<u32> = (1..=8).map(|task| plan.booked_by(task)).collect();
+    let whys: Vec<Reason> = (1..=8).map(|task| plan.why(task)).collect();
     (
         plan.phase(),
         plan.booked(),
@@ -140,6 +141,7 @@ fn answers(plan: &Plan) -> impl PartialEq + std::fmt::Debug {
         plan.fullness(),
         plan.standing(),
         booked_by,
+        whys,
     )
 }
 

@@ -1,7 +1,7 @@
 //! The rules written down once more, sentence by sentence and with no care
 //! for speed: every sum is taken anew each time it is asked for.
 
-use peer::Phase;
+use peer::{Phase, Reason};
 
 #[derive(Clone, Copy, PartialEq)]
 enum State {
@@ -213,14 +213,23 @@ impl Naive {
         self.booked.iter().sum()
     }
 
+    fn first_waiting(&self) -> Option<usize> {
+        let mut order = self.activation.iter().copied();
+        order.find(|&i| self.state[i] == State::Waiting)
+    }
+
+    /// The missing trays of the first waiting step.
+    fn missing(&self, i: usize) -> usize {
+        let of_children: usize = self
+            .children(i)
+            .map(|child| self.subtree_figure(child))
+            .sum();
+        self.need(i).saturating_sub(self.booked[i] + of_children)
+    }
+
     fn book_ahead(&mut self) {
-        let is_waiting = |naive: &Naive, i: usize| naive.state[i] == State::Waiting;
-        while let Some(&i) = self.activation.iter().find(|&&i| is_waiting(self, i)) {
-            let of_children: usize = self
-                .children(i)
-                .map(|child| self.subtree_figure(child))
-                .sum();
-            let missing = self.need(i).saturating_sub(self.booked[i] + of_children);
+        while let Some(i) = self.first_waiting() {
+            let missing = self.missing(i);
             if self.sum_of_booked() + missing > self.m {
                 return;
             }
@@ -318,6 +327,40 @@ impl Naive {
             return [0; 4];
         }
         [State::Waiting, State::Booked, State::Running, State::Ended].map(|state| self.count(state))
+    }
+
+    /// Why a step isn't starting.
+    pub fn why(&self, i: usize) -> Reason {
+        if self.phase != Phase::Running {
+            return Reason::Refused(3);
+        }
+        if !self.steps().contains(&i) {
+            return Reason::Refused(4);
+        }
+        match self.state[i] {
+            State::Ended => Reason::Ended,
+            State::Running => Reason::Running,
+            State::Waiting => self.lack_of_first_waiting(),
+            State::Booked => self.what_keeps_booked(i),
+        }
+    }
+
+    fn lack_of_first_waiting(&self) -> Reason {
+        let first = self.first_waiting().unwrap();
+        let lack = self.sum_of_booked() + self.missing(first) - self.m;
+        Reason::NotBooked {
+            first: first as u16,
+            lack: lack as u32,
+        }
+    }
+
+    fn what_keeps_booked(&self, i: usize) -> Reason {
+        let mut children = self.children(i);
+        if let Some(child) = children.find(|&child| self.state[child] != State::Ended) {
+            return Reason::Unfed(child as u16);
+        }
+        assert_eq!(self.count(State::Running), self.p);
+        Reason::NoProcessor
     }
 }
 

@@ -1,18 +1,37 @@
 //! Watches a day and checks what must hold after each of its commands.
 
+use crate::menu::ask;
 use peer::{decode, needs, Answer, Command, Phase, Plan, Record};
 
 /// What the accepted commands of a plan say: the plan itself, and of its day
 /// the starts and ends alone.
 #[derive(Default)]
 pub struct Watch {
-    memory_bound: u32,
-    records: Vec<Record>,
-    needs: Vec<u32>,
+    pub processors: usize,
+    pub memory_bound: u32,
+    pub records: Vec<Record>,
+    pub activation: Vec<u16>,
+    pub needs: Vec<u32>,
     started: Vec<bool>,
-    ended: Vec<bool>,
+    pub ended: Vec<bool>,
     /// Days that came to their end.
     pub days: usize,
+}
+
+/// Gives an empty plan the commands of a stream, as far as it takes them, and
+/// looks at it after each.
+pub fn follow(stream: &[u8], mut look: impl FnMut(&Watch, &Plan)) -> Watch {
+    let (mut plan, mut watch) = (Plan::new(), Watch::default());
+    let mut place = 0;
+    loop {
+        let (answer, starts) = ask(&mut plan, stream, place, Plan::STARTS);
+        if answer.number != 0 {
+            return watch;
+        }
+        watch.accepted(stream, place, &answer, &starts);
+        look(&watch, &plan);
+        place += answer.used;
+    }
 }
 
 impl Watch {
@@ -21,15 +40,21 @@ impl Watch {
         let (command, used) = decode(bytes, place).unwrap();
         assert_eq!(answer.used, used);
         match command {
-            Command::Plan { memory_bound, .. } => {
+            Command::Plan {
+                processors,
+                memory_bound,
+                ..
+            } => {
                 *self = Watch {
+                    processors: processors.into(),
                     memory_bound,
                     days: self.days,
                     ..Watch::default()
                 };
             }
             Command::Step(record) => self.records.push(record),
-            Command::Activation(_) | Command::Execution(_) => {}
+            Command::Activation(task) => self.activation.push(task),
+            Command::Execution(_) => {}
             Command::Begin => {
                 self.needs = needs(&self.records)[..self.records.len()].to_vec();
                 self.started = vec![false; self.records.len()];
@@ -70,9 +95,9 @@ impl Watch {
             return;
         }
         let reports = self.ended.iter().filter(|&&ended| ended).count();
-        let running = (0..n).filter(|&task| self.is_running(task)).count();
+        let running = self.running();
         assert_eq!(running > 0, reports < n);
-        assert!(running <= Plan::PROCESSORS);
+        assert!(running <= self.processors);
         if reports == n {
             assert!(self.started.iter().all(|&started| started));
             assert_eq!(plan.phase(), Phase::Over);
@@ -101,7 +126,14 @@ impl Watch {
         }
     }
 
-    fn is_running(&self, task: usize) -> bool {
+    /// How many tasks run.
+    pub fn running(&self) -> usize {
+        let tasks = 0..self.started.len();
+        tasks.filter(|&task| self.is_running(task)).count()
+    }
+
+    /// Whether the task at this index runs.
+    pub fn is_running(&self, task: usize) -> bool {
         self.started[task] && !self.ended[task]
     }
 

@@ -11,7 +11,7 @@ returns c =
     let r = row-read (holds _ (start .pre .long)) (start .pre .offset) (start .args .task) (start .pre .task-in) in
     let need = c .before .before .cell .ensures in
     let figure = c .before .cell2 .ensures in
-    let lack = c .lack .ensures in
+    let rest = c .less .ensures in
     omega arith
 
 pub missing-spec : {M : Type 1} → statement M

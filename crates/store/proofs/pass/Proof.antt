@@ -34,10 +34,10 @@ figure-read c = c .before .before .before .before .before .cell .ensures ∙ row
 
 gift-read :
     (c : tie.After-cell3)
-    → c .before .before .lack .result ≡ gift (start c .args .task) (start c .args .left) (old (start c) .chilled)
+    → c .before .before .less .result ≡ gift (start c .args .task) (start c .args .left) (old (start c) .chilled)
 unfolding gift
 gift-read c =
-    c .before .before .lack .ensures
+    c .before .before .less .ensures
     ∙ ap₂ (λ (a b : ℕ). a - (b - start c .args .left)) (c .before .before .before .cell2 .ensures ∙ row (start c) .need) (figure-read c)
 
 booked-read : (c : tie.After-cell3) → c .cell3 .result ≡ at (old (start c) .chilled .booked) (start c .args .task)

@@ -1,0 +1,60 @@
+//! Why tasks are not starting, by the peer: tasks of the plan that commands
+//! led to, and numbers that are none of its tasks'.
+
+use crate::tool::{led, Tool};
+use peer::generate::Random;
+use peer::{decode, Command, Plan, Reason};
+
+/// So many numbers are asked about at once.
+pub const ASKED: usize = 16;
+
+/// Why tasks are not starting.
+pub struct Why;
+
+impl Tool for Why {
+    /// The numbers that are asked about.
+    type Lent = [u16; ASKED];
+
+    const NUMBERS: usize = 4;
+
+    fn lend(random: &mut Random, commands: &[u8]) -> [u16; ASKED] {
+        let tasks = tasks(commands);
+        [(); ASKED].map(|()| match random.between(0, 19) {
+            0 => random.pick(&[0, tasks, tasks + 1, u16::MAX]),
+            _ => random.between(1, tasks.max(1).into()) as u16,
+        })
+    }
+
+    fn answer(commands: &[u8], lent: &mut [u16; ASKED]) -> Vec<u64> {
+        let plan = led(Plan::new(), commands);
+        lent.iter()
+            .flat_map(|&task| numbers(plan.why(task)))
+            .collect()
+    }
+}
+
+/// How many tasks the last plan has.
+fn tasks(commands: &[u8]) -> u16 {
+    let mut tasks = 0;
+    let mut place = 0;
+    while let Ok((command, used)) = decode(commands, place) {
+        if let Command::Plan { tasks: n, .. } = command {
+            tasks = n;
+        }
+        place += used;
+    }
+    tasks
+}
+
+/// A reason as plain numbers: the number of a refusal, which reason it is, the
+/// task that it names and the trays that are lacking.
+pub fn numbers(reason: Reason) -> [u64; Why::NUMBERS] {
+    match reason {
+        Reason::Refused(number) => [number.into(), 0, 0, 0],
+        Reason::Ended => [0, 1, 0, 0],
+        Reason::Running => [0, 2, 0, 0],
+        Reason::NotBooked { first, lack } => [0, 3, first.into(), lack.into()],
+        Reason::Unfed(child) => [0, 4, child.into(), 0],
+        Reason::NoProcessor => [0, 5, 0, 0],
+    }
+}

@@ -1,0 +1,3 @@
+-- Laws of the reasons.
+pub mod Reading
+pub mod Waiting

@@ -1,0 +1,12 @@
+-- What the code's reasons mean in the rules, case by case.
+use Rattle.rules.specs.Why as rules
+use Rattle.reason.specs.declared.Reason.{Reason}
+use Rattle.reason.specs.declared.Reason.the-variants.{Refused, Ended, Running, NotBooked, Unfed, NoProcessor}
+
+abbrev pub reasonOf : Reason → rules.Reason
+reasonOf (Refused ground) = rules.refused ground
+reasonOf Ended = rules.ended
+reasonOf Running = rules.running
+reasonOf (NotBooked first lack) = rules.notBooked first lack
+reasonOf (Unfed child) = rules.unfed child
+reasonOf NoProcessor = rules.noProcessor

@@ -1,0 +1,64 @@
+-- What each reason says of the plan, and that a plan that commands led to tells the first that is true.
+use mathlib.Core.Path.{_≡_}
+use mathlib.Core.Logic.{_⊎_}
+use Prim.Native.Nat.{ℕ, _+_, _≤_, _<_}
+use Rattle.rules.specs.Sums.{Task}
+use Rattle.rules.specs.Lists.{at}
+use Rattle.rules.specs.Phase
+use Rattle.rules.specs.Standing
+use Rattle.rules.specs.State.{State}
+use Rattle.rules.specs.Obey.{booksOf, withBound, ahead}
+use Rattle.rules.specs.Invariant.{rankIn, FirstWaiting}
+use Rattle.rules.specs.Reachable.{Reachable}
+use Rattle.rules.specs.Why.{Reason, refused, ended, running, notBooked, unfed, noProcessor, why}
+
+-- the standing of x if booking ahead came now, with more places in the cold room
+abbrev pub standingWith : State → ℕ → ℕ → ℕ
+standingWith s more x = at (ahead (withBound s (s .chilled .bound + more)) (booksOf s) .standings) x
+
+-- "with that many more tray places the first waiting step would be booked now, and with one fewer than that it would not": nor with
+-- fewer still
+pub record LackIsExact (s : State) (x lack : ℕ) : Type 0 where
+  pub some : 1 ≤ lack
+  pub booked : standingWith s lack x ≡ Standing.activated
+  pub waits : (fewer : ℕ) → fewer < lack → standingWith s fewer x ≡ Standing.waiting
+
+-- "not booked, with the first waiting step in the activation order and the number of trays that step lacks"
+pub record NotBooked (s : State) (i x lack : ℕ) : Type 0 where
+  pub asked : at (s .standings) i ≡ Standing.waiting
+  pub first : FirstWaiting (s .size) (rankIn (s .activation)) (at (s .standings)) x
+  pub exact : LackIsExact s x lack
+
+-- "waiting for a feeder, with the lowest-numbered unended child"
+pub record Unfed (s : State) (i c : ℕ) : Type 0 where
+  pub task : Task (s .size) c
+  pub child : at (s .parents) c ≡ i
+  pub unended : at (s .standings) c ≡ Standing.finished → ⊥
+  pub lowest : (d : ℕ) → Task (s .size) d → d < c → at (s .parents) d ≡ i → at (s .standings) d ≡ Standing.finished
+
+-- what a reason says, whether or not another is true too: "3 outside running", "4 for the step", and "all stations taken"
+abbrev pub Says : State → ℕ → Reason → Type 0
+Says s i (refused k) = ((k ≡ 3) × (s .phase ≡ Phase.running → ⊥)) ⊎ ((k ≡ 4) × (Task (s .size) i → ⊥))
+Says s i ended = at (s .standings) i ≡ Standing.finished
+Says s i running = at (s .standings) i ≡ Standing.running
+Says s i (notBooked x lack) = NotBooked s i x lack
+Says s i (unfed c) = Unfed s i c
+Says s i noProcessor = Standing.count (s .size) (at (s .standings)) Standing.running ≡ s .processors
+
+-- the order in which reasons are tried: the two refusals by their numbers, then the others
+abbrev pub precedence : Reason → ℕ
+precedence (refused k) = k
+precedence ended = 5
+precedence running = 6
+precedence (notBooked x lack) = 7
+precedence (unfed c) = 8
+precedence noProcessor = 9
+
+-- "the first that is true": it is, and whatever is true and does not come later is this very reason, with the same values
+pub record ReasonHolds (s : State) (i : ℕ) (r : Reason) : Type 0 where
+  pub says : Says s i r
+  pub first : (other : Reason) → precedence other ≤ precedence r → Says s i other → other ≡ r
+
+-- of every plan that commands led to, and of every number
+abbrev pub EveryReasonHolds : Type 0
+EveryReasonHolds = (s : State) → Reachable s → (i : ℕ) → ReasonHolds s i (why s i)
