@@ -57,10 +57,11 @@ fn setup(day: &Day) -> Pair {
     pair(day, day.setup(), day.bytes.len(), 1 + 3 * day.tasks)
 }
 
-/// An asking why a task is not starting: the mean of all tasks at noon.
+/// An asking why a task is not starting: the mean of all tasks, halfway
+/// through the day.
 fn why(day: &Day) -> Pair {
-    let proved = day.led(cephlouk::Plan::new(), day.noon());
-    let peer = day.led(peer::Plan::new(), day.noon());
+    let proved = day.led(cephlouk::Plan::new(), day.halfway());
+    let peer = day.led(peer::Plan::new(), day.halfway());
     let tasks = 1..=day.tasks as u16;
     let times = medians([
         &mut Calls(|| {

@@ -49,7 +49,7 @@ impl Day {
     }
 
     /// The place behind half of the reports.
-    pub fn noon(&self) -> usize {
+    pub fn halfway(&self) -> usize {
         let report = encode(Command::Done(1)).len();
         self.reports().start + self.tasks / 2 * report
     }

@@ -46,15 +46,25 @@ fn tasks(commands: &[u8]) -> u16 {
     tasks
 }
 
+/// Which reason it is.
+pub mod kind {
+    pub const REFUSED: u64 = 0;
+    pub const ENDED: u64 = 1;
+    pub const RUNNING: u64 = 2;
+    pub const NOT_BOOKED: u64 = 3;
+    pub const UNFED: u64 = 4;
+    pub const NO_PROCESSOR: u64 = 5;
+}
+
 /// A reason as plain numbers: the number of a refusal, which reason it is, the
 /// task that it names and the trays that are lacking.
 pub fn numbers(reason: Reason) -> [u64; Why::NUMBERS] {
     match reason {
-        Reason::Refused(number) => [number.into(), 0, 0, 0],
-        Reason::Ended => [0, 1, 0, 0],
-        Reason::Running => [0, 2, 0, 0],
-        Reason::NotBooked { first, lack } => [0, 3, first.into(), lack.into()],
-        Reason::Unfed(child) => [0, 4, child.into(), 0],
-        Reason::NoProcessor => [0, 5, 0, 0],
+        Reason::Refused(number) => [number.into(), kind::REFUSED, 0, 0],
+        Reason::Ended => [0, kind::ENDED, 0, 0],
+        Reason::Running => [0, kind::RUNNING, 0, 0],
+        Reason::NotBooked { first, lack } => [0, kind::NOT_BOOKED, first.into(), lack.into()],
+        Reason::Unfed(child) => [0, kind::UNFED, child.into(), 0],
+        Reason::NoProcessor => [0, kind::NO_PROCESSOR, 0, 0],
     }
 }

@@ -90,7 +90,7 @@ fn cut(random: &mut Random, stream: &[u8]) -> Vec<u8> {
 mod tests {
     use super::*;
     use crate::lists::DeskPeak;
-    use crate::reasons::Why;
+    use crate::reasons::{kind, Why};
     use std::cell::RefCell;
     use std::collections::BTreeSet;
 
@@ -155,43 +155,53 @@ mod tests {
             answer
         };
         compare::<Why>(noting, 1_000).expect("no difference");
-        let all = [[0, 1], [0, 2], [0, 3], [0, 4], [0, 5], [3, 0], [4, 0]];
+        let all = [
+            [0, kind::ENDED],
+            [0, kind::RUNNING],
+            [0, kind::NOT_BOOKED],
+            [0, kind::UNFED],
+            [0, kind::NO_PROCESSOR],
+            [3, kind::REFUSED],
+            [4, kind::REFUSED],
+        ];
         assert_eq!(told.into_inner(), all.into());
     }
 
     /// A fault in the reasons of one kind.
-    fn reason_told(kind: u64, fault: fn(&mut [u64])) -> String {
+    fn reason_told(of_kind: u64, fault: fn(&mut [u64])) -> String {
         told::<Why>(|answer, _| {
             answer
                 .chunks_mut(Why::NUMBERS)
-                .filter(|reason| reason[1] == kind)
+                .filter(|reason| reason[1] == of_kind)
                 .for_each(fault);
         })
     }
 
     #[test]
     fn a_wrong_lack_is_told() {
-        let told = reason_told(3, |reason| reason[3] += 1);
+        let told = reason_told(kind::NOT_BOOKED, |reason| reason[3] += 1);
         assert!(told.starts_with("seed "), "{told}");
     }
 
     #[test]
     fn another_first_task_is_told() {
-        reason_told(3, |reason| reason[2] ^= 1);
+        reason_told(kind::NOT_BOOKED, |reason| reason[2] ^= 1);
     }
 
     #[test]
     fn another_child_is_told() {
-        reason_told(4, |reason| reason[2] += 1);
+        reason_told(kind::UNFED, |reason| reason[2] += 1);
     }
 
     #[test]
     fn refusals_exchanged_are_told() {
-        reason_told(0, |reason| reason[0] = 7 - reason[0]);
+        reason_told(kind::REFUSED, |reason| reason[0] = 3 + 4 - reason[0]);
     }
 
     #[test]
     fn a_later_reason_is_told() {
-        reason_told(4, |reason| reason.copy_from_slice(&[0, 5, 0, 0]));
+        reason_told(kind::UNFED, |reason| {
+            reason.copy_from_slice(&[0, kind::NO_PROCESSOR, 0, 0]);
+        });
     }
 }

@@ -1,6 +1,5 @@
 // 03 and 04: the next task in the activation order, and in the execution order.
 ghost use mathlib.Core.Path.{_≡_};
-ghost use mathlib.Core.Bool.{Bool};
 ghost use lib.ListN.{take};
 ghost use Rattle.rules.specs.Lists.{mem};
 ghost use Rattle.words.specs.Layout.{entries};

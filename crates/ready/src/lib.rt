@@ -1,7 +1,7 @@
 // The ready set: a bit for each place of the execution order. The first place of the set is found by
 // two looks.
 ghost use mathlib.Core.Path.{_≡_};
-ghost use mathlib.Core.Bool.{Bool, true, false};
+ghost use mathlib.Core.Bool.{true, false};
 ghost use Prim.Native.Nat.{_^_, _<_};
 ghost use lib.Count.{trailingZeros};
 ghost use Rattle.words.specs.Layout.{bits};

@@ -4,7 +4,7 @@ use mathlib.Core.Path.{_≡_, refl, sym, ap, subst, _∙_}
 use mathlib.Core.Logic.{⊎-elim}
 use mathlib.Core.List.{List, [], _∷_, _++_}
 use mathlib.Core.Option.{Option, none, some}
-use Prim.Native.Nat.{ℕ, suc, _+_, _^_, _≤_, _<_}
+use Prim.Native.Nat.{ℕ, suc, _+_, _≤_, _<_}
 use native.Mathlib.Numerals.{one-add}
 use native.Mathlib.Omega.{arith}
 use borrow.Author.Tests.{eqb-true, ltb-true, ltb-false, lt-leb, le-leb, le-ltb}
@@ -13,7 +13,7 @@ use lib.ListN.{length, take, drop, length-append, length-drop}
 use lib.Seq.{drop-cons, getD-drop}
 use Rattle.rules.specs.Limits.{maxCount, maxBound}
 use Rattle.rules.specs.Lists.{at}
-use Rattle.rules.specs.Command.{Command, plan, task, activation, execution, begin, done, Form, forms, find, byteOf, operandsOf, widthsOf, little, littles, numbers, room, bytes, Decoded, refused, read, readBy, table, decode}
+use Rattle.rules.specs.Command.{Command, plan, task, activation, execution, begin, done, Form, forms, find, byteOf, operandsOf, widthsOf, littles, numbers, room, bytes, Decoded, refused, read, readBy, table, decode}
 use Rattle.rules.proofs.Tests.{decide, le-or-lt}
 use Rattle.rules.proofs.Number.{AllBytes, Fit, numbers-fit, numbers-littles, littles-numbers, length-littles, length-numbers}
 
@@ -208,11 +208,6 @@ decode-bytes c rest h =
     (first-reads (byteOf c) (littles (f .widths) x ++ rest) f (l .there)
     ∙ line-reads f x rest (rw wide at h)
     ∙ ap (λ (d : Command). read d (1 + room (f .widths))) (l .means))
-
--- DONE by itself, for a task's number of 16 bits
-pub decode-done : (j : ℕ) → j < 2 ^ 16 → decode (bytes (done j)) 0 ≡ read (done j) 3
-unfolding bytes widthsOf find forms byteOf operandsOf littles little
-decode-done j h = decode-bytes (done j) [] (h, tt)
 
 -- a byte before the place does not count
 pub past : (byte : ℕ) (stream : List ℕ) (place : ℕ) → decode (byte ∷ stream) (suc place) ≡ decode stream place

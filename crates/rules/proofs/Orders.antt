@@ -177,27 +177,10 @@ distinct-snoc (y ∷ l) x once new =
     = mem-append y l (x ∷ []) ∙ rw (fresh .new, ne-eqb y x (λ q. out .0 (sym q))) in
     rw alone (distinct-snoc l x (fresh .later) (out .1))
 
--- such a list taken apart at x: x stands in neither part, and no entry in both
-pub record Alone (pre : List ℕ) (x : ℕ) (post : List ℕ) : Type 0 where
-  pub not-earlier : mem x pre ≡ false
-  pub not-later : mem x post ≡ false
-  pub earlier : distinct pre ≡ true
-  pub later : distinct post ≡ true
-  pub apart : (i : ℕ) → mem i pre ≡ true → mem i post ≡ false
-
-pub distinct-split : (pre : List ℕ) (x : ℕ) (post : List ℕ) → distinct (pre ++ x ∷ post) ≡ true → Alone pre x post
-distinct-split pre x post e =
-    let a = distinct-append pre (x ∷ post) e in
-    let f = distinct-cons x post (a .second) in
-    let other : (i : ℕ) → mem i pre ≡ true → i ≡ x → ⊥
-    = λ i h q. clash (mem-here i x post q) (a .apart i h) in
-    record {
-      not-earlier = fails (mem x pre) (λ h. other x h refl);
-      not-later = f .new;
-      earlier = a .first;
-      later = f .later;
-      apart = λ i h. sym (mem-later i x post (other i h)) ∙ a .apart i h;
-    }
+-- such a list taken apart at x: x does not stand in front
+pub new-behind : (pre : List ℕ) (x : ℕ) (post : List ℕ) → distinct (pre ++ x ∷ post) ≡ true → mem x pre ≡ false
+new-behind pre x post e =
+    fails (mem x pre) (λ h. clash (mem-here x x post refl) (distinct-append pre (x ∷ post) e .apart x h))
 
 pub place-here : (x y : ℕ) (l : List ℕ) → x ≡ y → place x (y ∷ l) ≡ 0
 unfolding place

@@ -7,13 +7,13 @@ use Prim.Native.Nat.{ℕ, _+_, _-_, _≤_, max}
 use native.Mathlib.Omega.{arith}
 use lib.Dec.{eqb}
 use borrow.Author.Tests.{eq-eqb, ne-eqb}
-use Rattle.rules.specs.Sums.{only, sumTo}
+use Rattle.rules.specs.Sums.{only}
 use Rattle.rules.specs.Lists.{mem, largest}
 use Rattle.rules.specs.Need.{children, need, resident}
 use Rattle.rules.specs.Peak.{sums, peak}
 use Rattle.rules.specs.Invariant.{Valid}
 use Rattle.rules.proofs.Tests.{same-or-not}
-use Rattle.rules.proofs.Sums.{Task, sum-cong, sum-le, sum-add, sum-zero, sum-change, only-le}
+use Rattle.rules.proofs.Sums.{Task, sum-cong, sum-add, sum-zero, sum-change}
 use Rattle.rules.proofs.Orders.{mem-here, mem-later, mem-among}
 use Rattle.rules.proofs.Turns.{Left, Turn, left-split, left-next, left-turn}
 
@@ -32,14 +32,6 @@ resident-cong n par out ended ended′ begun begun′ e b =
     sum-cong (lying par out ended begun) (lying par out ended′ begun′) n
     (λ i t.
     ⊎-elim (λ z. rw (e i t, eq-eqb (par i) 0 z, and-false (ended′ i))) (λ d. rw (e i t, b i t d)) (same-or-not (par i) 0))
-
--- no more is resident than the outs of all tasks
-pub resident-le :
-    (n : ℕ) (par out : ℕ → ℕ) (ended begun : ℕ → Bool) → resident n par out ended begun ≤ sumTo out n
-unfolding resident
-resident-le n par out ended begun =
-    sum-le (lying par out ended begun) out n
-    (λ i _. only-le (ended i && not (eqb (par i) 0) && not (begun (par i))) (out i))
 
 -- the sum at x, where those of `ended` have run
 abbrev pub sumAt : (n : ℕ) (par work out : ℕ → ℕ) → List ℕ → ℕ → ℕ

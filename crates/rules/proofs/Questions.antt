@@ -1,18 +1,14 @@
--- What may be asked of a plan, said otherwise: trays in use by the order of the standings, and fullness of what is answered as booked.
-use mathlib.Core.Path.{_≡_, refl, sym, ap₂}
-use mathlib.Core.Bool.{Bool, true, false, not, _&&_, _||_}
+-- What may be asked of a plan, said otherwise: trays in use by the order of the standings.
+use mathlib.Core.Path.{_≡_, refl, ap₂}
+use mathlib.Core.Bool.{Bool, not, _&&_, _||_}
 use mathlib.Core.Logic.{⊎-elim}
 use Prim.Native.Nat.{ℕ, _+_, _≤_}
-use native.Mathlib.Nat.{zero-div}
 use native.Mathlib.Omega.{arith}
 use lib.Dec.{eqb}
-use borrow.Author.Tests.{eq-eqb, ne-eqb, lt-leb}
+use borrow.Author.Tests.{ne-eqb, lt-leb}
 use Rattle.rules.specs.Sums.{Task, only}
 use Rattle.rules.specs.Need.{need, inUse}
 use Rattle.rules.specs.Standing.{running, finished}
-use Rattle.rules.specs.State.{State}
-use Rattle.rules.specs.Question
-use Rattle.rules.specs.Question.{isRunning, fullnessOf, fullness}
 use Rattle.rules.proofs.Tests.{same-or-not}
 use Rattle.rules.proofs.Sums.{sum-cong}
 use Rattle.rules.proofs.Peaks.{resident-cong}
@@ -46,20 +42,3 @@ in-use-named n par work out st four within =
     (λ i t. rw (named st i (four i t))))
     (resident-cong n par out (hasEnded st) (hasEnded st) (runsOrEnded st) (hasBegun st) (λ i t. refl)
     (λ i t d. let w = within i t in named st (par i) (four (par i) (record { low = omega arith; high = w }))))
-
--- outside running nothing is booked, and the fullness of nothing is 0
-empty-fullness : (bound : ℕ) → fullnessOf 0 bound ≡ 0
-unfolding fullnessOf
-empty-fullness bound =
-    ⊎-elim (λ (e : bound ≡ 0). rw (eq-eqb bound 0 e))
-    (λ d. rw (ne-eqb bound 0 d, lt-leb bound 0 (omega arith)) (zero-div bound))
-    (same-or-not bound 0)
-
-pub fullness-booked : (s : State) → fullness s ≡ fullnessOf (Question.booked s) (s .chilled .bound)
-unfolding fullness Question.booked
-fullness-booked s = go (isRunning s) _
-  where
-    go : (t : Bool) (total : ℕ)
-        → only t (fullnessOf (only t total) (s .chilled .bound)) ≡ fullnessOf (only t total) (s .chilled .bound)
-    go true total = refl
-    go false total = sym (empty-fullness (s .chilled .bound))

@@ -11,7 +11,7 @@ use Rattle.rules.specs.Grounds.{within}
 use Rattle.rules.specs.Invariant.{rankIn, Valid, Tree}
 use Rattle.rules.proofs.Tests.{decide}
 use Rattle.rules.proofs.Sums.{Task}
-use Rattle.rules.proofs.Orders.{within-task, every-mem, mem-here, mem-among, place-lt, place-second, place-split, place-injective, distinct-split, all-in, ordered-rises}
+use Rattle.rules.proofs.Orders.{within-task, every-mem, mem-here, mem-among, place-lt, place-second, place-split, place-injective, new-behind, all-in, ordered-rises}
 
 module _ (n : ℕ) (par : ℕ → ℕ) (order : List ℕ) (valid : Valid n par order) where
   -- every task stands in the order
@@ -47,8 +47,7 @@ module _ (n : ℕ) (par : ℕ → ℕ) (order : List ℕ) (valid : Valid n par o
   in-front pre x later e j h =
       ⊎-elim (λ m. m)
       (λ (m : mem j pre ≡ false).
-      let alone = distinct-split pre x later (rw e at (valid .once)) in
-      let own : place x order ≡ length pre = rw e (place-split x pre later (alone .not-earlier)) in
+      let own : place x order ≡ length pre = rw e (place-split x pre later (new-behind pre x later (rw e at (valid .once)))) in
       let other : place j order ≡ length pre + place j (x ∷ later) = rw e (place-second j pre (x ∷ later) m) in
       absurd (omega arith))
       (decide (mem j pre))

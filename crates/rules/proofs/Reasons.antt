@@ -1,5 +1,5 @@
 -- The reason that is told is the first that is true: case by case, and then of every plan that commands led to.
-use mathlib.Core.Path.{_≡_, refl, ap, ap₂}
+use mathlib.Core.Path.{_≡_, refl, sym, ap, ap₂}
 use mathlib.Core.Bool.{true, false}
 use mathlib.Core.Logic.{inl, inr, ⊎-elim}
 use mathlib.Core.List.{List}
@@ -14,7 +14,7 @@ use Rattle.rules.specs.Grounds.{within}
 use Rattle.rules.specs.Day.{Event}
 use Rattle.rules.specs.Why.{Reason, refused, ended, running, notBooked, unfed, noProcessor, firstWaiting, lackIn, unendedChild, why}
 use Rattle.rules.specs.Reasons.{LackIsExact, NotBooked, Unfed, Says, precedence, ReasonHolds, EveryReasonHolds}
-use Rattle.rules.proofs.Tests.{decide, clash, same-or-not}
+use Rattle.rules.proofs.Tests.{decide, clash, same-or-not, le-or-lt}
 use Rattle.rules.proofs.Sums.{Task}
 use Rattle.rules.proofs.Orders.{within-task, task-within}
 use Rattle.rules.proofs.Ahead.{first-waiting-one}
@@ -170,3 +170,10 @@ every-reason-holds s reached i =
     (decide (within i (s .size))))
     (λ out. rw (why-outside s i out) (refused-phase s i out))
     (same-or-not (s .phase) Phase.running)
+
+-- no other reason would do: what is promised of it fixes the reason and its values
+pub one-reason : {s : State} {i : ℕ} {r other : Reason} → ReasonHolds s i r → ReasonHolds s i other → other ≡ r
+one-reason {s} {i} {r} {other} holds others =
+    ⊎-elim (λ (h : precedence other ≤ precedence r). holds .first other h (others .says))
+    (λ (h : precedence r < precedence other). sym (others .first r (omega arith) (holds .says)))
+    (le-or-lt (precedence other) (precedence r))

@@ -1,5 +1,5 @@
 -- Laws of single entries that a booking changes.
-use mathlib.Core.Path.{_≡_, refl, sym, ap, _∙_}
+use mathlib.Core.Path.{_≡_, sym, ap, _∙_}
 use mathlib.Core.Bool.{Bool, true, false, cond}
 use mathlib.Core.Logic.{⊎-elim}
 use mathlib.Core.List.{List}
@@ -81,13 +81,6 @@ fewer-at l q i h low some =
     omega arith)
     (same-or-not q i))
     (same-or-not q 0)
-
-pub fewer-length : (l : List ℕ) (q : ℕ) → length (fewer l q) ≡ length l
-fewer-length l q = by-test (eqb q 0)
-  where
-    by-test : (b : Bool) → length (cond b l (set l q (at l q - 1))) ≡ length l
-    by-test true = refl
-    by-test false = length-set l q (at l q - 1)
 
 pub grown-zero : (n : ℕ) (l : List ℕ) (q v : ℕ) → q ≤ n → ZeroPast n l → ZeroPast n (grown l q v)
 grown-zero n l q v h zero = by-test (eqb q 0)

@@ -1,4 +1,4 @@
--- `plan::open::add_task` meets its contract: each way out knows its ground, and the row that is written is the next task of the rules.
+-- `opening::add_task` meets its contract: each way out knows its ground, and the row that is written is the next task of the rules.
 use mathlib.Core.Path.{_≡_, sym, ap, ap₂, _∙_}
 use mathlib.Core.Bool.{cond}
 use mathlib.Core.List.{List}

@@ -1,4 +1,4 @@
--- `plan::open::clear` meets its contract. The loop's invariant: the words before q are 0.
+-- `opening::clear` meets its contract. The loop's invariant: the words before q are 0.
 use Prim.Native.Nat.{_-_}
 use native.Mathlib.Omega.{arith}
 use Rattle.opening.proofs.Clearing.{Clearing, clearing-first, clearing-in, clearing-next, clearing-end}

@@ -1,4 +1,4 @@
--- `plan::open::empty` meets its contract.
+-- `opening::empty` meets its contract.
 use native.Mathlib.Omega.{arith}
 use borrow.Author.Needs.{needs}
 use Rattle.opening.proofs.Clearing.{emptied, may-clear-head, may-clear-ready}

@@ -1,4 +1,4 @@
--- `plan::open::open` meets its contract: each way out knows its ground, and what is opened is the new plan of the rules.
+-- `opening::open` meets its contract: each way out knows its ground, and what is opened is the new plan of the rules.
 use mathlib.Core.Path.{sym, subst, _∙_}
 use Prim.Native.Nat.{ℕ}
 use native.Mathlib.Omega.{arith}

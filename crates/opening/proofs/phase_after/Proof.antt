@@ -1,4 +1,4 @@
--- `plan::open::phase_after` meets its contract.
+-- `opening::phase_after` meets its contract.
 use borrow.Author.Tests.{eq-eqb, ne-eqb}
 use Rattle.opening.proofs.phase_after.Statement.{statement}
 use Rattle.opening.proofs.phase_after.Tie as tie

@@ -1,4 +1,4 @@
--- `plan::order::append` meets its contract: refused by its ground, or three words are written.
+-- `ordering::append` meets its contract: refused by its ground, or three words are written.
 use native.Mathlib.Omega.{arith}
 use borrow.Author.Needs.{needs}
 use Rattle.ordering.proofs.Ordering.{append-refused, append-allowed, append-accepted}

@@ -1,4 +1,4 @@
--- `plan::order::contains` meets its contract: each way out knows what the test of the noted place said.
+-- `ordering::contains` meets its contract: each way out knows what the test of the noted place said.
 use native.Mathlib.Omega.{arith}
 use borrow.Author.Needs.{needs}
 use Rattle.ordering.proofs.Ordering.{contains-not, place-in, contains-there}

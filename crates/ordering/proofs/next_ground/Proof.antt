@@ -1,4 +1,4 @@
--- `plan::order::next_ground` meets its contract: each way out knows what the tests before it said.
+-- `ordering::next_ground` meets its contract: each way out knows what the tests before it said.
 use mathlib.Core.Path.{sym, _∙_}
 use native.Mathlib.Omega.{arith}
 use borrow.Author.Needs.{needs}

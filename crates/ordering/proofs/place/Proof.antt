@@ -1,4 +1,4 @@
--- `plan::order::place` meets its contract.
+-- `ordering::place` meets its contract.
 use Rattle.ordering.proofs.Appending.{execution-at, placed}
 use Rattle.ordering.proofs.place.Statement.{statement}
 use Rattle.ordering.proofs.place.Tie as tie

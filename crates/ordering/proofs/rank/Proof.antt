@@ -1,4 +1,4 @@
--- `plan::order::rank` meets its contract.
+-- `ordering::rank` meets its contract.
 use Rattle.ordering.proofs.Appending.{activation-at, ranked}
 use Rattle.ordering.proofs.rank.Statement.{statement}
 use Rattle.ordering.proofs.rank.Tie as tie

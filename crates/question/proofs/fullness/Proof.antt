@@ -1,4 +1,4 @@
--- `plan::question::fullness` meets its contract: the fullness of what is booked, while the plan runs.
+-- `question::fullness` meets its contract: the fullness of what is booked, while the plan runs.
 use mathlib.Core.Path.{ap₂, _∙_}
 use Prim.Native.Nat.{ℕ}
 use borrow.Author.Needs.{needs}

@@ -1,4 +1,4 @@
--- `plan::question::in_use` meets its contract: the figure that is kept, while the plan runs.
+-- `question::in_use` meets its contract: the figure that is kept, while the plan runs.
 use mathlib.Core.Path.{ap₂, _∙_}
 use Prim.Native.Nat.{ℕ}
 use borrow.Author.Needs.{needs}

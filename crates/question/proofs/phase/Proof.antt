@@ -1,4 +1,4 @@
--- `plan::question::phase` meets its contract: the phase is a word of the head.
+-- `question::phase` meets its contract: the phase is a word of the head.
 use borrow.Author.Needs.{needs}
 use Rattle.words.specs.Contents.{contents}
 use Rattle.question.proofs.phase.Statement.{statement}

@@ -1,4 +1,4 @@
--- `plan::question::standing` meets its contract: before a day four zeros, and the numbers that are kept of it from then on.
+-- `question::standing` meets its contract: before a day four zeros, and the numbers that are kept of it from then on.
 use mathlib.Core.Path.{_≡_}
 use mathlib.Core.List.{List, [], _∷_}
 use Prim.Native.Nat.{ℕ, _-_, _≤_}

@@ -1,4 +1,4 @@
--- `plan::question::while_running` meets its contract: each way out knows what the test said.
+-- `question::while_running` meets its contract: each way out knows what the test said.
 use borrow.Author.Tests.{eq-eqb, ne-eqb}
 use Rattle.question.proofs.while_running.Statement.{statement}
 use Rattle.question.proofs.while_running.Tie as tie

@@ -1,4 +1,4 @@
--- `plan::advance::advance` meets its contract.
+-- `day::advance::advance` meets its contract.
 use borrow.Author.Needs.{needs}
 use Rattle.day.proofs.Advancing.{then-may-start, advanced}
 use Rattle.day.proofs.advance.advance.Statement.{statement}

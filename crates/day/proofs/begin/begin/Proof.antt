@@ -1,4 +1,4 @@
--- `plan::begin::begin` meets its contract.
+-- `day::begin::begin` meets its contract.
 use mathlib.Core.Path.{refl, sym, _∙_}
 use native.Mathlib.Omega.{arith}
 use borrow.Author.Needs.{needs}

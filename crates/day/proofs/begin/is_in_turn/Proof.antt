@@ -1,4 +1,4 @@
--- `plan::begin::is_in_turn` meets its contract: each way out knows what the tests before it said.
+-- `day::begin::is_in_turn` meets its contract: each way out knows what the tests before it said.
 use mathlib.Core.Path.{sym, _∙_}
 use borrow.Author.Needs.{needs}
 use borrow.Author.Tests.{eq-eqb, ne-eqb}

@@ -1,4 +1,4 @@
--- `plan::begin::start_day` meets its contract.
+-- `day::begin::start_day` meets its contract.
 use native.Mathlib.Omega.{arith}
 use borrow.Author.Needs.{needs}
 use Rattle.words.specs.Contents.{contents}

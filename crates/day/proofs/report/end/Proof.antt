@@ -1,4 +1,4 @@
--- `plan::report::end` meets its contract.
+-- `day::report::end` meets its contract.
 use mathlib.Core.Path.{ap, _∙_}
 use mathlib.Core.Bool.{cond}
 use mathlib.Core.List.{List}

@@ -1,4 +1,4 @@
--- `plan::report::phase_after` meets its contract.
+-- `day::report::phase_after` meets its contract.
 use borrow.Author.Tests.{eq-eqb, ne-eqb}
 use Rattle.day.proofs.report.phase_after.Statement.{statement}
 use Rattle.day.proofs.report.phase_after.Tie as tie

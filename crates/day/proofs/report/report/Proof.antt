@@ -1,4 +1,4 @@
--- `plan::report::report` meets its contract.
+-- `day::report::report` meets its contract.
 use mathlib.Core.Path.{refl, sym, _∙_}
 use borrow.Author.Needs.{needs}
 use Rattle.words.specs.Contents.{contents}

@@ -1,4 +1,4 @@
--- `plan::report::report_ground` meets its contract: each way out knows what the tests before it said.
+-- `day::report::report_ground` meets its contract: each way out knows what the tests before it said.
 use mathlib.Core.Path.{_≡_, sym, ap, _∙_}
 use mathlib.Core.Bool.{true}
 use mathlib.Core.List.{List}
