@@ -47,7 +47,7 @@ match:
 examples:
 	./compare/examples
 
-# Commands, and why a step is not starting, timed beside the peer's.
+# Commands, why a step is not starting and a plan written out, timed beside the peer's.
 bench:
 	@./compare/bench
 

@@ -4,8 +4,8 @@
        cc -Iinclude examples/kitchen.c target/staticlib/libcephlouk.a -o target/kitchen && target/kitchen
 
    The words are those of plan texts (see examples/plan-a.plan). Beside them, "ask" asks the plan how the day stands, "why" asks why steps
-   are not starting, and "if" ahead of a command gives it to a copy of the plan, to see what would come of it. What is refused changes
-   nothing, and the kitchen goes on. */
+   are not starting, "write" tells the bytes of the plan, written back out, and "if" ahead of a command gives it to a copy of the plan, to
+   see what would come of it. What is refused changes nothing, and the kitchen goes on. */
 #include "cephlouk.h"
 #include <stdio.h>
 #include <stdlib.h>
@@ -40,6 +40,7 @@ static const struct form forms[] = {
 static const char *const grounds[] = {
     "", "cut short", "no such command", "not in turn", "a number outside its limits", "already in that order", "that step is not running",
     "not exactly one last step", "a step ahead of one that feeds it", "more places needed than there are", "too short a start list",
+    "too short a list",
 };
 
 static const char *const phases[] = {"empty", "steps missing", "orders", "running", "over"};
@@ -102,6 +103,21 @@ static void explain(const uint32_t *plan, uint16_t step)
     case CEPHLOUK_REASON_NO_PROCESSOR:
         printf("waits for a station\n");
     }
+}
+
+/* Tells the bytes of the plan, written back out. */
+static void write_out(const uint32_t *plan)
+{
+    static uint8_t bytes[CEPHLOUK_MOST_BYTES];
+    struct cephlouk_wrote wrote = cephlouk_write(plan, bytes, sizeof bytes);
+    if (wrote.number != CEPHLOUK_ACCEPTED) {
+        printf("refused %d: %s\n", wrote.number, grounds[wrote.number]);
+        return;
+    }
+    printf("%lu bytes:", (unsigned long)wrote.count);
+    for (size_t k = 0; k < wrote.count; k++)
+        printf(" %02x", bytes[k]);
+    printf("\n");
 }
 
 /* Adds a number of so many bytes, lowest first; a dash is 0. It fails where the word is no such number. */
@@ -195,6 +211,8 @@ int main(void)
             tell(plan);
         } else if (word != NULL && strcmp(word, "why") == 0) {
             explain_all(plan);
+        } else if (word != NULL && strcmp(word, "write") == 0) {
+            write_out(plan);
         } else if (word != NULL && strcmp(word, "if") == 0 && (word = next_word()) != NULL) {
             memcpy(copy, plan, sizeof plan);
             obey(copy, word);

@@ -30,6 +30,9 @@ extern "C" {
 #define CEPHLOUK_MAX_PROCESSORS 64
 #define CEPHLOUK_LEAST_STARTS 64
 
+/* The most bytes of a plan that is written out: 8, and 13 for each step. */
+#define CEPHLOUK_MOST_BYTES 13320
+
 /* The first byte of a command, and its operands, lowest byte first. */
 enum {
     CEPHLOUK_PLAN = 0x01,       /* n (2 bytes), p (1), M (4): drops the old plan and opens a new one */
@@ -45,14 +48,15 @@ enum {
     CEPHLOUK_ACCEPTED = 0,
     CEPHLOUK_CUT_SHORT = 1,        /* no byte is left at the place, or operands are cut short */
     CEPHLOUK_UNKNOWN_BYTE = 2,     /* the byte is none of 01 to 06 */
-    CEPHLOUK_OUT_OF_TURN = 3,      /* the command, or the question why a step is not starting, is not in turn in this phase */
+    CEPHLOUK_OUT_OF_TURN = 3,      /* the command, or what the plan is asked, is not in turn */
     CEPHLOUK_OUTSIDE_LIMITS = 4,   /* n, p, a parent or a step number is outside its limits */
     CEPHLOUK_REPEATED = 5,         /* the step is already in that order */
     CEPHLOUK_NOT_RUNNING = 6,      /* DONE for a step that is not running */
     CEPHLOUK_NOT_ONE_ROOT = 7,     /* BEGIN: the steps with parent 0 are not exactly one */
     CEPHLOUK_PARENT_FIRST = 8,     /* BEGIN: some step does not stand before its parent in the activation order */
     CEPHLOUK_PEAK_ABOVE_BOUND = 9, /* BEGIN: one step after another already needs more places than there are */
-    CEPHLOUK_FEW_STARTS = 10       /* the start list has fewer than CEPHLOUK_LEAST_STARTS entries */
+    CEPHLOUK_FEW_STARTS = 10,      /* the start list has fewer than CEPHLOUK_LEAST_STARTS entries */
+    CEPHLOUK_SHORT_LIST = 11       /* the lent list is too short for what is to be written */
 };
 
 /* The phases of a plan. */
@@ -95,6 +99,12 @@ struct cephlouk_reason {
     uint32_t lack;  /* of NOT_BOOKED: with so many more places that first step would be booked now, with one fewer not; else 0 */
 };
 
+/* What is answered by a function that writes to the front of a lent list. */
+struct cephlouk_wrote {
+    uint8_t number; /* CEPHLOUK_ACCEPTED, or the ground of refusal */
+    size_t count;   /* how many entries were written; 0 in a refusal */
+};
+
 /* CEPHLOUK_PLAN_WORDS, as the library has it: a program that was compiled with another header may ask. */
 size_t cephlouk_plan_words(void);
 
@@ -113,6 +123,12 @@ uint32_t cephlouk_in_use(const uint32_t *plan);                   /* trays in us
 uint32_t cephlouk_fullness(const uint32_t *plan);                 /* trays booked, in thousandths of the places; 0 outside running */
 struct cephlouk_counts cephlouk_standing(const uint32_t *plan);   /* four zeros outside running and over */
 struct cephlouk_reason cephlouk_why(const uint32_t *plan, uint16_t task); /* why a step is not starting */
+
+/* Writes what was given of a plan back out, to the front of a list of `length` bytes: PLAN, the steps, the activation order and the
+   execution order, without BEGIN. OUT_OF_TURN until both orders are complete; then SHORT_LIST where the list has fewer than 8 bytes and 13
+   for each step. Bytes behind those written are not touched, and a refusal touches none. The same plan gives the same bytes, however its
+   orders came, and cephlouk_command on them restores it in an empty plan. */
+struct cephlouk_wrote cephlouk_write(const uint32_t *plan, uint8_t *list, size_t length);
 
 /* The planners' desk, in libdesk.a: the peak of the caller's own records in an activation order, with no plan. A record stands for a
    task: the first is task 1. */

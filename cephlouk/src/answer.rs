@@ -33,6 +33,24 @@ pub struct Answer {
     pub offers: usize,
 }
 
+/// The plain numbers of what was written to the front of a lent list, as the
+/// library gives them.
+#[repr(C)]
+#[derive(Clone, Copy, Debug, Default, PartialEq, Eq)]
+pub struct Wrote {
+    /// 0 for written, or the number of the refusal.
+    pub number: u8,
+    /// How many entries were written; 0 in a refusal.
+    pub count: usize,
+}
+
+impl Wrote {
+    /// Why nothing was written, if it was refused.
+    pub fn refusal(&self) -> Option<Refusal> {
+        Refusal::of_number(self.number)
+    }
+}
+
 impl Answer {
     /// Why the command was refused, if it was.
     pub fn refusal(&self) -> Option<Refusal> {

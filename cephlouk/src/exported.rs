@@ -1,6 +1,6 @@
 //! The functions of the static libraries, as include/cephlouk.h has them.
 
-use crate::answer::Answer;
+use crate::answer::{Answer, Wrote};
 use crate::desk::TaskRecord;
 use crate::phase::Standing;
 use crate::reason::FlatReason;
@@ -37,6 +37,8 @@ extern "C" {
     pub(crate) fn cephlouk_standing(plan: *const u32) -> Standing;
 
     pub(crate) fn cephlouk_why(plan: *const u32, task: u16) -> FlatReason;
+
+    pub(crate) fn cephlouk_write(plan: *const u32, list: *mut u8, length: usize) -> Wrote;
 
     pub(crate) fn cephlouk_desk_peak(
         records: *const TaskRecord,

@@ -1,7 +1,8 @@
 //! Cephlouk tells the cooks of a clinic kitchen which step to start each time
 //! a step ends, so that the cold room never overfills and the day never
 //! sticks. This is the safe side of the proved library: a [`Plan`] is kept,
-//! takes one command after another and can be asked how the day stands.
+//! takes one command after another, can be asked how the day stands, and can be
+//! written back out.
 //!
 //! A command is one byte and operands of fixed width, lowest byte first:
 //!
@@ -53,7 +54,7 @@ mod plan;
 mod reason;
 mod refusal;
 
-pub use answer::{Accepted, Answer};
+pub use answer::{Accepted, Answer, Wrote};
 pub use desk::{desk_peak, desk_peak_in, TaskRecord};
 pub use phase::{Phase, Standing};
 pub use plan::Plan;

@@ -1,6 +1,6 @@
 //! The plan.
 
-use crate::answer::{Accepted, Answer};
+use crate::answer::{Accepted, Answer, Wrote};
 use crate::exported;
 use crate::phase::{Phase, Standing};
 use crate::reason::Reason;
@@ -37,6 +37,8 @@ impl Plan {
     pub const MAX_PROCESSORS: usize = 64;
     /// The fewest entries of a start list.
     pub const LEAST_STARTS: usize = 64;
+    /// The most bytes of a plan that is written out.
+    pub const MOST_BYTES: usize = 8 + 13 * Plan::MAX_TASKS;
 
     /// An empty plan.
     pub fn new() -> Plan {
@@ -167,6 +169,53 @@ impl Plan {
     /// ```
     pub fn why(&self, step: u16) -> Result<Reason, Refusal> {
         unsafe { exported::cephlouk_why(self.words.as_ptr(), step) }.told()
+    }
+
+    /// Writes what was given of it back out, to the front of a list of bytes:
+    /// PLAN, the steps, the activation order and the execution order, without
+    /// BEGIN. The answer is how many bytes were written; later ones are not
+    /// touched. Refused out of turn until both orders are complete, then where
+    /// the list has fewer than 8 bytes and 13 for each step; a refusal touches
+    /// no byte.
+    ///
+    /// However the orders came, the same plan gives the same bytes, and reading
+    /// them into an empty plan restores it:
+    ///
+    /// ```
+    /// use cephlouk::{Plan, Refusal};
+    ///
+    /// let mut plan = Plan::new();
+    /// let mut bytes = [0; Plan::MOST_BYTES];
+    /// assert_eq!(plan.write(&mut bytes), Err(Refusal::OutOfTurn));
+    /// plan.command(&[0x01, 1, 0, 1, 0, 0, 0, 0])?; // 1 step, 1 station, no place
+    /// plan.command(&[0x02, 0, 0, 0, 0, 0, 0])?; // its only step
+    /// plan.command(&[0x04, 1, 0])?;
+    /// plan.command(&[0x03, 1, 0])?;
+    /// assert_eq!(plan.write(&mut bytes[..20]), Err(Refusal::ShortList));
+    /// assert_eq!(plan.write(&mut bytes), Ok(21));
+    /// assert_eq!(bytes[15..21], [0x03, 1, 0, 0x04, 1, 0]);
+    ///
+    /// let mut restored = Plan::new();
+    /// let mut place = 0;
+    /// while place < 21 {
+    ///     place += restored.command_at(&bytes, place)?.used;
+    /// }
+    /// assert_eq!(restored.words(), plan.words());
+    /// # Ok::<(), Refusal>(())
+    /// ```
+    pub fn write(&self, list: &mut [u8]) -> Result<usize, Refusal> {
+        let wrote = self.write_with(list);
+        match wrote.refusal() {
+            Some(refusal) => Err(refusal),
+            None => Ok(wrote.count),
+        }
+    }
+
+    /// The same, answered in plain numbers.
+    pub fn write_with(&self, list: &mut [u8]) -> Wrote {
+        // SAFETY: commands led to the words, which are only read; the list is
+        // lent for writing, and no part of them.
+        unsafe { exported::cephlouk_write(self.words.as_ptr(), list.as_mut_ptr(), list.len()) }
     }
 
     /// All that it is: to be stored, and taken up again by

@@ -12,7 +12,7 @@ use std::fmt::{Display, Formatter, Result};
 /// let refusal = Plan::new().command(&[0x05]).unwrap_err();
 /// assert_eq!(refusal, Refusal::OutOfTurn);
 /// assert_eq!(refusal.number(), 3);
-/// assert_eq!(refusal.to_string(), "not in turn in this phase");
+/// assert_eq!(refusal.to_string(), "not in turn");
 /// ```
 #[derive(Clone, Copy, Debug, PartialEq, Eq, Hash)]
 #[repr(u8)]
@@ -21,8 +21,9 @@ pub enum Refusal {
     CutShort = 1,
     /// The byte is none of 01 to 06.
     UnknownByte = 2,
-    /// The command, or the question why a step is not starting, is not in turn
-    /// in this phase.
+    /// The command, or what the plan is asked, is not in turn: the question why
+    /// a step is not starting outside running, and writing a plan until both
+    /// its orders are complete.
     OutOfTurn = 3,
     /// n, p, a parent or a step number is outside its limits. At the desk also
     /// lists of unequal lengths, of none or of too many entries.
@@ -40,11 +41,13 @@ pub enum Refusal {
     /// The start list has fewer than 64 entries; only
     /// [`Plan::command_with`](crate::Plan::command_with) can meet it.
     FewStarts = 10,
+    /// The lent list is too short for what is to be written.
+    ShortList = 11,
 }
 
 impl Refusal {
     /// All of them, by their numbers.
-    const ALL: [Refusal; 10] = [
+    const ALL: [Refusal; 11] = [
         Refusal::CutShort,
         Refusal::UnknownByte,
         Refusal::OutOfTurn,
@@ -55,18 +58,22 @@ impl Refusal {
         Refusal::ParentFirst,
         Refusal::PeakAboveBound,
         Refusal::FewStarts,
+        Refusal::ShortList,
     ];
 
-    /// Its number, 1 to 10.
+    /// Its number, 1 to 11.
     pub fn number(self) -> u8 {
         self as u8
     }
 
     /// The refusal of a number; none for 0, which is accepted.
     pub(crate) fn of_number(number: u8) -> Option<Refusal> {
-        Refusal::ALL
-            .into_iter()
-            .find(|refusal| refusal.number() == number)
+        if number == 0 {
+            return None;
+        }
+        let mut all = Refusal::ALL.into_iter();
+        let refusal = all.find(|refusal| refusal.number() == number);
+        Some(refusal.unwrap_or_else(|| unreachable!("the library refuses with no {number}")))
     }
 }
 
@@ -75,7 +82,7 @@ impl Display for Refusal {
         to.write_str(match self {
             Refusal::CutShort => "no byte is left, or the operands are cut short",
             Refusal::UnknownByte => "the byte is no command",
-            Refusal::OutOfTurn => "not in turn in this phase",
+            Refusal::OutOfTurn => "not in turn",
             Refusal::OutsideLimits => "a number is outside its limits",
             Refusal::Repeated => "the step is already in that order",
             Refusal::NotRunning => "the step is not running",
@@ -85,6 +92,7 @@ impl Display for Refusal {
             }
             Refusal::PeakAboveBound => "the tray places are fewer than the peak",
             Refusal::FewStarts => "the start list has fewer than 64 entries",
+            Refusal::ShortList => "the list is too short for what is to be written",
         })
     }
 }

@@ -1,6 +1,6 @@
-//! Commands and the question why a step is not starting timed, the proved
-//! functions beside the peer's, and the two day printers, printed as Markdown.
-//! No figure fails anything.
+//! Commands, the question why a step is not starting and a plan written out
+//! timed, the proved functions beside the peer's, and the two day printers,
+//! printed as Markdown. No figure fails anything.
 
 use compare::clock::{medians, Batch, Calls, SAMPLES};
 use compare::day::Day;
@@ -18,8 +18,9 @@ fn main() {
     let begin = print_table("BEGIN, divided by n", begin);
     let setup = print_table("PLAN, STEP, 03 and 04", setup);
     let why = print_table("Why a step is not starting", why);
+    let write = print_table("A plan written out, divided by n", write);
     let programs = programs::times();
-    print_aims([done, begin, setup], &why, programs);
+    print_aims([done, begin, setup], [&why, &write], programs);
 }
 
 /// How the figures come about.
@@ -33,7 +34,8 @@ fn print_notes() {
          the clock. The two sides take turns, and a figure is the median of {SAMPLES} samples.\n\
          - Parents have lower numbers than their children, the activation order falls and the execution order is mixed; works \
          and outs are 0 to 20; any running step ends next.\n\
-         - Why a step is not starting is asked of every step once half of the reports came; the figure is that of one asking.\n\
+         - Why a step is not starting is asked of every step once half of the reports came; the figure is that of one asking. The \
+         plan is written out then too; the figure is that of one step.\n\
          - Growth is the figure at n = 1024 over the figure at n = 64."
     );
 }
@@ -78,6 +80,23 @@ fn why(day: &Day) -> Pair {
     times.map(|time| time / day.tasks as f64)
 }
 
+/// A plan written out halfway through the day, as much of it as goes to one
+/// task.
+fn write(day: &Day) -> Pair {
+    let proved = day.led(cephlouk::Plan::new(), day.halfway());
+    let peer = day.led(peer::Plan::new(), day.halfway());
+    let [mut list, mut list_of_peer] = [(); 2].map(|()| vec![0; peer::Plan::WRITTEN]);
+    let times = medians([
+        &mut Calls(|| {
+            let _ = black_box(proved.write(black_box(&mut list)));
+        }),
+        &mut Calls(|| {
+            black_box(peer.write(black_box(&mut list_of_peer)));
+        }),
+    ]);
+    times.map(|time| time / day.tasks as f64)
+}
+
 /// A command of those at some places, on a plan that was led to a place.
 fn pair(day: &Day, places: Range<usize>, led_to: usize, commands: usize) -> Pair {
     let copies = (TASKS_TOGETHER / day.tasks).max(1);
@@ -91,7 +110,11 @@ fn pair(day: &Day, places: Range<usize>, led_to: usize, commands: usize) -> Pair
 }
 
 /// What is aimed at, and what was measured.
-fn print_aims([done, begin, setup]: [Extremes; 3], why: &Extremes, [printer, peer]: [[f64; 2]; 2]) {
+fn print_aims(
+    [done, begin, setup]: [Extremes; 3],
+    [why, write]: [&Extremes; 2],
+    [printer, peer]: [[f64; 2]; 2],
+) {
     let ratio = |extremes: &Extremes| {
         let [least, most] = extremes.at_largest;
         format!(
@@ -110,6 +133,7 @@ fn print_aims([done, begin, setup]: [Extremes; 3], why: &Extremes, [printer, pee
         ratio(&setup)
     );
     println!("| why a step is not starting | – | {} |", ratio(why));
+    println!("| a plan written out | – | {} |", ratio(write));
     for (name, extremes) in [
         ("DONE", done),
         ("BEGIN", begin),

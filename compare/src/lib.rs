@@ -7,6 +7,7 @@ pub mod feeding;
 pub mod fence;
 pub mod kept;
 pub mod lists;
+pub mod plans;
 pub mod programs;
 pub mod reasons;
 #[cfg(test)]

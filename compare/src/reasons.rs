@@ -1,9 +1,9 @@
 //! Why tasks are not starting, by the peer: tasks of the plan that commands
 //! led to, and numbers that are none of its tasks'.
 
-use crate::tool::{led, Tool};
+use crate::tool::{led, tasks, Tool};
 use peer::generate::Random;
-use peer::{decode, Command, Plan, Reason};
+use peer::{Plan, Reason};
 
 /// So many numbers are asked about at once.
 pub const ASKED: usize = 16;
@@ -31,19 +31,6 @@ impl Tool for Why {
             .flat_map(|&task| numbers(plan.why(task)))
             .collect()
     }
-}
-
-/// How many tasks the last plan has.
-fn tasks(commands: &[u8]) -> u16 {
-    let mut tasks = 0;
-    let mut place = 0;
-    while let Ok((command, used)) = decode(commands, place) {
-        if let Command::Plan { tasks: n, .. } = command {
-            tasks = n;
-        }
-        place += used;
-    }
-    tasks
 }
 
 /// Which reason it is.

@@ -31,7 +31,8 @@ impl Depths {
         *most = depth.max(*most);
     }
 
-    /// Every command of a day, and every question after it.
+    /// Every command of a day, every question after it, and the plan written out
+    /// when it is over.
     fn note_day(&mut self, day: &Day, plan: &mut Plan) {
         let mut starts = [0; Plan::LEAST_STARTS];
         let mut place = 0;
@@ -45,6 +46,10 @@ impl Depths {
         }
         self.note("cephlouk_command, refused", || {
             black_box(plan.command_with(&day.bytes, place, &mut starts));
+        });
+        let mut list = vec![0; Plan::MOST_BYTES];
+        self.note("cephlouk_write", || {
+            black_box(plan.write(&mut list)).expect("a written plan");
         });
     }
 

@@ -3,7 +3,7 @@
 
 use crate::kept::{give, Kept};
 use peer::generate::{stream, Random};
-use peer::Plan;
+use peer::{decode, Command, Phase, Plan, Refusal};
 use std::collections::BTreeMap;
 use std::fmt::Debug;
 
@@ -67,14 +67,33 @@ pub fn led<P: Kept>(mut plan: P, commands: &[u8]) -> P {
     plan
 }
 
+/// How many tasks the last plan has.
+pub fn tasks(commands: &[u8]) -> u16 {
+    let mut tasks = 0;
+    let mut place = 0;
+    while let Ok((command, used)) = decode(commands, place) {
+        if let Command::Plan { tasks: n, .. } = command {
+            tasks = n;
+        }
+        place += used;
+    }
+    tasks
+}
+
 /// A stream's commands up to any of those that an empty plan accepts. Each
-/// phase that it comes to is as likely as the others.
+/// phase that it comes to is as likely as the others, and so is the moment at
+/// which both orders are complete and nothing has begun.
 fn cut(random: &mut Random, stream: &[u8]) -> Vec<u8> {
     let mut plan = Plan::new();
-    let mut ends = [const { Vec::new() }; PHASES];
+    let mut ends = [const { Vec::new() }; PHASES + 1];
     let mut place = 0;
     loop {
-        ends[plan.phase() as usize].push(place);
+        let moment = if is_complete(&plan) {
+            PHASES
+        } else {
+            plan.phase() as usize
+        };
+        ends[moment].push(place);
         let answer = plan.command(stream, place, &mut [0; Plan::STARTS]);
         if answer.number != 0 {
             break;
@@ -82,14 +101,21 @@ fn cut(random: &mut Random, stream: &[u8]) -> Vec<u8> {
         place += answer.used;
     }
     let reached = ends.iter().filter(|ends| !ends.is_empty());
-    let of_phase = random.pick(&reached.collect::<Vec<_>>());
-    stream[..random.pick(of_phase)].to_vec()
+    let of_moment = random.pick(&reached.collect::<Vec<_>>());
+    stream[..random.pick(of_moment)].to_vec()
+}
+
+/// Whether a plan has both orders and has not begun: it would be written, were
+/// there a list.
+fn is_complete(plan: &Plan) -> bool {
+    plan.phase() == Phase::Orders && plan.write(&mut []).number != Refusal::OutOfTurn.number()
 }
 
 #[cfg(test)]
 mod tests {
     use super::*;
     use crate::lists::DeskPeak;
+    use crate::plans::Write;
     use crate::reasons::{kind, Why};
     use std::cell::RefCell;
     use std::collections::BTreeSet;
@@ -133,12 +159,64 @@ mod tests {
 
     #[test]
     fn commands_are_cut_in_every_phase() {
-        let phases = (0..200).map(|seed| {
+        let moments = (0..200).map(|seed| {
             let commands = cut(&mut Random::new(seed), &stream(seed));
-            format!("{:?}", led(Plan::new(), &commands).phase())
+            let plan = led(Plan::new(), &commands);
+            format!("{:?}, {}", plan.phase(), is_complete(&plan))
         });
-        let phases: BTreeSet<String> = phases.collect();
-        assert_eq!(phases.len(), PHASES, "{phases:?}");
+        let moments: BTreeSet<String> = moments.collect();
+        assert_eq!(moments.len(), PHASES + 1, "{moments:?}");
+    }
+
+    #[test]
+    fn every_answer_of_the_writer_comes() {
+        let tally = compare::<Write>(Write::answer, 1_000).expect("no difference");
+        assert_eq!(tally.into_keys().collect::<Vec<_>>(), [0, 3, 11]);
+    }
+
+    /// A fault in the lists of the writer's answers of one number.
+    fn written_told(number: u64, fault: fn(&mut [u8], usize)) -> String {
+        told::<Write>(|answer, lent| {
+            if answer[0] == number {
+                fault(lent, answer[1] as usize);
+            }
+        })
+    }
+
+    #[test]
+    fn another_byte_written_is_told() {
+        let told = written_told(0, |list, count| list[count / 2] ^= 1);
+        assert!(told.starts_with("seed "), "{told}");
+    }
+
+    #[test]
+    fn a_byte_touched_behind_is_told() {
+        written_told(0, |list, count| {
+            if let Some(behind) = list.get_mut(count) {
+                *behind ^= 1;
+            }
+        });
+    }
+
+    #[test]
+    fn a_byte_touched_by_a_refusal_is_told() {
+        for number in [3, 11] {
+            written_told(number, |list, _| {
+                if let Some(first) = list.first_mut() {
+                    *first ^= 1;
+                }
+            });
+        }
+    }
+
+    #[test]
+    fn another_count_of_bytes_is_told() {
+        told::<Write>(|answer, _| answer[1] += u64::from(answer[0] == 0));
+    }
+
+    #[test]
+    fn a_short_list_told_as_out_of_turn_is_told() {
+        told::<Write>(|answer, _| answer[0] = answer[0].min(3));
     }
 
     /// A reason is a refusal, which one it is, a task and a lack.

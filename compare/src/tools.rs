@@ -4,8 +4,10 @@
 
 mod desk;
 mod why;
+mod write;
 
 use compare::lists::DeskPeak;
+use compare::plans::Write;
 use compare::reasons::Why;
 use compare::tool::{compare, Tally};
 use std::process::ExitCode;
@@ -14,9 +16,10 @@ use std::process::ExitCode;
 type Comparison = fn(u64) -> Result<Tally, String>;
 
 /// Each tool.
-const TOOLS: [(&str, Comparison); 2] = [
+const TOOLS: [(&str, Comparison); 3] = [
     ("desk", |cases| compare::<DeskPeak>(desk::peak, cases)),
     ("why", |cases| compare::<Why>(why::reasons, cases)),
+    ("write", |cases| compare::<Write>(write::plan, cases)),
 ];
 
 fn main() -> ExitCode {

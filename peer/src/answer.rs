@@ -35,3 +35,12 @@ pub struct DeskAnswer {
     /// The peak of the desk's activation list; 0 on a refusal.
     pub peak: u32,
 }
+
+/// The answer to whoever has a plan written out.
+#[derive(Clone, Copy, Debug, Default, PartialEq, Eq)]
+pub struct Wrote {
+    /// 0 when written, else the number of the ground for refusing.
+    pub number: u8,
+    /// How many bytes were written; 0 on a refusal.
+    pub count: usize,
+}

@@ -12,8 +12,7 @@ use crate::tree::check_tree;
 impl Plan {
     /// BEGIN books ahead and starts.
     pub(crate) fn begin(&mut self, starts: &mut [u16]) -> Result<Answer, Refusal> {
-        let full = self.activation.len() == self.tasks && self.execution.len() == self.tasks;
-        if self.phase != Phase::Orders || !full {
+        if self.phase != Phase::Orders || !self.has_both_orders() {
             return Err(Refusal::OutOfTurn);
         }
         let records = &self.records[..self.tasks];

@@ -24,6 +24,15 @@ pub enum Command {
     Done(u16),
 }
 
+/// The bytes of PLAN.
+pub(crate) const PLAN_BYTES: usize = 8;
+/// The bytes of STEP.
+pub(crate) const STEP_BYTES: usize = 7;
+/// The bytes of a command with one step number.
+pub(crate) const NUMBER_BYTES: usize = 3;
+/// The bytes of BEGIN.
+const BEGIN_BYTES: usize = 1;
+
 /// Reads the command at a place in a stream and tells how many bytes it uses.
 /// The checks come in the paper's order: no byte, unknown byte, cut operands.
 pub fn decode(stream: &[u8], place: usize) -> Result<(Command, usize), Refusal> {
@@ -37,7 +46,7 @@ pub fn decode(stream: &[u8], place: usize) -> Result<(Command, usize), Refusal> 
                 processors: p,
                 memory_bound: u32::from_le_bytes([m0, m1, m2, m3]),
             };
-            Ok((command, 8))
+            Ok((command, PLAN_BYTES))
         }
         0x02 => {
             let [p0, p1, w0, w1, o0, o1] = take(operands)?;
@@ -46,12 +55,12 @@ pub fn decode(stream: &[u8], place: usize) -> Result<(Command, usize), Refusal> 
                 work: u16::from_le_bytes([w0, w1]),
                 out: u16::from_le_bytes([o0, o1]),
             };
-            Ok((Command::Step(record), 7))
+            Ok((Command::Step(record), STEP_BYTES))
         }
-        0x03 => Ok((Command::Activation(number(operands)?), 3)),
-        0x04 => Ok((Command::Execution(number(operands)?), 3)),
-        0x05 => Ok((Command::Begin, 1)),
-        0x06 => Ok((Command::Done(number(operands)?), 3)),
+        0x03 => Ok((Command::Activation(number(operands)?), NUMBER_BYTES)),
+        0x04 => Ok((Command::Execution(number(operands)?), NUMBER_BYTES)),
+        0x05 => Ok((Command::Begin, BEGIN_BYTES)),
+        0x06 => Ok((Command::Done(number(operands)?), NUMBER_BYTES)),
         _ => Err(Refusal::UnknownByte),
     }
 }

@@ -1,6 +1,7 @@
 //! An independent writing of the rules in document 01: the plan, the booking
-//! and the day; and of request 01 in document 02: why a step isn't starting.
-//! It shares nothing with the tool it is compared with.
+//! and the day; and of requests 01 and 02 in document 02: why a step isn't
+//! starting, and a plan written back out. It shares nothing with the tool it is
+//! compared with.
 //!
 //! Terms follow research report RR-8966: a step is a task, a station a
 //! processor, the tray places the memory bound, and booked trays are booked
@@ -13,6 +14,7 @@ mod command;
 mod desk;
 mod dispatch;
 mod done;
+mod encode;
 mod feed;
 mod figures;
 mod fullness;
@@ -32,8 +34,9 @@ pub mod text;
 mod tree;
 mod turn;
 mod why;
+mod write;
 
-pub use answer::{Answer, DeskAnswer};
+pub use answer::{Answer, DeskAnswer, Wrote};
 pub use command::{decode, Command};
 pub use desk::desk_peak;
 pub use fullness::fullness;

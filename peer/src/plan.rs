@@ -107,6 +107,12 @@ impl Plan {
         [waiting, activated, self.running, self.finished].map(|count| count as u32)
     }
 
+    /// Whether there is a plan and both its orders are complete.
+    pub(crate) fn has_both_orders(&self) -> bool {
+        let is_complete = |order: &Order| order.len() == self.tasks;
+        self.phase != Phase::Empty && is_complete(&self.activation) && is_complete(&self.execution)
+    }
+
     fn while_running(&self, figure: u32) -> u32 {
         if self.phase == Phase::Running {
             figure

@@ -24,6 +24,8 @@ pub enum Refusal {
     PeakAboveBound = 9,
     /// The start list has fewer than 64 entries.
     ShortStartList = 10,
+    /// The lent list is too short.
+    ShortList = 11,
 }
 
 impl Refusal {

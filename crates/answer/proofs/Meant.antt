@@ -7,7 +7,7 @@ use native.Mathlib.Numerals.{add-one}
 use native.Mathlib.Omega.{arith}
 use lib.Dec.{leb}
 use lib.ListN.{length, take, set, length-take, List·getD-eq-default}
-use lib.Seq.{getD-take, take-suc-set}
+use lib.Seq.{length-take-le, getD-take, take-suc-set}
 use borrow.Author.Tests.{le-leb}
 use Rattle.rules.specs.Lists.{at}
 use Rattle.rules.specs.Need.{need}
@@ -21,6 +21,7 @@ use Rattle.rules.proofs.Sums.{only-true}
 use Rattle.rules.proofs.InDay.{needs-roomy}
 use Rattle.rules.proofs.Reaching.{lives}
 use Rattle.words.specs.Contents.{Contents}
+use Rattle.words.proofs.Contents.{Lengths}
 use Rattle.store.specs.Rows.{rowsOf, books, activationOf}
 use Rattle.store.specs.Kept.{Kept}
 use Rattle.store.proofs.Rows.{rows-is}
@@ -63,6 +64,18 @@ module _ (c : Contents) (sound : Sound c) where
   pub parents-small : Reachable (meaning c) → (i : ℕ) → at (c .parents) i ≤ c .size
   parents-small reached =
       subst (λ (f : ℕ → ℕ). (i : ℕ) → f i ≤ c .size) parents-meant (lives reached .formed .parents)
+
+-- how many entries the two orders have
+module _ (c : Contents) (sound : Sound c) (long : Lengths c) where
+  pub ranked-length : length (meaning c .activation) ≡ c .ranked
+  ranked-length =
+      length-take-le (c .ranked) (c .activation)
+      (let f = sound .activation .few in let s = sound .small in let l = long .activation in omega arith)
+
+  pub placed-length : length (meaning c .execution) ≡ c .placed
+  placed-length =
+      length-take-le (c .placed) (c .execution)
+      (let f = sound .execution .few in let s = sound .small in let l = long .execution in omega arith)
 
 -- in a day its columns have an entry for each task, and one for nobody
 pub day-rows : (c : Contents) → Phase.running ≤ c .phase → dayRows c ≡ suc (c .size)

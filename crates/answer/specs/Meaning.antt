@@ -7,8 +7,10 @@ use Rattle.rules.specs.Sums.{only}
 use Rattle.rules.specs.Phase
 use Rattle.rules.specs.State.{State}
 use Rattle.rules.specs.Answer as rules
+use Rattle.rules.specs.Write as writing
 use Rattle.words.specs.Contents.{Contents, contents}
 use Rattle.answer.specs.declared.Answer.{Answer}
+use Rattle.answer.specs.declared.Wrote.{Wrote}
 
 -- how many entries the columns of a day have: one for nobody and one for each task, from BEGIN on
 abbrev pub dayRows : Contents → ℕ
@@ -45,3 +47,7 @@ answerOf a =
 -- an answer, with the plan and the start list afterwards
 abbrev pub answeredOf : Answer → Contents → List ℕ → rules.Answered
 answeredOf a c list = record { answer = answerOf a; state = meaning c; list = list }
+
+-- what was written, with the lent list afterwards
+abbrev pub wroteOf : Wrote → List ℕ → writing.Wrote
+wroteOf r list = record { number = r .number; count = r .count; list = list }

@@ -1,4 +1,4 @@
-// What a command answers.
+// What a command answers, and what a tool that writes into a lent list does.
 ghost use mathlib.Core.Path.{_≡_};
 
 // "An accepted command answers number 0, the bytes used and how many steps it starts. The peak is
@@ -37,5 +37,21 @@ impl Answer {
             peak: 0,
             offers: 0,
         }
+    }
+}
+
+// "It answers how many bytes it wrote": a tool that writes to the front of a lent list.
+#[repr(C)]
+pub struct Wrote {
+    pub number: u8,
+    pub count: usize,
+}
+
+impl Wrote {
+    // The number of the ground: nothing is written.
+    pub fn refused(number: u8) -> Self
+        ensures { λ r. ⌜ r ≡ record { number = number; count = 0 } ⌝ }
+    {
+        Wrote { number, count: 0 }
     }
 }

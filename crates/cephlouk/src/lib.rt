@@ -3,12 +3,14 @@ ghost use mathlib.Core.Path.{_≡_};
 ghost use lib.ListN.{replicate};
 ghost use Rattle.rules.specs.Question as questions;
 ghost use Rattle.rules.specs.Why as reasons;
+ghost use Rattle.rules.specs.Write as writing;
 ghost use Rattle.words.specs.Layout.{words};
-ghost use Rattle.answer.specs.Meaning.{planOf};
+ghost use Rattle.answer.specs.Meaning.{planOf, wroteOf};
 ghost use Rattle.answer.specs.ValidPlan.{ValidPlan, Commanded};
 ghost use Rattle.reason.specs.Meaning.{reasonOf};
 ghost use Rattle.cephlouk.specs.Flat.{flat};
 use answer::Answer;
+use answer::Wrote;
 use plan::command;
 use question::booked;
 use question::fullness;
@@ -18,6 +20,7 @@ use question::standing;
 use reason::Reason;
 use reason::why;
 use words::plan::Plan;
+use writer::write;
 
 // How many words a plan has.
 #[no_mangle]
@@ -163,4 +166,13 @@ pub extern "C" fn cephlouk_why(plan: &[u32; Plan::WORDS], task: u16) -> FlatReas
 {
     let reason = why(plan, task);
     flatten(reason)
+}
+
+// "Write a plan back out": to the front of a lent list of bytes, which a refusal leaves as it was.
+#[no_mangle]
+pub extern "C" fn cephlouk_write(plan: &[u32; Plan::WORDS], list: &mut [u8]) -> Wrote
+    requires { ⌜ ValidPlan (now plan) ⌝ }
+    ensures { λ r. ⌜ wroteOf r (now (list .exit)) ≡ writing.write (planOf (now (plan .entry))) (now (list .entry)) ⌝ }
+{
+    write(plan, list)
 }

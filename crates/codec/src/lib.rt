@@ -132,7 +132,28 @@ fn start(buffer: &mut [u8], place: usize, byte: u8, operand: u16) -> usize
 }
 
 // The bytes of a command, put into a buffer from a place on as far as there is room; the answer is
-// the place behind them.
+// the place behind them. STEP, 03 and 04, of which a plan has one for each task, come by themselves
+// too, so that whoever writes many of one kind need not choose the kind each time.
+pub fn encode_task(parent: u16, work: u16, out: u16, buffer: &mut [u8], place: usize) -> usize
+    ensures { λ r. ⌜ Put (rules.bytes (rules.task parent work out)) place (now (buffer .entry)) (now (buffer .exit)) r ⌝ }
+{
+    let next = start(buffer, place, 2, parent);
+    let next = put::little(buffer, next, 2, work as u64);
+    put::little(buffer, next, 2, out as u64)
+}
+
+pub fn encode_activation(task: u16, buffer: &mut [u8], place: usize) -> usize
+    ensures { λ r. ⌜ Put (rules.bytes (rules.activation task)) place (now (buffer .entry)) (now (buffer .exit)) r ⌝ }
+{
+    start(buffer, place, 3, task)
+}
+
+pub fn encode_execution(task: u16, buffer: &mut [u8], place: usize) -> usize
+    ensures { λ r. ⌜ Put (rules.bytes (rules.execution task)) place (now (buffer .entry)) (now (buffer .exit)) r ⌝ }
+{
+    start(buffer, place, 4, task)
+}
+
 pub fn encode(command: Command, buffer: &mut [u8], place: usize) -> usize
     ensures { λ r. ⌜ Put (rules.bytes (commandOf command)) place (now (buffer .entry)) (now (buffer .exit)) r ⌝ }
 {
@@ -142,13 +163,9 @@ pub fn encode(command: Command, buffer: &mut [u8], place: usize) -> usize
             let next = put::little(buffer, next, 1, p as u64);
             put::little(buffer, next, 4, bound as u64)
         }
-        Command::Task { parent, work, out } => {
-            let next = start(buffer, place, 2, parent);
-            let next = put::little(buffer, next, 2, work as u64);
-            put::little(buffer, next, 2, out as u64)
-        }
-        Command::Activation(task) => start(buffer, place, 3, task),
-        Command::Execution(task) => start(buffer, place, 4, task),
+        Command::Task { parent, work, out } => encode_task(parent, work, out, buffer, place),
+        Command::Activation(task) => encode_activation(task, buffer, place),
+        Command::Execution(task) => encode_execution(task, buffer, place),
         Command::Begin => put::byte(buffer, place, 5),
         Command::Done(task) => start(buffer, place, 6, task),
     }

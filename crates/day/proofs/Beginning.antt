@@ -7,7 +7,7 @@ use Prim.Native.Nat.{ℕ, _≤_, _<_}
 use native.Mathlib.Omega.{arith}
 use lib.Dec.{eqb, leb}
 use lib.ListN.{length, take}
-use lib.Seq.{getD-take, length-take-le}
+use lib.Seq.{getD-take}
 use borrow.Author.Tests.{eqb-true, eq-eqb, le-leb, lt-leb}
 use Rattle.rules.specs.Sums.{only}
 use Rattle.rules.specs.Lists.{at, every, distinct}
@@ -33,7 +33,7 @@ use Rattle.survey.proofs.Grounds as surveying
 use Rattle.answer.specs.Meaning.{meaning}
 use Rattle.answer.specs.Sound.{Unused, Noted, Sound}
 use Rattle.day.specs.Day.{begins, MayBegin, Begun}
-use Rattle.answer.proofs.Meant.{parents-meant, works-meant, outs-meant, parents-small}
+use Rattle.answer.proofs.Meant.{parents-meant, works-meant, outs-meant, ranked-length, placed-length, parents-small}
 use Rattle.day.proofs.Proceeding.{Whole, same, sound-then}
 
 -- the ground against BEGIN, from the ground against its activation order
@@ -77,21 +77,10 @@ module _ (s : State) where
       (decide (eqb (roots (s .size) (at (s .parents))) 1))
 
 module _ (c : Contents) (sound : Sound c) (long : Lengths c) where
-  -- how many entries the two orders have
-  ranked-length : length (meaning c .activation) ≡ c .ranked
-  ranked-length =
-      length-take-le (c .ranked) (c .activation)
-      (let f = sound .activation .few in let s = sound .small in let l = long .activation in omega arith)
-
-  placed-length : length (meaning c .execution) ≡ c .placed
-  placed-length =
-      length-take-le (c .placed) (c .execution)
-      (let f = sound .execution .few in let s = sound .small in let l = long .execution in omega arith)
-
   turn-is : grounds.inTurn (meaning c) begin ≡ begins c
   unfolding grounds.inTurn begins
   turn-is =
-      ap₂ (λ (a b : ℕ). eqb (c .phase) Phase.orders && eqb a (c .size) && eqb b (c .size)) ranked-length placed-length
+      ap₂ (λ (a b : ℕ). eqb (c .phase) Phase.orders && eqb a (c .size) && eqb b (c .size)) (ranked-length c sound long) (placed-length c sound long)
 
   -- out of turn
   pub begin-late : begins c ≡ false → grounds.ground (meaning c) begin ≡ 3
@@ -141,7 +130,7 @@ module _ (c : Contents) (sound : Sound c) (long : Lengths c) where
               record {
                 inside = subst (λ (l : List ℕ). every (λ i. grounds.within i (c .size)) l ≡ true) order-is (formed .activation-inside);
                 once = subst (λ (l : List ℕ). distinct l ≡ true) order-is (formed .activation-once);
-                whole = ap length (sym order-is) ∙ ranked-length ∙ whole .ranked-all;
+                whole = ap length (sym order-is) ∙ ranked-length c sound long ∙ whole .ranked-all;
                 placed = noted-in (c .ranked) (c .activation) (c .ranks) (whole .ranked-all) (sound .activation);
               };
         }
@@ -151,7 +140,7 @@ module _ (c : Contents) (sound : Sound c) (long : Lengths c) where
         record {
           inside = subst (λ (l : List ℕ). every (λ i. grounds.within i (c .size)) l ≡ true) execution-is (formed .execution-inside);
           once = subst (λ (l : List ℕ). distinct l ≡ true) execution-is (formed .execution-once);
-          whole = ap length (sym execution-is) ∙ placed-length ∙ whole .placed-all;
+          whole = ap length (sym execution-is) ∙ placed-length c sound long ∙ whole .placed-all;
           placed = noted-in (c .placed) (c .execution) (c .places) (whole .placed-all) (sound .execution);
         }
 

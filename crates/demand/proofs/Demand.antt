@@ -14,9 +14,12 @@ use Rattle.rules.specs.Answer as rules
 use Rattle.rules.specs.Question as questions
 use Rattle.rules.specs.Why.{Reason, why}
 use Rattle.rules.specs.Reasons.{ReasonHolds}
+use Rattle.rules.specs.Write.{Wrote, write}
+use Rattle.rules.specs.Restored.{WriteHolds}
 use Rattle.rules.specs.Day as days
 use Rattle.rules.specs.Theorem.{DayHolds, OrdersHold, SamePlan}
 use Rattle.rules.proofs.Reasons.{every-reason-holds}
+use Rattle.rules.proofs.Written.{every-write-holds}
 use Rattle.rules.proofs.Theorem.{after-append, theorem}
 use Rattle.answer.specs.Meaning.{planOf}
 use Rattle.answer.specs.ValidPlan.{ValidPlan, NewPlan}
@@ -38,6 +41,7 @@ use Rattle.demand.specs.Calls.{
 use Rattle.demand.specs.Demand.{AnswersHold, DayOfCalls, OpenedWith, EveryCallHolds}
 use Rattle.plan.proofs.NewPlan.{new-empty, new-valid}
 use Rattle.demand.proofs.Opened.{opened-first, opened-stays}
+use Rattle.demand.proofs.ReadBack.{read-back}
 
 -- one call: whether it is accepted, opens a day or a plan, and what happened, is what the rules have
 module _ {w : List ℕ} {c : Call} (e : CallContract w c) where
@@ -195,6 +199,7 @@ every-call-holds w new calls e =
     let leaves : planOf (leftBy w calls) ≡ days.after none (asked calls) =
     left-is calls w e ∙ ap (λ (s : State). days.after s (asked calls)) (new-empty new)
     in
+    let reached = left-valid calls w e (new-valid new) .reached in
     record {
       answered = received-are calls w e ∙ ap (λ (s : State). days.answers s (asked calls)) (new-empty new);
       leaves = leaves;
@@ -207,11 +212,17 @@ every-call-holds w new calls e =
             q .fullness-is ∙ ap questions.fullness leaves,
             q .standing-is ∙ ap questions.standing leaves,
             λ i fits. q .reason-is i fits ∙ ap (λ (s : State). why s i) leaves,
+            λ list fits. q .wrote-is list fits ∙ ap (λ (s : State). write s list) leaves,
           );
       reasons =
           λ q i fits.
           subst (λ (r : Reason). ReasonHolds (planOf (leftBy w calls)) i r) (sym (q .reason-is i fits))
-          (every-reason-holds (planOf (leftBy w calls)) (left-valid calls w e (new-valid new) .reached) i);
+          (every-reason-holds (planOf (leftBy w calls)) reached i);
+      writes =
+          λ q list fits.
+          subst (λ (r : Wrote). WriteHolds (planOf (leftBy w calls)) list r) (sym (q .wrote-is list fits))
+          (every-write-holds .lists (planOf (leftBy w calls)) reached list);
+      restored = λ q list fits. read-back reached list (q .wrote-is list fits);
       plans =
           λ earlier opening later n p m used split granted bytes next.
           subst (λ (l : List Call). OpenedWith n p m (planOf (leftBy w l))) (sym split)

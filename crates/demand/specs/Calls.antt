@@ -1,11 +1,15 @@
 -- Calls of the command function, one after another, by its contract, and what the questions answer, by theirs.
 use mathlib.Core.Path.{_≡_}
-use mathlib.Core.Bool.{Bool, false, _||_}
+use mathlib.Core.Bool.{Bool, true, false, _&&_, _||_}
 use mathlib.Core.List.{List, [], _∷_, _++_, map}
-use Prim.Native.Nat.{ℕ, _^_, _<_}
+use Prim.Native.Nat.{ℕ, _+_, _^_, _≤_, _<_}
+use lib.ListN.{length}
 use Rattle.rules.specs.Answer as rules
 use Rattle.rules.specs.Question as questions
+use Rattle.rules.specs.Limits.{leastStarts}
+use Rattle.rules.specs.Lists.{AllBytes}
 use Rattle.rules.specs.Why.{Reason, why}
+use Rattle.rules.specs.Write.{Wrote, write}
 use Rattle.rules.specs.Day as days
 use Rattle.words.specs.Contents.{contents}
 use Rattle.answer.specs.declared.Answer.{Answer}
@@ -58,10 +62,29 @@ unfoldable pub nextPlan : List Call → Bool
 nextPlan [] = false
 nextPlan (c ∷ later) = opensPlan c || nextPlan later
 
+unfoldable pub allAccepted : List Call → Bool
+allAccepted [] = true
+allAccepted (c ∷ later) = accepted c && allAccepted later
+
+-- calls that read a stream from a place up to an end, each where the one before has come to, with start lists that are long enough
+unfoldable pub Reads : List ℕ → ℕ → ℕ → List Call → Type 0
+Reads stream place end [] = place ≡ end
+Reads stream place end (c ∷ later) =
+    (c .asking .stream ≡ stream)
+    × (c .asking .place ≡ place)
+    × (leastStarts ≤ length (c .asking .list))
+    × (place < end)
+    × Reads stream (place + c .answer .used) end later
+
 -- what happened with a list of calls, in order
 unfoldable pub history : List Call → List days.Event
 history [] = []
 history (c ∷ later) = days.happens (c .asking) (received c) ++ history later
+
+-- a list of bytes that can be lent: its entries have 8 bits, and their number 64
+pub record Bytes (list : List ℕ) : Type 0 where
+  pub small : AllBytes list
+  pub few : length list < 2 ^ 64
 
 -- answers to the questions, asked of the words w, as each question ensures its own
 pub record Answers (w : List ℕ) : Type 0 where
@@ -72,9 +95,12 @@ pub record Answers (w : List ℕ) : Type 0 where
   pub standing : List ℕ
   -- why each task is not starting, by its number, which has 16 bits
   pub reason : ℕ → Reason
+  -- what the writer answers and leaves of each list that is lent to it
+  pub wrote : List ℕ → Wrote
   pub phase-is : phase ≡ planOf w .phase
   pub booked-is : booked ≡ questions.booked (planOf w)
   pub in-use-is : inUse ≡ questions.inUse (planOf w)
   pub fullness-is : fullness ≡ questions.fullness (planOf w)
   pub standing-is : standing ≡ questions.standing (planOf w)
   pub reason-is : (i : ℕ) → i < 2 ^ 16 → reason i ≡ why (planOf w) i
+  pub wrote-is : (list : List ℕ) → Bytes list → wrote list ≡ write (planOf w) list

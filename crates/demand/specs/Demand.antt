@@ -4,7 +4,7 @@ use mathlib.Core.Bool.{true, false}
 use mathlib.Core.Logic.{_↔_}
 use mathlib.Core.List.{List, _∷_, _++_}
 use Prim.Native.Nat.{ℕ, _^_, _≤_, _<_}
-use lib.ListN.{length}
+use lib.ListN.{length, take}
 use Rattle.rules.specs.Sums.{countTo}
 use Rattle.rules.specs.Lists.{at}
 use Rattle.rules.specs.Phase
@@ -14,6 +14,9 @@ use Rattle.rules.specs.Command as rules
 use Rattle.rules.specs.Question as questions
 use Rattle.rules.specs.Why.{why}
 use Rattle.rules.specs.Reasons.{ReasonHolds}
+use Rattle.rules.specs.Instance.{instanceOf, unbegun}
+use Rattle.rules.specs.Write.{write}
+use Rattle.rules.specs.Restored.{WriteHolds}
 use Rattle.rules.specs.Day.{Event, ends, after, answers}
 use Rattle.rules.specs.Theorem.{DayHolds, OrdersHold, SamePlan, runs, usedBy}
 use Rattle.answer.specs.Meaning.{planOf}
@@ -21,6 +24,7 @@ use Rattle.answer.specs.ValidPlan.{ValidPlan, NewPlan}
 use Rattle.demand.specs.Calls.{
   Call,
   Calls,
+  Bytes,
   Answers,
   leftBy,
   asked,
@@ -28,6 +32,8 @@ use Rattle.demand.specs.Calls.{
   accepted,
   opensDay,
   nextPlan,
+  allAccepted,
+  Reads,
   history,
 }
 
@@ -77,8 +83,22 @@ pub record CallsHold (w : List ℕ) (calls : List Call) : Type 0 where
       × (q .fullness ≡ questions.fullness (after none (asked calls)))
       × (q .standing ≡ questions.standing (after none (asked calls)))
       × ((i : ℕ) → i < 2 ^ 16 → q .reason i ≡ why (after none (asked calls)) i)
+      × ((list : List ℕ) → Bytes list → q .wrote list ≡ write (after none (asked calls)) list)
   -- and why a task is not starting is told by the first reason that is true
   pub reasons : (q : Answers (leftBy w calls)) (i : ℕ) → i < 2 ^ 16 → ReasonHolds (planOf (leftBy w calls)) i (q .reason i)
+  -- all that is promised of writing the plan holds of every list that is lent
+  pub writes : (q : Answers (leftBy w calls)) (list : List ℕ) → Bytes list → WriteHolds (planOf (leftBy w calls)) list (q .wrote list)
+  -- and where it is written, calls that read it into a new plan, from any stream that begins with it, are all accepted and restore it
+  pub restored :
+      (q : Answers (leftBy w calls)) (list : List ℕ)
+      → Bytes list
+      → q .wrote list .number ≡ 0
+      → (stream w′ : List ℕ) (reading : List Call)
+      → take (q .wrote list .count) stream ≡ take (q .wrote list .count) (q .wrote list .list)
+      → NewPlan w′
+      → Calls w′ reading
+      → Reads stream 0 (q .wrote list .count) reading
+      → (allAccepted reading ≡ true) × (planOf (leftBy w′ reading) ≡ unbegun (instanceOf (planOf (leftBy w calls))))
   -- a call that opens a plan: as long as no next plan is opened, n, p and M are those that its bytes gave
   pub plans :
       (earlier : List Call) (opening : Call) (later : List Call) (n p m used : ℕ)

@@ -4,8 +4,8 @@ use mathlib.Core.List.{List, [], _∷_, _++_}
 use Prim.Native.Nat.{ℕ, zero, suc, _+_, _≤_, _<_}
 use native.Mathlib.Numerals.{add-one}
 use native.Mathlib.Omega.{arith}
-use lib.ListN.{length, take, getD, set, length-append, length-take, length-drop, take-append-drop}
-use lib.Seq.{take-nil, drop-nil, take-suc, set-out}
+use lib.ListN.{length, take, drop, getD, set, length-append, length-take, length-drop, take-append-drop}
+use lib.Seq.{take-nil, drop-nil, take-suc, take-all, set-out}
 use Rattle.put.specs.Written.{over, Written}
 use Rattle.put.specs.Put.{overFrom, behind, Put}
 
@@ -81,3 +81,14 @@ turn text grows list i more p q = rw (add-one i, take-suc list i 0, grows) (p th
 pub whole : {text before after : List ℕ} {end : ℕ} → Put text 0 before after end → Written text before after end
 unfolding overFrom
 whole p = record { bytes = p .bytes; ends = omega arith }
+
+-- a text at the front of a buffer that has room for it: later entries stay, and the answer is its length
+pub with-room : {text before after : List ℕ} {end : ℕ}
+    → Put text 0 before after end
+    → length text ≤ length before
+    → (after ≡ text ++ drop (length text) before) × (end ≡ length text)
+unfolding over overFrom
+with-room {text} {before} p room = (
+  p .bytes ∙ ap (λ (l : List ℕ). l ++ drop (length text) before) (take-all (length before) text room),
+  (let e = p .ends in omega arith),
+)

@@ -12,10 +12,10 @@ use lib.Dec.{eqb, ltb, leb·suc-suc}
 use lib.ListN.{length, take, drop, length-append, length-drop}
 use lib.Seq.{drop-cons, getD-drop}
 use Rattle.rules.specs.Limits.{maxCount, maxBound}
-use Rattle.rules.specs.Lists.{at}
+use Rattle.rules.specs.Lists.{at, AllBytes}
 use Rattle.rules.specs.Command.{Command, plan, task, activation, execution, begin, done, Form, forms, find, byteOf, operandsOf, widthsOf, littles, numbers, room, bytes, Decoded, refused, read, readBy, table, decode}
 use Rattle.rules.proofs.Tests.{decide, le-or-lt}
-use Rattle.rules.proofs.Number.{AllBytes, Fit, numbers-fit, numbers-littles, littles-numbers, length-littles, length-numbers}
+use Rattle.rules.proofs.Number.{Fit, numbers-fit, numbers-littles, littles-numbers, length-littles, length-numbers}
 
 -- what decoding comes to: no byte is left, the byte has no line, the operands of its line are cut short, or they are whole
 pub data Reading (stream : List ℕ) (place : ℕ) : Decoded → Type 0 where

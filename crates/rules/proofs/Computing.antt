@@ -1,4 +1,5 @@
 -- Opens the rules for computing: whoever unfolds `computing` may evaluate a command, a day or the printer.
+use mathlib.Core.List.{flatMap}
 use Rattle.rules.specs.Sums.{sumTo, everyTo, countTo, lowestTo}
 use Rattle.rules.specs.Lists.{mem, first, largest}
 use Rattle.rules.specs.Need.{children, need, resident}
@@ -63,6 +64,8 @@ use Rattle.rules.specs.Obey.{
 use Rattle.rules.specs.Answer.{refuse, front, accept, judge, respond, command}
 use Rattle.rules.specs.Question.{isRunning, booked, inUse, fullnessOf, fullness}
 use Rattle.rules.specs.Why.{firstWaiting, lackIn, unendedChild, why}
+use Rattle.rules.specs.Instance.{tasksTo, commands, written}
+use Rattle.rules.specs.Write.{untouched, atFront, isWhole, writtenLength, write}
 use Rattle.rules.specs.Day.{after, answers, accepted, acceptedOnly, isPlan, isBegin, reported, events, log, opensDay, opensPlan, nextPlan}
 use Rattle.rules.specs.Day
 use Rattle.rules.specs.Theorem.{runs, usedBy}
@@ -165,6 +168,15 @@ unfolding
     lackIn
     unendedChild
     why
+    flatMap
+    tasksTo
+    commands
+    written
+    untouched
+    atFront
+    isWhole
+    writtenLength
+    write
     after
     answers
     accepted

@@ -135,11 +135,11 @@ with-books-formed s phase st b p before after h =
     }
 
 -- the phase after a report
-after-report : (s : State) (j : ℕ) → Phase.orders ≤ phaseAfter s j
+pub after-report : (s : State) (j : ℕ) → Phase.running ≤ phaseAfter s j
 unfolding phaseAfter
 after-report s j = go (eqb (at (s .parents) j) 0)
   where
-    go : (t : Bool) → Phase.orders ≤ cond t Phase.over Phase.running
+    go : (t : Bool) → Phase.running ≤ cond t Phase.over Phase.running
     go true = omega arith
     go false = omega arith
 
@@ -272,4 +272,4 @@ obey-formed s begin a h =
     with-books-formed s _ _ _ (h .staffed (λ e. omega arith)) (omega arith) (omega arith) h
 obey-formed s (done j) a h =
     let now = eqb-true (s .phase) Phase.running (a .turn) in
-    with-books-formed s _ _ _ (h .staffed (λ e. omega arith)) (omega arith) (after-report s j) h
+    with-books-formed s _ _ _ (h .staffed (λ e. omega arith)) (omega arith) (let after = after-report s j in omega arith) h

@@ -54,6 +54,11 @@ pub mod Why
 pub mod Reasons
 -- a stream given to an empty plan
 pub mod Stream
+-- a plan written out and read back
+pub mod Staged
+pub mod Leading
+pub mod Instance
+pub mod Written
 -- the day printer
 pub mod Lengths
 pub mod Parts

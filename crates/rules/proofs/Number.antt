@@ -7,7 +7,7 @@ use native.Mathlib.Numerals.{one-add}
 use native.Mathlib.Omega.{arith}
 use lib.ListN.{length, take, drop, length-append, length-drop}
 use lib.Seq.{drop-drop, drop-append-seam, drop-append-le, getD-drop, take-add}
-use Rattle.rules.specs.Lists.{at}
+use Rattle.rules.specs.Lists.{at, AllBytes}
 use Rattle.rules.specs.Command.{little, number, littles, numbers, room}
 
 -- the bytes of a number give it back where it fits them
@@ -32,10 +32,6 @@ number-join zero high given = simp (zero-add, one-mul)
 number-join (suc low) high given =
     rw (suc-add, number-join low high (drop 1 given), drop-drop, one-add, pow-suc, mul-comm (256 ^ low) 256, mul-assoc)
     (omega arith)
-
--- every entry of a list is a byte
-abbrev pub AllBytes : List ℕ → Type 0
-AllBytes l = (k : ℕ) → at l k < 256
 
 -- the first bytes of a list are the bytes of the number in them
 pub little-number :

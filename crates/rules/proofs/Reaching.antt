@@ -121,12 +121,21 @@ obey-day s (done j) a lived h =
 none-lived : Lived none
 none-lived = record { formed = none-formed; day = λ h. absurd (omega arith) }
 
-pub lives : {s : State} → Reachable s → Lived s
-lives start = none-lived
-lives (next {s = s} d list r) = go (response s d list) (lives r)
+-- what holds of the empty plan and is kept by every command that is obeyed holds of every plan that commands led to
+pub by-commands :
+    (P : State → Type 0)
+    → P none
+    → ((s : State) (c : Command) → Accepted s c → P s → P (obey s c .state))
+    → {s : State}
+    → Reachable s
+    → P s
+by-commands P empty kept start = empty
+by-commands P empty kept (next {s = s} d list r) = go (response s d list) (by-commands P empty kept r)
   where
-    go : Response s d list → Lived s → Lived (respond s d list .state)
-    go (left-alone e) l = subst (λ (t : State). Lived t) (sym e) l
-    go (obeyed c a e) l =
-        subst (λ (t : State). Lived t) (sym e)
-        (record { formed = obey-formed s c a (l .formed); day = obey-day s c a l })
+    go : Response s d list → P s → P (respond s d list .state)
+    go (left-alone e) p = subst P (sym e) p
+    go (obeyed c a e) p = subst P (sym e) (kept s c a p)
+
+pub lives : {s : State} → Reachable s → Lived s
+lives =
+    by-commands Lived none-lived (λ s c a l. record { formed = obey-formed s c a (l .formed); day = obey-day s c a l })

@@ -6,7 +6,7 @@ use mathlib.Core.Logic.{⊎-elim}
 use Prim.Native.Nat.{ℕ, zero, suc, _+_, _≤_, _<_}
 use native.Mathlib.Nat.{zero-add, add-zero, suc-add}
 use native.Mathlib.Omega.{arith}
-use borrow.Author.Tests.{eqb-true, eqb-false, eq-eqb, ne-eqb, le-leb, lt-leb}
+use borrow.Author.Tests.{eqb-true, eqb-false, eq-eqb, ne-eqb, le-leb, lt-leb, le-ltb}
 use lib.Dec.{eqb, leb}
 use lib.ListN.{length, take, replicate, length-append}
 use Rattle.rules.specs.Limits.{leastStarts}
@@ -14,7 +14,7 @@ use Rattle.rules.specs.State.{State, none}
 use Rattle.rules.specs.Command.{Command, bytes, read, decode}
 use Rattle.rules.specs.Grounds.{ground}
 use Rattle.rules.specs.Obey.{obey}
-use Rattle.rules.specs.Answer.{Answered, accept, command}
+use Rattle.rules.specs.Answer.{Asking, Answered, accept, command}
 use Rattle.rules.specs.Day.{after, accepted}
 use Rattle.rules.specs.Reachable.{Reachable}
 use Rattle.rules.specs.Stream.{
@@ -40,7 +40,18 @@ use Rattle.rules.proofs.Judging.{judge-accepted, ground-own}
 use Rattle.rules.proofs.Steps.{Refused, is-refused, is-obeyed, Step, step}
 use Rattle.rules.proofs.Reaching.{is-read, reachable}
 
--- a command with no ground against it, at a place of a stream
+-- a command with no ground against it is accepted, with any start list that is long enough
+pub granted-answer :
+    (s : State) (a : Asking) (c : Command) (used : ℕ)
+    → decode (a .stream) (a .place) ≡ read c used
+    → ground s c ≡ 0
+    → leastStarts ≤ length (a .list)
+    → command s a ≡ accept (obey s c) used (a .list)
+unfolding command
+granted-answer s a c used e g long =
+    rw e (is-read s c used (a .list) (le-ltb (length (a .list)) leastStarts long) ∙ judge-accepted s c used (a .list) g)
+
+-- such a command at a place of a stream
 record Granted (s : State) (stream : List ℕ) (place : ℕ) (c : Command) (used : ℕ) : Type 0 where
   reads : decode stream place ≡ read c used
   no-ground : ground s c ≡ 0
@@ -57,9 +68,7 @@ module _ {s : State} {stream : List ℕ} {place : ℕ} {c : Command} {used : ℕ
   left = lt-leb (length stream) place (omega (arith, within .0, within .1))
 
   answered : command s (asking stream place) ≡ accept (obey s c) used (replicate leastStarts 0)
-  unfolding command
-  answered =
-      rw (g .reads) (is-read s c used (replicate leastStarts 0) refl ∙ judge-accepted s c used (replicate leastStarts 0) (g .no-ground))
+  answered = granted-answer s (asking stream place) c used (g .reads) (g .no-ground) (omega arith)
 
   left-state : command s (asking stream place) .state ≡ obey s c .state
   unfolding accept

@@ -4,16 +4,19 @@ use mathlib.Core.Bool.{true, false}
 use mathlib.Core.List.{List, [], _∷_, _++_, map}
 use Prim.Native.Nat.{ℕ, _<_}
 use native.Mathlib.Omega.{arith}
+use lib.ListN.{take, replicate}
 use Rattle.rules.specs.Sums.{countTo}
 use Rattle.rules.specs.State.{none}
-use Rattle.rules.specs.Command.{Command, plan, task, begin, done, bytes}
+use Rattle.rules.specs.Command.{Command, plan, task, activation, begin, done, bytes}
 use Rattle.rules.specs.Answer.{Asking}
 use Rattle.rules.specs.Question
 use Rattle.rules.specs.Why
 use Rattle.rules.specs.Why.{why}
+use Rattle.rules.specs.Instance.{instanceOf, written}
+use Rattle.rules.specs.Write.{write}
 use Rattle.rules.specs.Day.{started, ended, after, answers, acceptedOnly, log, opensDay, nextPlan}
 use Rattle.rules.specs.Theorem.{runs, DayHolds, EveryDay}
-use Rattle.rules.specs.Marked.{ask, asks, inOrder, tasksA, planA, planC, reading, short}
+use Rattle.rules.specs.Marked.{ask, asks, inOrder, tasksA, planA, dayA, planC, reading, short}
 use Rattle.rules.proofs.Computing.{computing}
 use Rattle.rules.proofs.Theorem.{every-day-holds}
 
@@ -110,6 +113,39 @@ pub worked-over :
     map (why (after none (asks (alone ++ begin ∷ done 1 ∷ done 2 ∷ done 3 ∷ [])))) (0 ∷ 1 ∷ []) ≡ Why.refused 3 ∷ Why.refused 3 ∷ []
 unfolding computing asks alone inOrder ask
 worked-over = refl
+
+-- plan A written back out: its orders were given in turns, and its bytes are those of the paper up to BEGIN
+pub worked-written : written (instanceOf (after none (asks (planA 7)))) ≡ take 47 dayA
+unfolding computing asks tasksA planA dayA inOrder ask
+worked-written = refl
+
+-- while its day runs, and once it is over, into a list with a byte more than is needed
+pub worked-running :
+    write (after none (asks (planA 7 ++ begin ∷ done 1 ∷ []))) (replicate 48 99)
+    ≡ record { number = 0; count = 47; list = take 47 dayA ++ (99 ∷ []) }
+unfolding computing asks tasksA planA dayA inOrder ask
+worked-running = refl
+
+pub worked-ended :
+    write (after none (asks (planA 7) ++ ask begin ∷ whole)) (replicate 48 99)
+    ≡ record { number = 0; count = 47; list = take 47 dayA ++ (99 ∷ []) }
+unfolding computing asks tasksA planA dayA inOrder ask reading short morning whole
+worked-ended = refl
+
+-- a byte fewer is too short, and with an entry of an order missing, or no plan, there is nothing to write
+pub worked-short : write (after none (asks (planA 7))) (replicate 46 99) ≡ record { number = 11; count = 0; list = replicate 46 99 }
+unfolding computing asks tasksA planA inOrder ask
+worked-short = refl
+
+pub worked-early :
+    write (after none (asks (tasksA 7 ++ inOrder (1 ∷ 2 ∷ []) ++ activation 3 ∷ []))) (replicate 47 99)
+    ≡ record { number = 3; count = 0; list = replicate 47 99 }
+unfolding computing asks tasksA inOrder ask
+worked-early = refl
+
+pub worked-empty : write none [] ≡ record { number = 3; count = 0; list = [] }
+unfolding computing
+worked-empty = refl
 
 -- wrong: "booked trays are fewer than the places"
 abbrev pub Below : Type 0

@@ -17,6 +17,8 @@ pub mod Obey
 pub mod Answer
 pub mod Question
 pub mod Why
+pub mod Instance
+pub mod Write
 pub mod Desk
 pub mod Text
 pub mod Printer
@@ -27,4 +29,5 @@ pub mod Theorem
 pub mod Reachable
 pub mod Reasons
 pub mod Stream
+pub mod Restored
 pub mod Marked

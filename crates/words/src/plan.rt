@@ -23,6 +23,14 @@ impl Plan {
 
     pub const LEAST_STARTS: usize = 64;
 
+    // of a plan that is written out, the bytes of PLAN, those of a task with its entries in the two
+    // orders, and the most that a plan has
+    pub const OPENING_BYTES: usize = 8;
+
+    pub const TASK_BYTES: usize = 13;
+
+    pub const MOST_BYTES: usize = Plan::OPENING_BYTES + Plan::TASK_BYTES * Plan::MAX_TASKS;
+
     // phases
     pub const EMPTY: u32 = 0;
 

@@ -1,6 +1,6 @@
 //! Plan text to bytes and back; `plan-text --help` says how.
 
-use peer::plan_text::{patterns, to_text, Offsets, Translator};
+use peer::plan_text::{patterns, to_text, Fault, Offsets, Translator, Written};
 use std::env;
 use std::fs::File;
 use std::io::{self, BufRead, BufReader, ErrorKind, Read, Write};
@@ -10,6 +10,7 @@ const USAGE: &str = "\
 usage: plan-text [FILE]             a plan text to the bytes of its commands
        plan-text --offsets [FILE]   the offset and the line of each command
        plan-text --back [FILE]      the bytes of commands to a plan text
+       plan-text --written [FILE]   a plan text to its plan's one written form
 ";
 
 const NOTES: &str = "
@@ -20,12 +21,22 @@ a step may say its number. Parent - (or 0) is the last step. Where the line
 ends with ... it may go on, and each number is a command. The lines:
 ";
 
+const WRITTEN: &str = "
+--written gives the commands one after another to an empty plan, and at the end
+writes the bytes of the plan that they lead to: its opening, its steps, the
+activation order, the execution order, and nothing of its day. So all texts of
+one plan give the same bytes, whatever mix the orders come in, and the tidy text
+is 'plan-text --written FILE | plan-text --back'. A command that is refused is
+told with its line and its number K. Then, after a wrong line, and where an order
+is not complete at the end, no byte is written.
+";
+
 const TROUBLE: &str = "
 A wrong line is told with its number, after the bytes of the lines before it,
 and nothing behind it is read. Wrong is also a number outside its limits: 1 to
 1024 steps, 1 to 64 stations, and no step that the plan does not have. Whether
-a command is in turn is not asked: the day printer answers 'refused K at O', and
---offsets has a row 'at O, line L: ...' for it.
+a command is in turn only --written asks: else the day printer answers 'refused
+K at O', and --offsets has a row 'at O, line L: ...' for it.
 A byte that is no command, or a command that is cut short, is told with its
 offset, counted from 0, after the text of all that stands before it.
 The status is 1 where something is wrong. Where nobody reads its output any
@@ -51,6 +62,8 @@ fn main() -> ExitCode {
         ["--offsets", name] => offsets(name),
         ["--back"] => back("-"),
         ["--back", name] => back(name),
+        ["--written"] => written("-"),
+        ["--written", name] => written(name),
         [] => forth("-"),
         [name] if !name.starts_with("--") => forth(name),
         _ => {
@@ -72,26 +85,46 @@ fn help() -> String {
         .iter()
         .map(|line| format!("    {line}\n"))
         .collect();
-    [USAGE, NOTES, "\n", &lines, TROUBLE].concat()
+    [USAGE, NOTES, "\n", &lines, WRITTEN, TROUBLE].concat()
 }
 
 /// Text to bytes.
 fn forth(name: &str) -> Result<(), Stop> {
-    each_line(name, |_, bytes| bytes)
+    each_line(name, |_, bytes| write(&bytes))
 }
 
 /// Text to the offset and the line of each command.
 fn offsets(name: &str) -> Result<(), Stop> {
     let mut offsets = Offsets::default();
-    each_line(name, |line, bytes| offsets.rows(line, &bytes).into_bytes())
+    each_line(name, |line, bytes| {
+        write(offsets.rows(line, &bytes).as_bytes())
+    })
 }
 
-/// Hands on what the bytes of each line become, before the next is waited for.
-fn each_line(name: &str, mut handed: impl FnMut(usize, Vec<u8>) -> Vec<u8>) -> Result<(), Stop> {
+/// Text to the bytes of the plan that it leads to.
+fn written(name: &str) -> Result<(), Stop> {
+    let mut written = Written::default();
+    each_line(name, |line, bytes| {
+        let taken = written.take(line, &bytes);
+        taken.map_err(|fault| wrong(name, &fault))
+    })?;
+    match written.bytes() {
+        Some(bytes) => write(&bytes),
+        None => Err(Stop::Trouble(format!(
+            "{}: no plan with both orders complete at the end",
+            shown(name)
+        ))),
+    }
+}
+
+/// Hands on the bytes of each line, before the next is waited for.
+fn each_line(
+    name: &str,
+    mut hand_on: impl FnMut(usize, Vec<u8>) -> Result<(), Stop>,
+) -> Result<(), Stop> {
     let mut input = open(name)?;
     let mut translator = Translator::default();
     for place in 1.. {
-        let wrong = |what: &str| Stop::Trouble(format!("{}:{place}: {what}", shown(name)));
         let mut line = Vec::new();
         (&mut input)
             .take(LONGEST_LINE)
@@ -101,13 +134,14 @@ fn each_line(name: &str, mut handed: impl FnMut(usize, Vec<u8>) -> Vec<u8>) -> R
             break;
         }
         if line.len() as u64 == LONGEST_LINE && !line.ends_with(b"\n") {
-            return Err(wrong("the line does not end"));
+            let what = "the line does not end".to_string();
+            return Err(wrong(name, &Fault { place, what }));
         }
         // Letters in another encoding do no harm in comments.
         let bytes = translator
             .line(&String::from_utf8_lossy(&line))
-            .map_err(|fault| wrong(&fault.what))?;
-        write(&handed(place, bytes))?;
+            .map_err(|fault| wrong(name, &fault))?;
+        hand_on(place, bytes)?;
     }
     Ok(())
 }
@@ -139,6 +173,11 @@ fn open(name: &str) -> Result<Box<dyn BufRead>, Stop> {
             Err(error) => Err(unreadable(name, error)),
         },
     }
+}
+
+/// What is wrong with a line.
+fn wrong(name: &str, fault: &Fault) -> Stop {
+    Stop::Trouble(format!("{}:{}: {}", shown(name), fault.place, fault.what))
 }
 
 fn unreadable(name: &str, error: io::Error) -> Stop {

@@ -2,10 +2,10 @@
 
 use super::day::Habit;
 use super::draft::Draft;
-use super::encode::encode;
 use super::random::Random;
 use super::{flaw, nuisance};
 use crate::command::Command;
+use crate::encode::encode;
 use crate::phase::Phase;
 use crate::plan::Plan;
 

@@ -1,9 +1,9 @@
 //! A day: a plan, its BEGIN and the reports that follow.
 
 use super::draft::Draft;
-use super::encode::encode;
 use super::random::Random;
 use crate::command::Command;
+use crate::encode::encode;
 use crate::phase::Phase;
 use crate::plan::Plan;
 

@@ -1,11 +1,11 @@
 //! A plan to be sent, orders included.
 
 use super::counts::Counts;
-use super::encode::encode;
 use super::random::Random;
 use super::{orders, tree};
 use crate::command::Command;
 use crate::desk::desk_peak;
+use crate::encode::encode;
 use crate::peak::needs;
 use crate::plan::Plan;
 use crate::record::Record;

@@ -1,8 +1,8 @@
 //! Commands that do not belong where they come.
 
-use super::encode::encode;
 use super::random::Random;
 use crate::command::Command;
+use crate::encode::encode;
 use crate::record::Record;
 
 /// Any whole command, with numbers around the limits of a plan of n tasks.

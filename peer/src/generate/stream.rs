@@ -1,15 +1,19 @@
 //! Streams for the day printer.
 
 use super::draft::Draft;
-use super::encode::encode;
 use super::random::Random;
 use super::{day, flaw, nuisance};
 use crate::command::Command;
+use crate::encode::encode;
 
-/// The stream of one seed: some plans, of which the last may be flawed, and
-/// then perhaps a flaw among the commands or the bytes.
+/// The stream of one seed.
 pub fn stream(seed: u64) -> Vec<u8> {
-    let random = &mut Random::new(seed);
+    draw(&mut Random::new(seed))
+}
+
+/// Some plans, of which the last may be flawed, and then perhaps a flaw among
+/// the commands or the bytes.
+pub(crate) fn draw(random: &mut Random) -> Vec<u8> {
     let mut commands = Vec::new();
     for _ in 0..random.pick(&[0, 0, 0, 1, 1, 2, 4]) {
         commands.extend(earlier_plan(random));

@@ -1,17 +1,20 @@
 //! Plan text: a day as a person writes it, and its commands as bytes. One
 //! thing a line; `#` starts a comment. The text may say any whole commands
-//! whose numbers are within the limits of document 01; whether they are in
-//! turn, and all else that the rules ask, is not asked here.
+//! whose numbers are within the limits of document 01. Whether they are in
+//! turn, and all else that the rules ask, is asked only where the plan that
+//! they lead to is written.
 
 mod form;
 mod offsets;
 mod to_bytes;
 mod to_text;
+mod written;
 
 pub use form::patterns;
 pub use offsets::Offsets;
 pub use to_bytes::{to_bytes, Translator};
 pub use to_text::to_text;
+pub use written::Written;
 
 /// What is wrong with a text or a stream, and where.
 #[derive(Debug, PartialEq, Eq)]

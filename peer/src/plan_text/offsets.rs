@@ -1,7 +1,7 @@
 //! From the offsets of commands to the lines that say them.
 
 use super::form::Steps;
-use super::to_text::{whole_commands, write_line};
+use super::to_text::{line_of, whole_commands};
 
 /// Tells line by line where the commands of a text are in its stream.
 #[derive(Default)]
@@ -17,8 +17,7 @@ impl Offsets {
     pub fn rows(&mut self, line: usize, bytes: &[u8]) -> String {
         let mut rows = String::new();
         for command in whole_commands(bytes).0 {
-            let mut text = String::new();
-            write_line(&[command], &mut self.steps, &mut text);
+            let text = line_of(command, &mut self.steps);
             rows += &format!("at {}, line {line}: {text}", self.bytes);
             self.bytes += command.len();
         }

@@ -68,9 +68,16 @@ fn share_a_line(one: &Whole, next: &Whole) -> bool {
     one.form.byte == next.form.byte && one.form.shape == Shape::List
 }
 
+/// The line of a command that stands alone.
+pub(super) fn line_of(command: Whole, steps: &mut Steps) -> String {
+    let mut text = String::new();
+    write_line(&[command], steps, &mut text);
+    text
+}
+
 /// Adds the line of some commands of one form; a plan stands apart from what
 /// is above it.
-pub(super) fn write_line(commands: &[Whole], steps: &mut Steps, text: &mut String) {
+fn write_line(commands: &[Whole], steps: &mut Steps, text: &mut String) {
     let form = commands[0].form;
     if form.shape == Shape::Opening && !text.is_empty() {
         text.push('\n');

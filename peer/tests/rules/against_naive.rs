@@ -1,6 +1,6 @@
 //! The fast plan beside the naive one, on random days of small plans.
 
-use crate::menu::ask;
+use crate::menu::{ask, bytes_of, written};
 use crate::naive::{Naive, Reply};
 use peer::generate::{askings, stream, Asking};
 use peer::{decode, printer, Command, Plan};
@@ -38,6 +38,10 @@ fn compare(plan: &mut Plan, naive: &mut Naive, asking: &Asking) {
     for task in 0..=LARGEST + 1 {
         assert_eq!(plan.booked_by(task) as usize, naive.booked_by(task.into()));
         assert_eq!(plan.why(task), naive.why(task.into()));
+    }
+    let enough = bytes_of(naive.n);
+    for list_len in [enough - 1, enough] {
+        assert_eq!(written(plan, list_len), naive.written(list_len));
     }
 }
 

@@ -26,7 +26,8 @@ fn after_each_command_of_a_day() {
 fn after_each_command_of_a_stream() {
     let mut days = 0;
     for seed in 1000..1250 {
-        days += follow(&stream(seed), |watch, plan| watch.check(plan)).days;
+        let (watch, ..) = follow(&stream(seed), |watch, plan| watch.check(plan));
+        days += watch.days;
     }
     assert!(days > 150);
 }

@@ -1,7 +1,7 @@
 //! The generator: the same bytes for the same seed, and every kind of input.
 
 use crate::menu::ask;
-use peer::generate::{askings, encode, many_askings, stream, Random};
+use peer::generate::{askings, cut_stream, encode, many_askings, stream, Random};
 use peer::{decode, Command, Phase, Plan};
 use std::collections::BTreeSet;
 
@@ -9,10 +9,22 @@ use std::collections::BTreeSet;
 fn the_same_seed_gives_the_same_bytes() {
     for seed in 0..20 {
         assert_eq!(stream(seed), stream(seed));
+        assert_eq!(cut_stream(seed), cut_stream(seed));
         assert_eq!(askings(seed), askings(seed));
         assert_eq!(many_askings(seed, 500), many_askings(seed, 500));
     }
     assert_ne!(stream(1), stream(2));
+}
+
+#[test]
+fn a_cut_stream_is_the_front_of_its_stream() {
+    let mut cut = 0;
+    for seed in 0..100 {
+        let (whole, front) = (stream(seed), cut_stream(seed));
+        assert!(whole.starts_with(&front));
+        cut += usize::from(front.len() < whole.len());
+    }
+    assert!(cut > 50);
 }
 
 #[test]

@@ -1,5 +1,5 @@
-//! The rules of document 01, and request 01 of document 02, tried on this
-//! implementation.
+//! The rules of document 01, and requests 01 and 02 of document 02, tried on
+//! this implementation.
 
 mod against_naive;
 mod astray;
@@ -16,8 +16,11 @@ mod plan_c;
 mod plan_text;
 mod plan_text_program;
 mod plan_text_typed;
+mod plan_text_written;
 mod printer;
 mod table;
 mod watch;
 mod why;
 mod why_days;
+mod write;
+mod write_days;

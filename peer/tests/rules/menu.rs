@@ -1,13 +1,16 @@
 //! Plans to try things on, and ways to give commands.
 
 use peer::generate::encode;
-use peer::{Answer, Command, Plan, Reason, Record};
+use peer::{Answer, Command, Plan, Reason, Record, Wrote};
 
 /// What unused entries of a start list hold before a command.
 pub const MARK: u16 = 0xbeef;
 
+/// How many tasks are asked about after each command.
+const ASKED: u16 = 8;
+
 /// A plan with its orders.
-#[derive(Clone)]
+#[derive(Clone, Debug, PartialEq)]
 pub struct Menu {
     pub processors: u8,
     pub memory_bound: u32,
@@ -101,6 +104,18 @@ pub fn accepting(commands: &[Vec<u8>]) -> Plan {
     plan
 }
 
+/// A plan that accepted a whole stream from empty on.
+pub fn reading(stream: &[u8]) -> Plan {
+    let mut plan = Plan::new();
+    let mut place = 0;
+    while place < stream.len() {
+        let (answer, _) = ask(&mut plan, stream, place, Plan::STARTS);
+        assert_eq!(answer.number, 0, "at {place}");
+        place += answer.used;
+    }
+    plan
+}
+
 /// Gives one command with a start list of 64 entries.
 pub fn give(plan: &mut Plan, command: &[u8]) -> (Answer, Vec<u16>) {
     ask(plan, command, 0, 64)
@@ -130,10 +145,33 @@ pub fn ask(plan: &mut Plan, bytes: &[u8], place: usize, starts_len: usize) -> (A
     (answer, starts)
 }
 
-/// Everything that can be asked of a plan.
-fn answers(plan: &Plan) -> impl PartialEq + std::fmt::Debug {
-    let booked_by: Vec<u32> = (1..=8).map(|task| plan.booked_by(task)).collect();
-    let whys: Vec<Reason> = (1..=8).map(|task| plan.why(task)).collect();
+/// The bytes of a written plan of n tasks.
+pub fn bytes_of(n: usize) -> usize {
+    8 + 13 * n
+}
+
+/// Has a plan written into a list of so many bytes: those that were written, or
+/// the number that refuses. All others must stay untouched, whatever they are.
+pub fn written(plan: &Plan, list_len: usize) -> Result<Vec<u8>, u8> {
+    let [over_zeros, over_ones] = [0x00, 0xff].map(|mark| {
+        let mut list = vec![mark; list_len];
+        let Wrote { number, count } = plan.write(&mut list);
+        let later = list.split_off(count);
+        assert_eq!(later, vec![mark; list_len - count]);
+        if number == 0 {
+            return Ok(list);
+        }
+        assert_eq!(count, 0);
+        Err(number)
+    });
+    assert_eq!(over_zeros, over_ones);
+    over_zeros
+}
+
+/// Everything that can be asked of a plan; it is written out if it is small.
+pub fn answers(plan: &Plan) -> impl PartialEq + std::fmt::Debug {
+    let booked_by: Vec<u32> = (1..=ASKED).map(|task| plan.booked_by(task)).collect();
+    let whys: Vec<Reason> = (1..=ASKED).map(|task| plan.why(task)).collect();
     (
         plan.phase(),
         plan.booked(),
@@ -142,6 +180,7 @@ fn answers(plan: &Plan) -> impl PartialEq + std::fmt::Debug {
         plan.standing(),
         booked_by,
         whys,
+        written(plan, bytes_of(ASKED.into())),
     )
 }
 

@@ -24,7 +24,7 @@ pub struct Reply {
 /// A plan. Lists by step have an unused entry 0, so that a step is its index.
 pub struct Naive {
     pub phase: Phase,
-    n: usize,
+    pub n: usize,
     p: usize,
     m: usize,
     parent: Vec<usize>,
@@ -361,6 +361,35 @@ impl Naive {
         }
         assert_eq!(self.count(State::Running), self.p);
         Reason::NoProcessor
+    }
+
+    /// The plan written into a list of so many bytes.
+    pub fn written(&self, list_len: usize) -> Result<Vec<u8>, u8> {
+        let (activation, execution) = (self.activation.len(), self.execution.len());
+        let is_complete = self.n > 0 && activation == self.n && execution == self.n;
+        refuse(3, !is_complete)?;
+        refuse(11, list_len < 8 + 13 * self.n)?;
+        let mut bytes = vec![];
+        say(&mut bytes, 0x01, &[(self.n, 2), (self.p, 1), (self.m, 4)]);
+        for i in self.steps() {
+            let (parent, work, out) = (self.parent[i], self.work[i], self.out[i]);
+            say(&mut bytes, 0x02, &[(parent, 2), (work, 2), (out, 2)]);
+        }
+        for &i in &self.activation {
+            say(&mut bytes, 0x03, &[(i, 2)]);
+        }
+        for &i in &self.execution {
+            say(&mut bytes, 0x04, &[(i, 2)]);
+        }
+        Ok(bytes)
+    }
+}
+
+/// Adds a command: its byte and its operands, each with its width in bytes.
+fn say(bytes: &mut Vec<u8>, byte: u8, operands: &[(usize, u32)]) {
+    bytes.push(byte);
+    for &(number, width) in operands {
+        bytes.extend((0..width).map(|place| (number / 256usize.pow(place) % 256) as u8));
     }
 }
 

@@ -10,7 +10,7 @@ use std::process::{Command, Stdio};
 const EXAMPLE: &str = concat!(env!("CARGO_MANIFEST_DIR"), "/../examples/plan-a.plan");
 
 /// Runs the program; answers standard output, standard error and the status.
-fn run(arguments: &[&str], input: &[u8]) -> (Vec<u8>, String, i32) {
+pub fn run(arguments: &[&str], input: &[u8]) -> (Vec<u8>, String, i32) {
     let mut child = Command::new(env!("CARGO_BIN_EXE_plan-text"))
         .args(arguments)
         .stdin(Stdio::piped())
@@ -26,13 +26,13 @@ fn run(arguments: &[&str], input: &[u8]) -> (Vec<u8>, String, i32) {
 }
 
 /// A file of the tests' own, in the folder that cargo keeps for them.
-fn file(name: &str, bytes: &[u8]) -> String {
+pub fn file(name: &str, bytes: &[u8]) -> String {
     let path = PathBuf::from(env!("CARGO_TARGET_TMPDIR")).join(name);
     fs::write(&path, bytes).unwrap();
     path.into_os_string().into_string().unwrap()
 }
 
-fn fine(output: &[u8]) -> (Vec<u8>, String, i32) {
+pub fn fine(output: &[u8]) -> (Vec<u8>, String, i32) {
     (output.to_vec(), String::new(), 0)
 }
 
@@ -177,6 +177,7 @@ fn help_and_usage() {
         &["a", "b"],
         &["--back", "a", "b"],
         &["--offsets", "a", "b"],
+        &["--written", "a", "b"],
     ] {
         let (output, errors, status) = run(arguments, b"");
         assert!(

@@ -1,16 +1,18 @@
 //! Watches a day and checks what must hold after each of its commands.
 
-use crate::menu::ask;
+use crate::menu::{ask, Menu};
 use peer::{decode, needs, Answer, Command, Phase, Plan, Record};
 
 /// What the accepted commands of a plan say: the plan itself, and of its day
 /// the starts and ends alone.
 #[derive(Default)]
 pub struct Watch {
+    tasks: usize,
     pub processors: usize,
     pub memory_bound: u32,
     pub records: Vec<Record>,
     pub activation: Vec<u16>,
+    execution: Vec<u16>,
     pub needs: Vec<u32>,
     started: Vec<bool>,
     pub ended: Vec<bool>,
@@ -19,14 +21,15 @@ pub struct Watch {
 }
 
 /// Gives an empty plan the commands of a stream, as far as it takes them, and
-/// looks at it after each.
-pub fn follow(stream: &[u8], mut look: impl FnMut(&Watch, &Plan)) -> Watch {
+/// looks at it after each. Answers what was seen, the plan at the end, and the
+/// number that refused the next command.
+pub fn follow(stream: &[u8], mut look: impl FnMut(&Watch, &Plan)) -> (Watch, Plan, u8) {
     let (mut plan, mut watch) = (Plan::new(), Watch::default());
     let mut place = 0;
     loop {
         let (answer, starts) = ask(&mut plan, stream, place, Plan::STARTS);
         if answer.number != 0 {
-            return watch;
+            return (watch, plan, answer.number);
         }
         watch.accepted(stream, place, &answer, &starts);
         look(&watch, &plan);
@@ -41,11 +44,12 @@ impl Watch {
         assert_eq!(answer.used, used);
         match command {
             Command::Plan {
+                tasks,
                 processors,
                 memory_bound,
-                ..
             } => {
                 *self = Watch {
+                    tasks: tasks.into(),
                     processors: processors.into(),
                     memory_bound,
                     days: self.days,
@@ -54,7 +58,7 @@ impl Watch {
             }
             Command::Step(record) => self.records.push(record),
             Command::Activation(task) => self.activation.push(task),
-            Command::Execution(_) => {}
+            Command::Execution(task) => self.execution.push(task),
             Command::Begin => {
                 self.needs = needs(&self.records)[..self.records.len()].to_vec();
                 self.started = vec![false; self.records.len()];
@@ -82,6 +86,19 @@ impl Watch {
         if self.ended.iter().all(|&ended| ended) {
             self.days += 1;
         }
+    }
+
+    /// The plan as it was given; none unless both its orders are complete.
+    pub fn menu(&self) -> Option<Menu> {
+        let is_complete = |order: &[u16]| self.tasks > 0 && order.len() == self.tasks;
+        let both_are = is_complete(&self.activation) && is_complete(&self.execution);
+        both_are.then(|| Menu {
+            processors: self.processors as u8,
+            memory_bound: self.memory_bound,
+            records: self.records.clone(),
+            activation: self.activation.clone(),
+            execution: self.execution.clone(),
+        })
     }
 
     /// Checks the day, whether the last command was accepted or refused.

@@ -14,25 +14,19 @@ plan c =
     rw (n .before .before .before .command .given .1) (n .start .ensures then p .little .ensures then bound .little2 .ensures)
 
 task : tie.Need-returns-2
-unfolding bytes byteOf operandsOf widthsOf find forms littles little
 task c =
-    let out = c .before .before in
-    let work = out .before .before .before .before in
-    let parent = work .before .before .before .before in
-    rw (parent .before .before .before .command2 .given .1)
-    (parent .start2 .ensures then work .little3 .ensures then out .little4 .ensures)
+    let i = c .before .before in
+    rw (i .before .before .before .command2 .given .1) (i .encode-task .ensures)
 
 activation : tie.Need-returns-3
-unfolding bytes byteOf operandsOf widthsOf find forms littles little
 activation c =
     let i = c .before .before in
-    rw (i .before .before .before .command3 .given .1) (i .start3 .ensures)
+    rw (i .before .before .before .command3 .given .1) (i .encode-activation .ensures)
 
 execution : tie.Need-returns-4
-unfolding bytes byteOf operandsOf widthsOf find forms littles little
 execution c =
     let i = c .before .before in
-    rw (i .before .before .before .command4 .given .1) (i .start4 .ensures)
+    rw (i .before .before .before .command4 .given .1) (i .encode-execution .ensures)
 
 begin : tie.Need-returns-5
 unfolding bytes byteOf operandsOf widthsOf find forms littles little
@@ -44,16 +38,12 @@ done : tie.Need-returns-6
 unfolding bytes byteOf operandsOf widthsOf find forms littles little
 done c =
     let i = c .before .before in
-    rw (i .before .before .before .command5 .given .1) (i .start5 .ensures)
+    rw (i .before .before .before .command5 .given .1) (i .start2 .ensures)
 
 pub encode-spec : {M : Type 1} → statement M
 encode-spec =
     tie.close
     (tie.spec
-    (λ c. search needs)
-    (λ c κs. search needs)
-    (λ c. search needs)
-    (λ c κs. search needs)
     (λ c. search needs)
     (λ c κs. search needs)
     (λ c. search needs)

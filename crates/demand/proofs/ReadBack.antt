@@ -1,0 +1,121 @@
+-- A plan that was written, read into a new one by calls: each finds the next command, and is accepted.
+use mathlib.Core.Path.{_≡_, refl, sym, ap, subst, subst₂, _∙_}
+use mathlib.Core.Bool.{true}
+use mathlib.Core.List.{List, [], _∷_, _++_, flatMap, append-assoc}
+use Prim.Native.Nat.{ℕ, _+_}
+use native.Mathlib.Nat.{zero-add}
+use native.Mathlib.Omega.{arith}
+use lib.Dec.{eqb}
+use lib.ListN.{length, take, drop, length-append, take-append-drop}
+use borrow.Author.Tests.{eqb-true, eq-eqb}
+use Rattle.rules.specs.State.{State, none}
+use Rattle.rules.specs.Command.{Command, bytes, read, decode}
+use Rattle.rules.specs.Grounds.{ground}
+use Rattle.rules.specs.Obey.{obey}
+use Rattle.rules.specs.Answer as rules
+use Rattle.rules.specs.Stream.{obeyAll, acceptsAll}
+use Rattle.rules.specs.Instance.{instanceOf, unbegun, commands, written}
+use Rattle.rules.specs.Write.{Wrote, write}
+use Rattle.rules.specs.Reachable.{Reachable}
+use Rattle.rules.specs.Restored.{WriteHolds}
+use Rattle.rules.proofs.Tests.{and-true, and-both}
+use Rattle.rules.proofs.Bytes.{decode-bytes-at}
+use Rattle.rules.proofs.Stream.{granted-answer, FitAll}
+use Rattle.rules.proofs.Instance.{commands-lead, proper}
+use Rattle.rules.proofs.Written.{every-write-holds, granted-whole}
+use Rattle.answer.specs.Meaning.{planOf}
+use Rattle.answer.specs.ValidPlan.{NewPlan}
+use Rattle.plan.proofs.NewPlan.{new-empty}
+use Rattle.demand.specs.Calls.{Call, CallContract, Calls, leftBy, accepted, allAccepted, Reads}
+
+-- what is received from a call that asks a command against which there is no ground
+record Followed (w : List ℕ) (c : Call) (k : Command) : Type 0 where
+  accepts : accepted c ≡ true
+  used : c .answer .used ≡ length (bytes k)
+  left : planOf (c .left) ≡ obey (planOf w) k .state
+
+followed :
+    {w : List ℕ} {c : Call} (k : Command)
+    → CallContract w c
+    → rules.command (planOf w) (c .asking) ≡ rules.accept (obey (planOf w) k) (length (bytes k)) (c .asking .list)
+    → Followed w c k
+unfolding rules.accept
+followed {w} {c} k e answered =
+    record {
+      accepts = eq-eqb (c .answer .number) 0 (ap (λ (a : rules.Answered). a .answer .number) (e .same ∙ answered));
+      used = ap (λ (a : rules.Answered). a .answer .used) (e .same ∙ answered);
+      left = ap (λ (a : rules.Answered). a .state) (e .same ∙ answered);
+    }
+
+-- calls that read the bytes of commands that are accepted in turn, wherever they stand
+through :
+    (cs : List Command) (calls : List Call) (w before rest stream : List ℕ)
+    → stream ≡ before ++ flatMap bytes cs ++ rest
+    → FitAll cs
+    → acceptsAll (planOf w) cs ≡ true
+    → Calls w calls
+    → Reads stream (length before) (length before + length (flatMap bytes cs)) calls
+    → (allAccepted calls ≡ true) × (planOf (leftBy w calls) ≡ obeyAll (planOf w) cs)
+unfolding flatMap bytes acceptsAll obeyAll Calls leftBy allAccepted Reads
+through [] [] w before rest stream is fit grants e reads = (refl, refl)
+through [] (c ∷ later) w before rest stream is fit grants e reads = let more = reads .3 in absurd (omega arith)
+through (k ∷ cs) [] w before rest stream is fit grants e reads =
+    absurd (omega (arith, reads, length-append (bytes k) (flatMap bytes cs)))
+through (k ∷ cs) (c ∷ later) w before rest stream is fit grants e reads =
+    let granted = and-true (eqb (ground (planOf w) k) 0) _ grants in
+    let split : stream ≡ before ++ bytes k ++ flatMap bytes cs ++ rest =
+    is ∙ ap (λ (l : List ℕ). l ++ rest) (sym (append-assoc before (bytes k) (flatMap bytes cs)))
+    in
+    let found : decode (c .asking .stream) (c .asking .place) ≡ read k (length (bytes k)) =
+    rw (reads .0, reads .1, split, append-assoc (before ++ bytes k) (flatMap bytes cs) rest)
+    (decode-bytes-at before k (flatMap bytes cs ++ rest) (fit .0))
+    in
+    let o =
+    followed k (e .0)
+    (granted-answer (planOf w) (c .asking) k (length (bytes k)) found (eqb-true (ground (planOf w) k) 0 (granted .0)) (reads .2))
+    in
+    let next =
+    through cs later (c .left) (before ++ bytes k) rest stream split (fit .1)
+    (subst (λ (s : State). acceptsAll s cs ≡ true) (sym (o .left)) (granted .1))
+    (e .1)
+    (subst₂ (λ (place end : ℕ). Reads stream place end later)
+    (ap (λ (u : ℕ). length before + u) (o .used) ∙ sym (length-append before (bytes k)))
+    (omega (arith, length-append before (bytes k), length-append (bytes k) (flatMap bytes cs)))
+    (reads .4))
+    in (
+      and-both (accepted c) (allAccepted later) (o .accepts) (next .0),
+      next .1 ∙ ap (λ (s : State). obeyAll s cs) (o .left),
+    )
+
+-- the plan that the writer answers of, from any stream that begins with what was written
+pub read-back :
+    {s : State}
+    → Reachable s
+    → (list : List ℕ) {r : Wrote}
+    → r ≡ write s list
+    → r .number ≡ 0
+    → (stream w : List ℕ) (reading : List Call)
+    → take (r .count) stream ≡ take (r .count) (r .list)
+    → NewPlan w
+    → Calls w reading
+    → Reads stream 0 (r .count) reading
+    → (allAccepted reading ≡ true) × (planOf (leftBy w reading) ≡ unbegun (instanceOf s))
+unfolding written
+read-back {s} reached list {r} is accepted stream w reading front new e reads =
+    let m = instanceOf s in
+    let holds : WriteHolds s list r =
+    subst (λ (x : Wrote). WriteHolds s list x) (sym is) (every-write-holds .lists s reached list)
+    in
+    let leads = commands-lead m (proper s reached (granted-whole s list r holds accepted)) none (λ z. omega arith) in
+    let begins : stream ≡ written m ++ drop (r .count) stream =
+    sym (take-append-drop (r .count) stream) ∙ ap (λ (l : List ℕ). l ++ drop (r .count) stream) (front ∙ holds .front accepted)
+    in
+    let both =
+    through (commands m) reading w [] (drop (r .count) stream) stream begins (leads .fitting)
+    (subst (λ (t : State). acceptsAll t (commands m) ≡ true) (sym (new-empty new)) (leads .accepted))
+    e
+    (subst (λ (end : ℕ). Reads stream 0 end reading) (holds .count accepted ∙ sym (zero-add (length (written m)))) reads)
+    in (
+      both .0,
+      both .1 ∙ ap (λ (t : State). obeyAll t (commands m)) (new-empty new) ∙ leads .obeyed,
+    )

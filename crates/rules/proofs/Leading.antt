@@ -1,0 +1,85 @@
+-- Commands that lead from one plan to another: each fits its bytes and is accepted in its turn.
+use mathlib.Core.Path.{_≡_, refl, sym, subst, _∙_}
+use mathlib.Core.Bool.{true, false}
+use mathlib.Core.List.{List, [], _∷_, _++_, map, append-nil, append-assoc}
+use Prim.Native.Nat.{ℕ, _+_, _<_}
+use native.Mathlib.Omega.{arith}
+use borrow.Author.Tests.{eqb-true, eq-eqb}
+use lib.Dec.{eqb}
+use lib.ListN.{length, length-append}
+use Rattle.rules.specs.Sums.{Task}
+use Rattle.rules.specs.Lists.{mem, every, distinct}
+use Rattle.rules.specs.State.{State}
+use Rattle.rules.specs.Command.{Command}
+use Rattle.rules.specs.Grounds.{within, ground}
+use Rattle.rules.specs.Obey.{obey}
+use Rattle.rules.specs.Stream.{obeyAll, acceptsAll}
+use Rattle.rules.proofs.Tests.{and-true, and-both}
+use Rattle.rules.proofs.Orders.{within-task, every-append, new-behind}
+use Rattle.rules.proofs.Bytes.{fits}
+use Rattle.rules.proofs.Stream.{FitAll}
+
+pub record Leads (s : State) (cs : List Command) (t : State) : Type 0 where
+  pub fitting : FitAll cs
+  pub accepted : acceptsAll s cs ≡ true
+  pub obeyed : obeyAll s cs ≡ t
+
+-- no command, one ahead of others, and one list behind another
+pub stays : (s : State) → Leads s [] s
+unfolding acceptsAll obeyAll
+stays s = record { fitting = tt; accepted = refl; obeyed = refl }
+
+pub obeyed-first :
+    {s t : State} (c : Command) {cs : List Command} → fits c → ground s c ≡ 0 → Leads (obey s c .state) cs t → Leads s (c ∷ cs) t
+unfolding acceptsAll obeyAll
+obeyed-first {s} c f g l =
+    record {
+      fitting = (f, l .fitting);
+      accepted = and-both (eqb (ground s c) 0) _ (eq-eqb (ground s c) 0 g) (l .accepted);
+      obeyed = l .obeyed;
+    }
+
+joined : (a : List Command) {b : List Command} {s t u : State} → Leads s a t → Leads t b u → Leads s (a ++ b) u
+unfolding acceptsAll obeyAll
+joined [] {b} l m =
+    record {
+      fitting = m .fitting;
+      accepted = rw (l .obeyed) (m .accepted);
+      obeyed = rw (l .obeyed) (m .obeyed);
+    }
+joined (c ∷ a) {b} {s} l m =
+    let here = and-true (eqb (ground s c) 0) _ (l .accepted) in
+    let later = joined a (record { fitting = l .fitting .1; accepted = here .1; obeyed = l .obeyed }) m in
+    obeyed-first c (l .fitting .0) (eqb-true (ground s c) 0 (here .0)) later
+
+infixl 65 _then_
+pub _then_ : {s t u : State} {a b : List Command} → Leads s a t → Leads t b u → Leads s (a ++ b) u
+_then_ {a = a} l m = joined a l m
+
+-- an order of n tasks, each of them once
+pub record Order (n : ℕ) (l : List ℕ) : Type 0 where
+  pub inside : every (λ i. within i n) l ≡ true
+  pub once : distinct l ≡ true
+  pub whole : length l ≡ n
+
+-- its commands, given to a plan that has the front of it: `with` is the plan with a front, and `next` the command
+pub order-leads :
+    (n : ℕ) (next : ℕ → Command) (with : List ℕ → State)
+    → ((i : ℕ) → Task n i → fits (next i))
+    → ((l : List ℕ) (i : ℕ) → length l < n → Task n i → mem i l ≡ false → ground (with l) (next i) ≡ 0)
+    → ((l : List ℕ) (i : ℕ) → obey (with l) (next i) .state ≡ with (l ++ (i ∷ [])))
+    → (front rest : List ℕ)
+    → Order n (front ++ rest)
+    → Leads (with front) (map next rest) (with (front ++ rest))
+unfolding every
+order-leads n next with fit granted obeys front [] order = rw (append-nil front) (stays (with front))
+order-leads n next with fit granted obeys front (i ∷ rest) order =
+    let split : front ++ i ∷ rest ≡ front ++ (i ∷ []) ++ rest = sym (append-assoc front (i ∷ []) rest) in
+    let inside = and-true (every (λ k. within k n) front) _ (sym (every-append (λ k. within k n) front (i ∷ rest)) ∙ order .inside) in
+    let task = within-task n i (and-true (within i n) _ (inside .1) .0) in
+    let long = order .whole in
+    let later = order-leads n next with fit granted obeys (front ++ (i ∷ [])) rest (subst (Order n) split order) in
+    rw split
+    (obeyed-first (next i) (fit i task)
+    (granted front i (omega (arith, length-append front (i ∷ rest))) task (new-behind front i rest (order .once)))
+    (rw (obeys front i) later))
