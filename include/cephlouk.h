@@ -38,8 +38,8 @@ enum {
     CEPHLOUK_PLAN = 0x01,       /* n (2 bytes), p (1), M (4): drops the old plan and opens a new one */
     CEPHLOUK_STEP = 0x02,       /* parent (2, 0 for the last step), work (2), out (2): the next step */
     CEPHLOUK_ACTIVATION = 0x03, /* step (2): the next in the activation order */
-    CEPHLOUK_EXECUTION = 0x04,  /* step (2): the next in the execution order */
-    CEPHLOUK_BEGIN = 0x05,      /* no operands: the day begins */
+    CEPHLOUK_EXECUTION = 0x04,  /* step (2): the next in the execution order: n of them, or none at all */
+    CEPHLOUK_BEGIN = 0x05,      /* no operands: the day begins; where no 04 was given, the activation order is used for both */
     CEPHLOUK_DONE = 0x06        /* step (2): this step has ended */
 };
 
@@ -126,8 +126,9 @@ struct cephlouk_reason cephlouk_why(const uint32_t *plan, uint16_t task); /* why
 
 /* Writes what was given of a plan back out, to the front of a list of `length` bytes: PLAN, the steps, the activation order and the
    execution order, without BEGIN. OUT_OF_TURN until both orders are complete; then SHORT_LIST where the list has fewer than 8 bytes and 13
-   for each step. Bytes behind those written are not touched, and a refusal touches none. The same plan gives the same bytes, however its
-   orders came, and cephlouk_command on them restores it in an empty plan. */
+   for each step. From BEGIN on an execution order that was left out is complete, with the entries of the activation order. Bytes behind
+   those written are not touched, and a refusal touches none. The same plan gives the same bytes, however its orders came, and
+   cephlouk_command on them restores it in an empty plan. */
 struct cephlouk_wrote cephlouk_write(const uint32_t *plan, uint8_t *list, size_t length);
 
 /* The planners' desk, in libdesk.a: the peak of the caller's own records in an activation order, with no plan. A record stands for a

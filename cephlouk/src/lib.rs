@@ -11,8 +11,8 @@
 //! | 01 | n (2 bytes), p (1), M (4) | PLAN: drop the old plan, open one of n steps, p stations and M tray places |
 //! | 02 | parent (2), work (2), out (2) | STEP: the next step; parent 0 is the last step |
 //! | 03 | step (2) | next in the activation order |
-//! | 04 | step (2) | next in the execution order |
-//! | 05 | none | BEGIN: the day begins |
+//! | 04 | step (2) | next in the execution order: n of them, or none at all |
+//! | 05 | none | BEGIN: the day begins; where no 04 was given, the activation order is used for both |
 //! | 06 | step (2) | DONE: this step has ended |
 //!
 //! Two salads go into one bowl, and the cold room has 7 places:

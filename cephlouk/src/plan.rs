@@ -176,7 +176,8 @@ impl Plan {
     /// BEGIN. The answer is how many bytes were written; later ones are not
     /// touched. Refused out of turn until both orders are complete, then where
     /// the list has fewer than 8 bytes and 13 for each step; a refusal touches
-    /// no byte.
+    /// no byte. An execution order that is left out is complete from BEGIN on,
+    /// with the entries of the activation order.
     ///
     /// However the orders came, the same plan gives the same bytes, and reading
     /// them into an empty plan restores it:
@@ -201,6 +202,15 @@ impl Plan {
     ///     place += restored.command_at(&bytes, place)?.used;
     /// }
     /// assert_eq!(restored.words(), plan.words());
+    ///
+    /// let mut alone = Plan::new();
+    /// for place in [0, 8, 15] {
+    ///     alone.command_at(&bytes, place)?; // PLAN, its step and 03, no 04
+    /// }
+    /// assert_eq!(alone.write(&mut bytes), Err(Refusal::OutOfTurn));
+    /// alone.command(&[0x05])?;
+    /// assert_eq!(alone.write(&mut bytes), Ok(21));
+    /// assert_eq!(bytes[15..21], [0x03, 1, 0, 0x04, 1, 0]);
     /// # Ok::<(), Refusal>(())
     /// ```
     pub fn write(&self, list: &mut [u8]) -> Result<usize, Refusal> {

@@ -1,7 +1,8 @@
 //! The command function beside the peer's: `askings [ASKINGS [FIRST_SEED]]`,
 //! 1,000,000 from seed 0 on unless it says otherwise. Both keep the same plans,
 //! several at once, and get the same askings; they must give the same answers,
-//! leave the same start lists and answer every question alike.
+//! leave the same start lists and answer every question alike. Many askings must
+//! come to every kind of day.
 
 use compare::turns::{compare, OPEN};
 use std::process::ExitCode;
@@ -15,6 +16,10 @@ fn main() -> ExitCode {
     match compare(|_| cephlouk::Plan::new(), askings, first_seed) {
         Ok(tally) => {
             println!("match: {OPEN} plans open at once, the same answers to {tally}");
+            if tally.lacks_a_kind() {
+                println!("match: a kind of day did not come; take more askings, or another seed");
+                return ExitCode::FAILURE;
+            }
             ExitCode::SUCCESS
         }
         Err(difference) => {

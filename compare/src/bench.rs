@@ -16,11 +16,12 @@ fn main() {
     print_notes();
     let done = print_table("DONE", reports);
     let begin = print_table("BEGIN, divided by n", begin);
+    let one_order = print_table("BEGIN without 04, divided by n", begin_with_one_order);
     let setup = print_table("PLAN, STEP, 03 and 04", setup);
     let why = print_table("Why a step is not starting", why);
     let write = print_table("A plan written out, divided by n", write);
     let programs = programs::times();
-    print_aims([done, begin, setup], [&why, &write], programs);
+    print_aims([done, begin, setup], [&one_order, &why, &write], programs);
 }
 
 /// How the figures come about.
@@ -29,7 +30,7 @@ fn print_notes() {
         "- Nanoseconds per command, of BEGIN per step of the plan, by the proved library through its exported function and by the peer, which gets the same \
          bytes in the same process. Both are built for release.\n\
          - A sample gives all commands of one kind to fresh copies of a plan that was led up to them: all reports of a day, its \
-         BEGIN, or all commands ahead of BEGIN, these on a plan whose day is over. The copies, 8 at 64 steps, 2 at 256 and 1 at \
+         BEGIN, with 04 and without, or all commands ahead of BEGIN, these on a plan whose day is over. The copies, 8 at 64 steps, 2 at 256 and 1 at \
          1,024, are made before the time is taken. It is the time for which the thread had a processor, less that of a look at \
          the clock. The two sides take turns, and a figure is the median of {SAMPLES} samples.\n\
          - Parents have lower numbers than their children, the activation order falls and the execution order is mixed; works \
@@ -52,6 +53,11 @@ fn begin(day: &Day) -> Pair {
     let places = day.begin();
     let led_to = places.start;
     pair(day, places, led_to, day.tasks)
+}
+
+/// The same where no 04 was given.
+fn begin_with_one_order(day: &Day) -> Pair {
+    pair(day, day.begin(), day.activated(), day.tasks)
 }
 
 /// A command ahead of BEGIN.
@@ -112,7 +118,7 @@ fn pair(day: &Day, places: Range<usize>, led_to: usize, commands: usize) -> Pair
 /// What is aimed at, and what was measured.
 fn print_aims(
     [done, begin, setup]: [Extremes; 3],
-    [why, write]: [&Extremes; 2],
+    [one_order, why, write]: [&Extremes; 3],
     [printer, peer]: [[f64; 2]; 2],
 ) {
     let ratio = |extremes: &Extremes| {
@@ -128,6 +134,7 @@ fn print_aims(
         ratio(&done)
     );
     println!("| BEGIN | at most 1.1 | {} |", ratio(&begin));
+    println!("| BEGIN without 04 | at most 1.1 | {} |", ratio(one_order));
     println!(
         "| PLAN, STEP, 03 and 04 | at most 0.8 | {} |",
         ratio(&setup)

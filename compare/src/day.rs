@@ -38,6 +38,12 @@ impl Day {
         0..self.begin
     }
 
+    /// The place behind the activation order, where 04 begins.
+    pub fn activated(&self) -> usize {
+        let entry = encode(Command::Execution(1)).len();
+        self.begin - self.tasks * entry
+    }
+
     /// The place of BEGIN.
     pub fn begin(&self) -> Range<usize> {
         self.begin..self.begin + 1

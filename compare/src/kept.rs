@@ -1,6 +1,7 @@
 //! A plan that is kept and asked: the proved one, and the peer's.
 
-use cephlouk::{Answer, Phase, Standing};
+use crate::tool::is_whole;
+use cephlouk::{Answer, Phase, Refusal, Standing};
 use std::ops::Range;
 
 /// What a plan is asked, whoever has it.
@@ -26,6 +27,8 @@ pub struct Questions {
     pub in_use: u32,
     pub fullness: u32,
     pub standing: Standing,
+    /// Whether both orders are complete: what it would write, were there a list.
+    pub is_whole: bool,
 }
 
 /// Gives a plan the commands at some places of bytes; all are accepted.
@@ -50,6 +53,7 @@ impl Kept for cephlouk::Plan {
             in_use: self.in_use(),
             fullness: self.fullness(),
             standing: self.standing(),
+            is_whole: self.write(&mut []) != Err(Refusal::OutOfTurn),
         }
     }
 
@@ -94,6 +98,7 @@ impl Kept for peer::Plan {
                 running,
                 finished,
             },
+            is_whole: is_whole(self),
         }
     }
 

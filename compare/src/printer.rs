@@ -18,8 +18,9 @@ const FEW_BYTES: usize = 9;
 /// fill the printer's room more than once.
 const LARGE_PIECES: [usize; 3] = [5_000, 30_000, 100_000];
 
-const TEXTS: [(&str, &str); 2] = [
+const TEXTS: [(&str, &str); 3] = [
     ("plan-a.plan", include_str!("../../examples/plan-a.plan")),
+    ("lunch.plan", include_str!("../../examples/lunch.plan")),
     (
         "breakfast.plan",
         include_str!("../../examples/breakfast.plan"),

@@ -53,6 +53,14 @@ impl Depths {
         });
     }
 
+    /// BEGIN of a day where no 04 was given.
+    fn note_one_order(&mut self, day: &Day) {
+        let mut plan = day.led(Plan::new(), day.activated());
+        self.note(name(day.bytes[day.begin().start]), || {
+            day.run(day.begin(), &mut plan, &mut [0; Plan::LEAST_STARTS]);
+        });
+    }
+
     fn note_questions(&mut self, plan: &Plan) {
         self.note("cephlouk_phase", || {
             black_box(plan.phase());
@@ -132,6 +140,7 @@ fn depths() -> Depths {
     for shape in [Shape::Chain, Shape::Star, Shape::Random] {
         let day = Day::new(shape, Plan::MAX_TASKS, 64, 2);
         depths.note_day(&day, &mut plan);
+        depths.note_one_order(&day);
     }
     depths.note("cephlouk_empty", || plan.clear());
     depths.note_desk();

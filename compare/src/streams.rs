@@ -25,14 +25,15 @@ pub fn another_day() -> Vec<u8> {
     Day::new(Shape::Random, 3, 2, 1).bytes
 }
 
-/// The most starts with the most digits that a plan has, and large figures.
+/// The most starts with the most digits that a plan has, and large figures; with
+/// one order.
 fn many_starts_at_begin() -> Vec<u8> {
     let record = Record {
         parent: 1,
         work: COUNT,
         out: COUNT,
     };
-    star(u32::MAX, record, record, &[])
+    star(u32::MAX, record, record, &[Command::Activation], &[])
 }
 
 /// The first task takes all places, and 64 others have room when it ends.
@@ -46,12 +47,19 @@ fn many_starts_at_done() -> Vec<u8> {
         work: COUNT / Plan::PROCESSORS as u16,
         ..all
     };
-    star(u32::from(COUNT), all, some, &[Plan::TASKS as u16])
+    let orders = [Command::Activation, Command::Execution];
+    star(u32::from(COUNT), all, some, &orders, &[Plan::TASKS as u16])
 }
 
 /// Task 1 is fed by all others. The one with the highest number comes first in
-/// both orders; after BEGIN some tasks end.
-fn star(memory_bound: u32, first: Record, others: Record, ends: &[u16]) -> Vec<u8> {
+/// each order that is given; after BEGIN some tasks end.
+fn star(
+    memory_bound: u32,
+    first: Record,
+    others: Record,
+    orders: &[fn(u16) -> Command],
+    ends: &[u16],
+) -> Vec<u8> {
     let n = Plan::TASKS as u16;
     let mut commands = vec![
         Command::Plan {
@@ -66,8 +74,9 @@ fn star(memory_bound: u32, first: Record, others: Record, ends: &[u16]) -> Vec<u
     ];
     commands.extend((2..n).map(|_| Command::Step(others)));
     commands.push(Command::Step(first));
-    commands.extend((1..=n).rev().map(Command::Activation));
-    commands.extend((1..=n).rev().map(Command::Execution));
+    for next in orders {
+        commands.extend((1..=n).rev().map(next));
+    }
     commands.push(Command::Begin);
     commands.extend(ends.iter().copied().map(Command::Done));
     commands.into_iter().flat_map(encode).collect()

@@ -3,7 +3,7 @@
 
 use crate::kept::{give, Kept};
 use peer::generate::{stream, Random};
-use peer::{decode, Command, Phase, Plan, Refusal};
+use peer::{decode, Command, Plan, Refusal};
 use std::collections::BTreeMap;
 use std::fmt::Debug;
 
@@ -22,8 +22,9 @@ pub trait Tool {
     fn answer(commands: &[u8], lent: &mut Self::Lent) -> Vec<u64>;
 }
 
-/// How many phases a plan has.
-const PHASES: usize = 5;
+/// How many moments of a plan are told apart: its five phases, of which orders
+/// is three.
+const MOMENTS: usize = 7;
 
 /// How many answers had which first number.
 pub type Tally = BTreeMap<u64, u64>;
@@ -81,19 +82,13 @@ pub fn tasks(commands: &[u8]) -> u16 {
 }
 
 /// A stream's commands up to any of those that an empty plan accepts. Each
-/// phase that it comes to is as likely as the others, and so is the moment at
-/// which both orders are complete and nothing has begun.
+/// moment that it comes to is as likely as the others.
 fn cut(random: &mut Random, stream: &[u8]) -> Vec<u8> {
     let mut plan = Plan::new();
-    let mut ends = [const { Vec::new() }; PHASES + 1];
+    let mut ends = [const { Vec::new() }; MOMENTS];
     let mut place = 0;
     loop {
-        let moment = if is_complete(&plan) {
-            PHASES
-        } else {
-            plan.phase() as usize
-        };
-        ends[moment].push(place);
+        ends[moment(&plan)].push(place);
         let answer = plan.command(stream, place, &mut [0; Plan::STARTS]);
         if answer.number != 0 {
             break;
@@ -105,10 +100,20 @@ fn cut(random: &mut Random, stream: &[u8]) -> Vec<u8> {
     stream[..random.pick(of_moment)].to_vec()
 }
 
-/// Whether a plan has both orders and has not begun: it would be written, were
-/// there a list.
-fn is_complete(plan: &Plan) -> bool {
-    plan.phase() == Phase::Orders && plan.write(&mut []).number != Refusal::OutOfTurn.number()
+/// The moment of a plan: its phase; and of orders, those by themselves at which
+/// BEGIN is in turn, with both orders and with the activation order alone.
+fn moment(plan: &Plan) -> usize {
+    match (plan.may_begin(), is_whole(plan)) {
+        (true, true) => MOMENTS - 2,
+        (true, false) => MOMENTS - 1,
+        _ => plan.phase() as usize,
+    }
+}
+
+/// Whether both orders of a plan are complete: it would be written, were there a
+/// list.
+pub fn is_whole(plan: &Plan) -> bool {
+    plan.write(&mut []).number != Refusal::OutOfTurn.number()
 }
 
 #[cfg(test)]
@@ -158,14 +163,13 @@ mod tests {
     }
 
     #[test]
-    fn commands_are_cut_in_every_phase() {
+    fn commands_are_cut_at_every_moment() {
         let moments = (0..200).map(|seed| {
             let commands = cut(&mut Random::new(seed), &stream(seed));
-            let plan = led(Plan::new(), &commands);
-            format!("{:?}, {}", plan.phase(), is_complete(&plan))
+            moment(&led(Plan::new(), &commands))
         });
-        let moments: BTreeSet<String> = moments.collect();
-        assert_eq!(moments.len(), PHASES + 1, "{moments:?}");
+        let moments: BTreeSet<usize> = moments.collect();
+        assert_eq!(moments, (0..MOMENTS).collect());
     }
 
     #[test]

@@ -127,7 +127,7 @@ impl<P: Kept> Pair<P> {
         if self.plan.words() != self.words {
             return Err(self.tell(asking, "words changed while other plans were asked"));
         }
-        let before = self.peer.questions().phase;
+        let before = self.peer.questions();
         let wanted = Outcome::of(&mut self.peer, asking);
         let sides = [Side::Front, Side::Back];
         let bytes = lists.bytes.put(&asking.bytes, random.pick(&sides));
@@ -147,7 +147,7 @@ impl<P: Kept> Pair<P> {
         } else if self.plan.words() != self.words {
             return Err(self.tell(asking, "a refusal changed words of the plan"));
         }
-        tally.add(wanted.answer.number, before, &wanted.questions);
+        tally.add(wanted.answer.number, &before, &wanted.questions);
         self.asked += 1;
         Ok(())
     }

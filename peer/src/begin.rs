@@ -10,9 +10,10 @@ use crate::refusal::Refusal;
 use crate::tree::check_tree;
 
 impl Plan {
-    /// BEGIN books ahead and starts.
+    /// BEGIN books ahead and starts. Where no 04 came, the activation order is
+    /// used for both from now on.
     pub(crate) fn begin(&mut self, starts: &mut [u16]) -> Result<Answer, Refusal> {
-        if self.phase != Phase::Orders || !self.has_both_orders() {
+        if !self.may_begin() {
             return Err(Refusal::OutOfTurn);
         }
         let records = &self.records[..self.tasks];
@@ -23,6 +24,9 @@ impl Plan {
             return Err(Refusal::PeakAboveBound);
         }
         self.phase = Phase::Running;
+        if self.execution.is_empty() {
+            self.execution = self.activation.clone();
+        }
         self.reset_figures(&needs);
         self.activate();
         Ok(Answer {
@@ -30,6 +34,14 @@ impl Plan {
             peak,
             ..Answer::default()
         })
+    }
+
+    /// Whether BEGIN is in turn: in orders, once the activation order is
+    /// complete, and the execution order is complete or has no entry at all.
+    pub fn may_begin(&self) -> bool {
+        self.phase == Phase::Orders
+            && self.is_complete(&self.activation)
+            && (self.execution.is_empty() || self.is_complete(&self.execution))
     }
 
     /// Every task waits and nothing is booked.

@@ -1,7 +1,7 @@
 //! An independent writing of the rules in document 01: the plan, the booking
-//! and the day; and of requests 01 and 02 in document 02: why a step isn't
-//! starting, and a plan written back out. It shares nothing with the tool it is
-//! compared with.
+//! and the day; and of requests 01 to 03 in document 02: why a step isn't
+//! starting, a plan written back out, and a plan without an execution order. It
+//! shares nothing with the tool it is compared with.
 //!
 //! Terms follow research report RR-8966: a step is a task, a station a
 //! processor, the tray places the memory bound, and booked trays are booked

@@ -30,6 +30,10 @@ impl Order {
         self.len
     }
 
+    pub fn is_empty(&self) -> bool {
+        self.len == 0
+    }
+
     /// The tasks in their order.
     pub fn entries(&self) -> &[u16] {
         &self.entries[..self.len]

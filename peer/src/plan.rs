@@ -21,6 +21,7 @@ pub struct Plan {
     pub(crate) given: usize,
     pub(crate) records: [Record; Plan::TASKS],
     pub(crate) activation: Order,
+    /// Given by 04; or, where no 04 came, the activation order from BEGIN on.
     pub(crate) execution: Order,
     pub(crate) figures: [Figures; Plan::TASKS],
     pub(crate) ready: Ready,
@@ -109,8 +110,14 @@ impl Plan {
 
     /// Whether there is a plan and both its orders are complete.
     pub(crate) fn has_both_orders(&self) -> bool {
-        let is_complete = |order: &Order| order.len() == self.tasks;
-        self.phase != Phase::Empty && is_complete(&self.activation) && is_complete(&self.execution)
+        self.phase != Phase::Empty
+            && self.is_complete(&self.activation)
+            && self.is_complete(&self.execution)
+    }
+
+    /// Whether an order of this plan has all n entries.
+    pub(crate) fn is_complete(&self, order: &Order) -> bool {
+        order.len() == self.tasks
     }
 
     fn while_running(&self, figure: u32) -> u32 {

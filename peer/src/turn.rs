@@ -81,7 +81,7 @@ impl Plan {
 
     /// Whether a task may come next in one of the two orders.
     fn check_entry(&self, order: &Order, task: u16) -> Result<(), Refusal> {
-        if self.phase != Phase::Orders || order.len() == self.tasks {
+        if self.phase != Phase::Orders || self.is_complete(order) {
             return Err(Refusal::OutOfTurn);
         }
         self.check_number(task)?;

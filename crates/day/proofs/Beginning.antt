@@ -1,6 +1,6 @@
 -- BEGIN in code: what the survey answers is the ground of the rules, and what it leaves is what preparing the day asks.
 use mathlib.Core.Path.{_≡_, refl, sym, ap, ap₂, subst, _∙_}
-use mathlib.Core.Bool.{Bool, true, false, _&&_}
+use mathlib.Core.Bool.{Bool, true, false, _&&_, _||_}
 use mathlib.Core.Logic.{⊎-elim}
 use mathlib.Core.List.{List}
 use Prim.Native.Nat.{ℕ, _≤_, _<_}
@@ -8,7 +8,7 @@ use native.Mathlib.Omega.{arith}
 use lib.Dec.{eqb, leb}
 use lib.ListN.{length, take}
 use lib.Seq.{getD-take}
-use borrow.Author.Tests.{eqb-true, eq-eqb, le-leb, lt-leb}
+use borrow.Author.Tests.{eq-eqb, le-leb, lt-leb}
 use Rattle.rules.specs.Sums.{only}
 use Rattle.rules.specs.Lists.{at, every, distinct}
 use Rattle.rules.specs.Limits.{leastStarts}
@@ -18,12 +18,13 @@ use Rattle.rules.specs.State.{State}
 use Rattle.rules.specs.Command.{begin}
 use Rattle.rules.specs.Grounds as grounds
 use Rattle.rules.specs.Reachable.{Reachable}
-use Rattle.rules.specs.Obey.{fresh, proceed, obey}
+use Rattle.rules.specs.Obey.{withOrders, completed, fresh, proceed, obey}
 use Rattle.rules.specs.Answer.{accept}
-use Rattle.rules.proofs.Tests.{decide, and-true}
+use Rattle.rules.proofs.Tests.{decide}
+use Rattle.rules.proofs.Completing.{BeginTurn, begin-turn, begin-ground}
 use Rattle.rules.proofs.Formed.{Formed}
 use Rattle.rules.proofs.Reaching.{lives}
-use Rattle.rules.proofs.Judging.{ground-turn, ground-own}
+use Rattle.rules.proofs.Judging.{ground-turn}
 use Rattle.words.specs.Contents.{Contents}
 use Rattle.words.proofs.Contents.{Lengths}
 use Rattle.store.specs.Rows.{activationOf, executionOf}
@@ -76,50 +77,41 @@ module _ (s : State) where
       (let there : orderGround (s .size) (at (s .parents)) (s .activation) ≡ 7 = rw r in absurd (omega arith)))
       (decide (eqb (roots (s .size) (at (s .parents))) 1))
 
+-- the places noted of an order that is whole
+noted-in :
+    (size count : ℕ) (order places : List ℕ)
+    → count ≡ size
+    → Noted size count order places
+    → (e : ℕ)
+    → e < size
+    → at places (at (take size order) e) ≡ e
+noted-in size count order places all noted e h =
+    ap (at places) (getD-take size order e 0 h) ∙ noted .noted e (omega arith)
+
 module _ (c : Contents) (sound : Sound c) (long : Lengths c) where
   turn-is : grounds.inTurn (meaning c) begin ≡ begins c
   unfolding grounds.inTurn begins
   turn-is =
-      ap₂ (λ (a b : ℕ). eqb (c .phase) Phase.orders && eqb a (c .size) && eqb b (c .size)) (ranked-length c sound long) (placed-length c sound long)
+      ap₂ (λ (a b : ℕ). eqb (c .phase) Phase.orders && eqb a (c .size) && (eqb b (c .size) || eqb b 0)) (ranked-length c sound long)
+      (placed-length c sound long)
 
   -- out of turn
   pub begin-late : begins c ≡ false → grounds.ground (meaning c) begin ≡ 3
   begin-late e = ground-turn (meaning c) begin (turn-is ∙ e)
 
-  -- in turn: both orders are whole
-  module _ (reached : Reachable (meaning c)) (turn : begins c ≡ true) where
-    pub whole : Whole c
-    unfolding begins
-    whole =
-        let first = and-true (eqb (c .phase) Phase.orders && eqb (c .ranked) (c .size)) (eqb (c .placed) (c .size)) turn in
-        let second = and-true (eqb (c .phase) Phase.orders) (eqb (c .ranked) (c .size)) (first .0) in
-        let now = eqb-true (c .phase) Phase.orders (second .0) in
-        record {
-          sound = sound;
-          given = omega arith;
-          ranked-all = eqb-true (c .ranked) (c .size) (second .1);
-          placed-all = eqb-true (c .placed) (c .size) (first .1);
-        }
+  pub in-turn : begins c ≡ true → grounds.inTurn (meaning c) begin ≡ true
+  in-turn turn = turn-is ∙ turn
 
-    now : c .phase ≡ Phase.orders
-    unfolding begins
-    now =
-        eqb-true (c .phase) Phase.orders
-        (and-true (eqb (c .phase) Phase.orders) (eqb (c .ranked) (c .size))
-        (and-true (eqb (c .phase) Phase.orders && eqb (c .ranked) (c .size)) (eqb (c .placed) (c .size)) turn .0) .0)
+  -- in turn: the activation order is whole
+  module _ (reached : Reachable (meaning c)) (turn : begins c ≡ true) where
+    ranked-all : c .ranked ≡ c .size
+    ranked-all = sym (ranked-length c sound long) ∙ begin-turn (meaning c) (in-turn turn) .activated
 
     formed : Formed (meaning c)
     formed = lives reached .formed
 
     order-is : meaning c .activation ≡ activationOf c
-    order-is = ap (λ (k : ℕ). take k (c .activation)) (whole .ranked-all)
-
-    execution-is : meaning c .execution ≡ executionOf c
-    execution-is = ap (λ (k : ℕ). take k (c .execution)) (whole .placed-all)
-
-    noted-in : (count : ℕ) (order places : List ℕ) → count ≡ c .size → Noted (c .size) count order places → (e : ℕ) → e < c .size → at places (at (take (c .size) order) e) ≡ e
-    noted-in count order places all noted e h =
-        ap (at places) (getD-take (c .size) order e 0 h) ∙ noted .noted e (omega arith)
+    order-is = ap (λ (k : ℕ). take k (c .activation)) ranked-all
 
     -- what the survey asks
     pub may-survey : Ordered c
@@ -130,23 +122,13 @@ module _ (c : Contents) (sound : Sound c) (long : Lengths c) where
               record {
                 inside = subst (λ (l : List ℕ). every (λ i. grounds.within i (c .size)) l ≡ true) order-is (formed .activation-inside);
                 once = subst (λ (l : List ℕ). distinct l ≡ true) order-is (formed .activation-once);
-                whole = ap length (sym order-is) ∙ ranked-length c sound long ∙ whole .ranked-all;
-                placed = noted-in (c .ranked) (c .activation) (c .ranks) (whole .ranked-all) (sound .activation);
+                whole = ap length (sym order-is) ∙ ranked-length c sound long ∙ ranked-all;
+                placed = noted-in (c .size) (c .ranked) (c .activation) (c .ranks) ranked-all (sound .activation);
               };
         }
 
-    is-placed : Placed (c .size) (executionOf c) (at (c .places))
-    is-placed =
-        record {
-          inside = subst (λ (l : List ℕ). every (λ i. grounds.within i (c .size)) l ≡ true) execution-is (formed .execution-inside);
-          once = subst (λ (l : List ℕ). distinct l ≡ true) execution-is (formed .execution-once);
-          whole = ap length (sym execution-is) ∙ placed-length c sound long ∙ whole .placed-all;
-          placed = noted-in (c .placed) (c .execution) (c .places) (whole .placed-all) (sound .execution);
-        }
-
     own : grounds.ground (meaning c) begin ≡ grounds.ownGround (meaning c) begin
-    unfolding grounds.inLimits
-    own = ground-own (meaning c) begin (turn-is ∙ turn) refl
+    own = begin-ground (meaning c) (in-turn turn)
 
     ground-is : orderGround (c .size) (at (meaning c .parents)) (meaning c .activation) ≡ groundOf c
     ground-is =
@@ -166,6 +148,10 @@ module _ (c : Contents) (sound : Sound c) (long : Lengths c) where
       surveyed-refused some = own ∙ begin-refused (meaning c) number (ground-is ∙ sym is-number) some
 
       module _ (fine : number ≡ 0) where
+        -- no ground against the activation order
+        pub no-order-ground : orderGround (c .size) (at (meaning c .parents)) (meaning c .activation) ≡ 0
+        no-order-ground = ground-is ∙ sym is-number ∙ fine
+
         -- the peak
         pub high-is : high ≡ grounds.peakOf (meaning c)
         high-is =
@@ -177,7 +163,7 @@ module _ (c : Contents) (sound : Sound c) (long : Lengths c) where
             ∙ sym peak-is
 
         weighed : grounds.ground (meaning c) begin ≡ grounds.demand (leb (grounds.peakOf (meaning c)) (c .chilled .bound)) 9 0
-        weighed = own ∙ begin-weighed (meaning c) (ground-is ∙ sym is-number ∙ fine)
+        weighed = own ∙ begin-weighed (meaning c) no-order-ground
 
         -- 9
         pub too-high : c .chilled .bound < high → grounds.ground (meaning c) begin ≡ 9
@@ -193,55 +179,113 @@ module _ (c : Contents) (sound : Sound c) (long : Lengths c) where
             ∙ ap (λ (b : Bool). grounds.demand b 9 0)
             (le-leb (grounds.peakOf (meaning c)) (c .chilled .bound) (let e = high-is in omega arith))
 
-        given-past : (l : List ℕ) → Unused (c .given) l → (a : ℕ) → c .size < a → at l a ≡ 0
-        given-past l unused a h = unused .later a (let g = sound .given .whole (whole .given) in omega arith)
+-- the plan that BEGIN goes on with: c as it was found, and d completed
+module _ (c : Contents) {d : Contents} (sound : Sound d) (long : Lengths d) (reached : Reachable (meaning d))
+    (means : meaning d ≡ completed (meaning c)) (turn : grounds.inTurn (meaning c) begin ≡ true) where
+  begun : BeginTurn (meaning c)
+  begun = begin-turn (meaning c) turn
 
-        -- what the day asks
-        pub may-begin : (list : List ℕ) → leastStarts ≤ length list → MayBegin c list
-        may-begin list room =
-            record {
-              may =
-                  record {
-                    long = sound .long;
-                    small = sound .small;
-                    bounded = sound .bounded;
-                    parents = parents-small c sound reached;
-                    works =
-                        record {
-                          light = λ i. sound .light i .0;
-                          nobody = sound .works .nobody;
-                          past = given-past (c .chilled .works) (sound .works);
-                        };
-                    outs =
-                        record {
-                          light = λ i. sound .light i .1;
-                          nobody = sound .outs .nobody;
-                          past = given-past (c .chilled .outs) (sound .outs);
-                        };
-                    valid =
-                        surveying.no-ground (c .size) (at (c .parents)) (at (c .ranks)) (activationOf c) (may-survey .parented)
-                        (may-survey .ranked) (sym is-number ∙ fine);
-                    placed = is-placed;
-                    rest = sound .rest (let e = now in omega arith);
-                  };
-              few = sound .few;
-              room = room;
-            }
+  waits : d .phase ≡ Phase.orders
+  unfolding completed withOrders
+  waits = ap (λ (t : State). t .phase) means ∙ begun .now
 
-        -- all that the caller of BEGIN receives
-        module _ {c′ : Contents} {list list′ : List ℕ} {count : ℕ} (b : Begun c c′ list list′ count) where
-          pub begin-answers :
-              (used : ℕ)
-              → record {
-                answer = record { number = 0; used = used; starts = count; peak = high; offers = 0 };
-                state = meaning c′;
-                list = list′;
-              }
-              ≡ accept (obey (meaning c) begin) used list
-          unfolding obey
-          begin-answers used =
-              same whole b (omega arith) used high 0
-              ∙ ap (λ (v : ℕ). accept (proceed (meaning c) Phase.running (fresh (c .size)) v 0) used list) high-is
+  whole : Whole d
+  unfolding completed withOrders
+  whole =
+      let now = waits in
+      let size : c .size ≡ d .size = sym (ap (λ (t : State). t .size) means) in
+      record {
+        sound = sound;
+        given = omega arith;
+        ranked-all = sym (ranked-length d sound long) ∙ ap (λ (t : State). length (t .activation)) means ∙ begun .activated ∙ size;
+        placed-all = sym (placed-length d sound long) ∙ ap (λ (t : State). length (t .execution)) means ∙ begun .executed ∙ size;
+      }
 
-          pub begin-sound : Sound c′
-          begin-sound = sound-then whole b (omega arith) (omega arith)
+  in-turn-then : begins d ≡ true
+  unfolding begins
+  in-turn-then =
+      rw (
+        eq-eqb (d .phase) Phase.orders waits,
+        eq-eqb (d .ranked) (d .size) (whole .ranked-all),
+        eq-eqb (d .placed) (d .size) (whole .placed-all),
+      )
+
+  formed-then : Formed (meaning d)
+  formed-then = lives reached .formed
+
+  execution-is : meaning d .execution ≡ executionOf d
+  execution-is = ap (λ (k : ℕ). take k (d .execution)) (whole .placed-all)
+
+  is-placed : Placed (d .size) (executionOf d) (at (d .places))
+  is-placed =
+      record {
+        inside = subst (λ (l : List ℕ). every (λ i. grounds.within i (d .size)) l ≡ true) execution-is (formed-then .execution-inside);
+        once = subst (λ (l : List ℕ). distinct l ≡ true) execution-is (formed-then .execution-once);
+        whole = ap length (sym execution-is) ∙ placed-length d sound long ∙ whole .placed-all;
+        placed = noted-in (d .size) (d .placed) (d .execution) (d .places) (whole .placed-all) (sound .execution);
+      }
+
+  given-past : (l : List ℕ) → Unused (d .given) l → (a : ℕ) → d .size < a → at l a ≡ 0
+  given-past l unused a h = unused .later a (let g = sound .given .whole (whole .given) in omega arith)
+
+  module _ (fine : orderGround (c .size) (at (meaning c .parents)) (meaning c .activation) ≡ 0) where
+    -- no ground has come with the execution order
+    fine-then : groundOf d ≡ 0
+    unfolding completed withOrders
+    fine-then =
+        sym (ground-is d sound long reached in-turn-then)
+        ∙ ap (λ (t : State). orderGround (t .size) (at (t .parents)) (t .activation)) means
+        ∙ fine
+
+    -- what the day asks
+    pub may-begin : (list : List ℕ) → leastStarts ≤ length list → MayBegin d list
+    may-begin list room =
+        let surveyed = may-survey d sound long reached in-turn-then in
+        record {
+          may =
+              record {
+                long = sound .long;
+                small = sound .small;
+                bounded = sound .bounded;
+                parents = parents-small d sound reached;
+                works =
+                    record {
+                      light = λ i. sound .light i .0;
+                      nobody = sound .works .nobody;
+                      past = given-past (d .chilled .works) (sound .works);
+                    };
+                outs =
+                    record {
+                      light = λ i. sound .light i .1;
+                      nobody = sound .outs .nobody;
+                      past = given-past (d .chilled .outs) (sound .outs);
+                    };
+                valid =
+                    surveying.no-ground (d .size) (at (d .parents)) (at (d .ranks)) (activationOf d) (surveyed .parented)
+                    (surveyed .ranked) fine-then;
+                placed = is-placed;
+                rest = sound .rest (let e = waits in omega arith);
+              };
+          few = sound .few;
+          room = room;
+        }
+
+  -- all that the caller of BEGIN receives
+  module _ {c′ : Contents} {list list′ : List ℕ} {count : ℕ} (b : Begun d c′ list list′ count) where
+    pub begin-answers :
+        {high : ℕ}
+        → high ≡ grounds.peakOf (meaning c)
+        → (used : ℕ)
+        → record {
+          answer = record { number = 0; used = used; starts = count; peak = high; offers = 0 };
+          state = meaning c′;
+          list = list′;
+        }
+        ≡ accept (obey (meaning c) begin) used list
+    unfolding obey completed withOrders
+    begin-answers {high} high-is used =
+        same whole b (omega arith) used high 0
+        ∙ ap₂ (λ (t : State) (v : ℕ). accept (proceed t Phase.running (fresh (t .size)) v 0) used list) means high-is
+
+    pub begin-sound : Sound c′
+    begin-sound = sound-then whole b (omega arith) (omega arith)

@@ -1,6 +1,6 @@
 -- What BEGIN and DONE ask and leave of the contents of a plan.
 use mathlib.Core.Path.{_≡_}
-use mathlib.Core.Bool.{Bool, cond, _&&_}
+use mathlib.Core.Bool.{Bool, cond, _&&_, _||_}
 use mathlib.Core.List.{List}
 use Prim.Native.Nat.{ℕ, _≤_}
 use lib.Dec.{eqb}
@@ -17,9 +17,10 @@ use Rattle.survey.specs.Prepare.{MayPrepare}
 use Rattle.dispatch.specs.Finished.{MayFinish, Finished}
 use Rattle.day.specs.Advanced.{Advanced}
 
--- "BEGIN is in turn in orders once both orders have n entries"
+-- "BEGIN is in turn in orders once both orders have n entries", or "with a full activation order and no 04 at all"
 unfoldable pub begins : Contents → Bool
-begins c = eqb (c .phase) Phase.orders && eqb (c .ranked) (c .size) && eqb (c .placed) (c .size)
+begins c =
+    eqb (c .phase) Phase.orders && eqb (c .ranked) (c .size) && (eqb (c .placed) (c .size) || eqb (c .placed) 0)
 
 -- what is given of a plan, which no day changes
 pub record SameTasks (c c′ : Contents) : Type 0 where

@@ -11,11 +11,12 @@ use crate::advance::advance;
 use answer::Answer;
 use cells::cell;
 use cells::set_cell;
+use ordering::complete;
 use survey::prepare;
 use survey::survey;
 use words::plan::Plan;
 
-// Whether both orders are whole and the plan waits for its BEGIN.
+// Whether the plan waits for its BEGIN: both orders are whole, or the activation order alone is given.
 fn is_in_turn(plan: &[u32; Plan::WORDS]) -> bool
     ensures { λ r. ⌜ r ≡ begins (contents (now (plan .entry))) ⌝ }
 {
@@ -26,7 +27,11 @@ fn is_in_turn(plan: &[u32; Plan::WORDS]) -> bool
     if cell(plan, Plan::HEAD, Plan::RANKED) != size {
         return false;
     }
-    cell(plan, Plan::HEAD, Plan::PLACED) == size
+    let placed = cell(plan, Plan::HEAD, Plan::PLACED);
+    if placed == 0 {
+        return true;
+    }
+    placed == size
 }
 
 // The day begins: booking ahead and starting follow.
@@ -55,6 +60,7 @@ pub fn begin(plan: &mut [u32; Plan::WORDS], used: usize, starts: &mut [u16]) -> 
     if (bound as u64) < surveyed.peak {
         return Answer::refused(9);
     }
+    complete(plan);
     let started = start_day(plan, starts);
     Answer {
         number: 0,

@@ -17,6 +17,7 @@ use Rattle.rules.specs.Reasons.{ReasonHolds}
 use Rattle.rules.specs.Write.{Wrote, write}
 use Rattle.rules.specs.Restored.{WriteHolds}
 use Rattle.rules.specs.Day as days
+use Rattle.rules.specs.Obey.{completed}
 use Rattle.rules.specs.Theorem.{DayHolds, OrdersHold, SamePlan}
 use Rattle.rules.proofs.Reasons.{every-reason-holds}
 use Rattle.rules.proofs.Written.{every-write-holds}
@@ -167,7 +168,7 @@ module _ {w : List ℕ} (new : NewPlan w) (earlier : List Call) (opening : Call)
             subst (λ (s : State). OrdersHold s) (sym stands)
             (theorem .orders (asked earlier) (opening .asking) (asked later) begins none-next);
         plan =
-            subst₂ (λ (s t : State). SamePlan s t) (sym found) (sym stands)
+            subst₂ (λ (s t : State). SamePlan (completed s) t) (sym found) (sym stands)
             (theorem .plans (asked earlier) (opening .asking) (asked later) begins none-next);
         places =
             subst₂ (λ (s t : State). t .chilled .bound ≡ s .chilled .bound) (sym found) (sym stands)

@@ -18,6 +18,7 @@ use Rattle.rules.specs.Instance.{instanceOf, unbegun}
 use Rattle.rules.specs.Write.{write}
 use Rattle.rules.specs.Restored.{WriteHolds}
 use Rattle.rules.specs.Day.{Event, ends, after, answers}
+use Rattle.rules.specs.Obey.{completed}
 use Rattle.rules.specs.Theorem.{DayHolds, OrdersHold, SamePlan, runs, usedBy}
 use Rattle.answer.specs.Meaning.{planOf}
 use Rattle.answer.specs.ValidPlan.{ValidPlan, NewPlan}
@@ -55,8 +56,8 @@ pub record DayOfCalls (w w′ : List ℕ) (happened : List Event) : Type 0 where
   -- all that the rules promise of a day holds of the plan and of what happened
   pub day : DayHolds (planOf w′) happened
   pub orders : OrdersHold (planOf w′)
-  -- the plan is the one that BEGIN found, with its places
-  pub plan : SamePlan (planOf w) (planOf w′)
+  -- the plan is the one that BEGIN found, with the activation order used for both where no 04 was given, and with its places
+  pub plan : SamePlan (completed (planOf w)) (planOf w′)
   pub places : planOf w′ .chilled .bound ≡ planOf w .chilled .bound
   -- and the questions answer what is promised of them in a day
   pub questions : (q : Answers w′) → AnswersHold w′ happened q

@@ -229,7 +229,7 @@ module _ (w : List ℕ) (sound : Sound (contents w)) (i : ℕ) where
       ∙ ap (λ (d : Contents). withHead 4 (count + 1) (withCell 1 i count d))
       (contents-activation w (sound .long) count i (omega arith))
 
-  placing-contents :
+  pub placing-contents :
       Allowed (contents w .phase) (contents w .size) (contents w .execution) (contents w .placed) i
       → contents (appendedTo 8 executionBase 2 w i) ≡ placing (contents w) i
   unfolding contents

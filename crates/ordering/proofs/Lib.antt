@@ -2,3 +2,4 @@
 pub mod Placing
 pub mod Ordering
 pub mod Appending
+pub mod Copying

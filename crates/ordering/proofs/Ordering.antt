@@ -17,7 +17,7 @@ use Rattle.words.specs.Views.{column, part}
 use Rattle.words.proofs.Views.{column-at, part-at}
 use Rattle.words.specs.Contents.{headWord}
 use Rattle.answer.specs.declared.Answer.{Answer}
-use Rattle.ordering.specs.Order.{nextGround, groundAt, Sought, OrderAt, Appended}
+use Rattle.ordering.specs.Order.{nextGround, groundAt, Sought, OrderAt, MayAppend, appendedTo, Appended}
 use Rattle.ordering.proofs.Placing.{Listed, seen, unseen}
 
 module _ {base k count task : ℕ} {w : List ℕ} (s : Sought base k count task w) where
@@ -163,27 +163,31 @@ module _ {counted base k task : ℕ} {w : List ℕ} (o : OrderAt counted base k 
         accepted = λ z. absurd (d (is-ground ∙ z));
       }
 
-  pub append-allowed : ground ≡ 0 → Allowed (headWord 0 w) (headWord 1 w) (part base entries w) (headWord counted w) task
-  append-allowed z =
-      allowed (headWord 0 w) (headWord 1 w) (part base entries w) (headWord counted w) task (sym is-ground ∙ z)
+  pub append-may : ground ≡ 0 → MayAppend counted base k task w
+  append-may z =
+      let allow = allowed (headWord 0 w) (headWord 1 w) (part base entries w) (headWord counted w) task (sym is-ground ∙ z) in
+      let room = allow .room in
+      let high = allow .high in
+      let small = o .small in
+      record { counted-in = o .counted-in; base-in = o .base-in; k-in = o .k-in; room = omega arith; within = omega arith }
 
   pub append-accepted :
-      {a : Answer} {used count : ℕ} {w₁ w₂ w₃ : List ℕ}
+      {a : Answer} {used : ℕ} {w′ : List ℕ}
       → ground ≡ 0
-      → count ≡ headWord counted w
-      → w₁ ≡ set w (base + count) task
-      → w₂ ≡ set w₁ (row * task + k) count
-      → w₃ ≡ set w₂ (headBase + counted) (count + 1)
+      → w′ ≡ appendedTo counted base k w task
       → a ≡ record { number = 0; used = used; starts = 0; peak = 0; offers = 0 }
-      → Appended counted base k task used w a w₃
-  append-accepted {count = count} z is-count one two three e =
-      record {
-        refused = λ d. absurd (d (sym is-ground ∙ z));
-        accepted =
-            λ _. (
-              e,
-              three
-                  ∙ ap (λ (v : List ℕ). set v (headBase + counted) (count + 1)) (two ∙ ap (λ (v : List ℕ). set v (row * task + k) count) one)
-                  ∙ ap (λ (c : ℕ). set (set (set w (base + c) task) (row * task + k) c) (headBase + counted) (c + 1)) is-count,
-            );
-      }
+      → Appended counted base k task used w a w′
+  append-accepted z wrote e = record { refused = λ d. absurd (d (sym is-ground ∙ z)); accepted = λ _. (e, wrote) }
+
+-- the three words of one task more
+pub next-written :
+    (counted base k task : ℕ) {count : ℕ} (w : List ℕ) {w₁ w₂ w₃ : List ℕ}
+    → count ≡ headWord counted w
+    → w₁ ≡ set w (base + count) task
+    → w₂ ≡ set w₁ (row * task + k) count
+    → w₃ ≡ set w₂ (headBase + counted) (count + 1)
+    → w₃ ≡ appendedTo counted base k w task
+next-written counted base k task {count} w is-count one two three =
+    three
+    ∙ ap (λ (v : List ℕ). set v (headBase + counted) (count + 1)) (two ∙ ap (λ (v : List ℕ). set v (row * task + k) count) one)
+    ∙ ap (λ (c : ℕ). set (set (set w (base + c) task) (row * task + k) c) (headBase + counted) (c + 1)) is-count

@@ -10,7 +10,7 @@ use Rattle.rules.specs.Sums.{Task}
 use Rattle.rules.specs.Limits.{maxTasks}
 use Rattle.rules.specs.Phase
 use Rattle.rules.specs.Grounds.{within, demand}
-use Rattle.words.specs.Layout.{row, words, headBase, entries}
+use Rattle.words.specs.Layout.{row, rows, words, headBase, entries}
 use Rattle.words.specs.Views.{column, part}
 use Rattle.words.specs.Contents.{headWord}
 use Rattle.answer.specs.declared.Answer.{Answer}
@@ -41,6 +41,14 @@ pub record Sought (base k count task : ℕ) (w : List ℕ) : Type 0 where
 abbrev pub groundAt : (counted base : ℕ) (w : List ℕ) (task : ℕ) → ℕ
 groundAt counted base w task =
     nextGround (headWord 0 w) (headWord 1 w) (part base entries w) (headWord counted w) task
+
+-- what is asked where one task more is written
+pub record MayAppend (counted base k task : ℕ) (w : List ℕ) : Type 0 where
+  pub counted-in : counted < row
+  pub base-in : base + entries ≤ words
+  pub k-in : k < row
+  pub room : headWord counted w < entries
+  pub within : task < rows
 
 -- the words with one task more in it
 abbrev pub appendedTo : (counted base k : ℕ) (w : List ℕ) (task : ℕ) → List ℕ

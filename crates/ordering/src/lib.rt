@@ -1,12 +1,18 @@
-// 03 and 04: the next task in the activation order, and in the execution order.
+// 03 and 04: the next task in the activation order, and in the execution order; and the execution order that BEGIN
+// makes where no 04 was given.
 ghost use mathlib.Core.Path.{_≡_};
+ghost use mathlib.Core.Bool.{true};
 ghost use lib.ListN.{take};
 ghost use Rattle.rules.specs.Lists.{mem};
 ghost use Rattle.words.specs.Layout.{entries};
 ghost use Rattle.words.specs.Views.{column, part};
 ghost use Rattle.rules.specs.Command as rules;
+ghost use Rattle.rules.specs.Grounds.{inTurn};
+ghost use Rattle.rules.specs.OneOrder.{oneOrder};
+ghost use Rattle.answer.specs.Meaning.{planOf};
 ghost use Rattle.answer.specs.ValidPlan.{ValidPlan, Obeyed};
-ghost use Rattle.ordering.specs.Order.{Sought, OrderAt, groundAt, Appended};
+ghost use Rattle.ordering.specs.Order.{Sought, OrderAt, groundAt, MayAppend, appendedTo, Appended};
+ghost use Rattle.ordering.specs.Completed.{Completed};
 use answer::Answer;
 use cells::cell;
 use cells::entry;
@@ -63,6 +69,17 @@ fn next_ground(
 }
 
 // One task more in an order, with its place.
+fn write_next(plan: &mut [u32; Plan::WORDS], counted: usize, base: usize, column: usize, task: u32)
+    requires { ⌜ MayAppend counted base column task (now plan) ⌝ }
+    ensures { λ _. ⌜ now (plan .exit) ≡ appendedTo counted base column (now (plan .entry)) task ⌝ }
+{
+    let count = cell(plan, Plan::HEAD, counted);
+    set_entry(plan, base, count as usize, task);
+    set_cell(plan, task as usize, column, count);
+    set_cell(plan, Plan::HEAD, counted, count + 1);
+}
+
+// The next task in an order, where no ground refuses it.
 fn append(
     plan: &mut [u32; Plan::WORDS],
     counted: usize,
@@ -78,10 +95,7 @@ fn append(
     if ground != 0 {
         return Answer::refused(ground);
     }
-    let count = cell(plan, Plan::HEAD, counted);
-    set_entry(plan, base, count as usize, task as u32);
-    set_cell(plan, task as usize, column, count);
-    set_cell(plan, Plan::HEAD, counted, count + 1);
+    write_next(plan, counted, base, column, task as u32);
     Answer::plain(used)
 }
 
@@ -97,4 +111,28 @@ pub fn place(plan: &mut [u32; Plan::WORDS], task: u16, used: usize) -> Answer
     ensures { λ r. ⌜ Obeyed (now (plan .entry)) (rules.execution task) used r (now (plan .exit)) ⌝ }
 {
     append(plan, Plan::PLACED, Plan::EXECUTION, Plan::PLACE, task, used)
+}
+
+// 04 for each entry of the activation order.
+fn copy_activation(plan: &mut [u32; Plan::WORDS])
+    requires { ⌜ ValidPlan (now plan) × (oneOrder (planOf (now plan)) ≡ true) ⌝ }
+    ensures { λ _. ⌜ Completed (now (plan .entry)) (now (plan .exit)) ⌝ }
+{
+    let n = cell(plan, Plan::HEAD, Plan::SIZE) as usize;
+    let mut k = 0;
+    while k < n {
+        let task = entry(plan, Plan::ACTIVATION, k);
+        write_next(plan, Plan::PLACED, Plan::EXECUTION, Plan::PLACE, task);
+        k += 1;
+    }
+}
+
+// What BEGIN goes on with: "the activation order used for both" where no 04 was given.
+pub fn complete(plan: &mut [u32; Plan::WORDS])
+    requires { ⌜ ValidPlan (now plan) × (inTurn (planOf (now plan)) rules.begin ≡ true) ⌝ }
+    ensures { λ _. ⌜ Completed (now (plan .entry)) (now (plan .exit)) ⌝ }
+{
+    if cell(plan, Plan::HEAD, Plan::PLACED) == 0 {
+        copy_activation(plan);
+    }
 }

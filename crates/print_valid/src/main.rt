@@ -1,4 +1,4 @@
-// The day printer on the stream that the peer makes of seed 582: five plans, one after another.
+// The day printer on five plans, one after another.
 fn main() {
     pump::run();
 }

@@ -9,12 +9,12 @@ use Rattle.rules.specs.Lists.{at}
 use Rattle.rules.specs.State.{State}
 use Rattle.rules.specs.Command.{Command, plan, task, activation, execution, begin, done}
 use Rattle.rules.specs.Booking.{Books, free}
-use Rattle.rules.specs.Obey.{ahead, begun, proceed, obey}
+use Rattle.rules.specs.Obey.{withOrders, completed, ahead, begun, proceed, obey}
 use Rattle.rules.specs.Answer.{Asking, Answered, refuse, front, accept, command}
 use Rattle.rules.specs.Theorem.{AskingHolds}
 use Rattle.rules.proofs.Tests.{clash}
 use Rattle.rules.proofs.Starts.{starts-length}
-use Rattle.rules.proofs.Formed.{Formed}
+use Rattle.rules.proofs.Formed.{Formed, completed-formed}
 use Rattle.rules.proofs.Steps.{Refused, Obeyed, Step, is-refused, is-obeyed, step}
 
 -- no more tasks start than there are processors
@@ -31,12 +31,12 @@ proceed-few s phase k peak offers h =
     omega arith
 
 obey-few : (s : State) (c : Command) → Formed s → length (obey s c .started) ≤ s .processors
-unfolding obey
+unfolding obey completed withOrders
 obey-few s (plan n p bound) h = omega arith
 obey-few s (task parent work out) h = omega arith
 obey-few s (activation i) h = omega arith
 obey-few s (execution i) h = omega arith
-obey-few s begin h = proceed-few s _ _ _ _ h
+obey-few s begin h = proceed-few (completed s) _ _ _ _ (completed-formed s h)
 obey-few s (done j) h = proceed-few s _ _ _ _ h
 
 -- starts that fit leave a list as long as it was

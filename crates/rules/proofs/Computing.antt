@@ -50,6 +50,8 @@ use Rattle.rules.specs.Obey.{
   opened,
   withTask,
   withOrders,
+  executionOrder,
+  completed,
   withBooks,
   ahead,
   begun,
@@ -145,6 +147,8 @@ unfolding
     opened
     withTask
     withOrders
+    executionOrder
+    completed
     withBooks
     ahead
     begun

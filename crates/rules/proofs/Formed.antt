@@ -15,9 +15,10 @@ use Rattle.rules.specs.Phase
 use Rattle.rules.specs.State.{State, none}
 use Rattle.rules.specs.Command.{Command, plan, task, activation, execution, begin, done}
 use Rattle.rules.specs.Grounds.{inTurn, inLimits, within, demand, ownGround, ground}
-use Rattle.rules.specs.Obey.{opened, withTask, withOrders, withBooks, proceed, phaseAfter, obey}
+use Rattle.rules.specs.Obey.{opened, withTask, withOrders, completed, withBooks, proceed, phaseAfter, obey}
 use Rattle.rules.proofs.Tests.{and-true, same-or-not}
 use Rattle.rules.proofs.Orders.{within-task, every-snoc, distinct-snoc}
+use Rattle.rules.proofs.Completing.{either-order, begin-turn}
 
 -- no ground is left where a test holds and none of those behind it
 pub demand-none : (t : Bool) (k rest : ℕ) → (k ≡ 0 → ⊥) → demand t k rest ≡ 0 → (t ≡ true) × (rest ≡ 0)
@@ -176,9 +177,61 @@ task-columns s parent work out steps h =
       whole = λ e. (let all = task-last given (s .size) e in simp length-append (omega arith));
     }
 
+-- an order as far as it is given
+record Listed (n : ℕ) (l : List ℕ) : Type 0 where
+  inside : every (λ i. within i n) l ≡ true
+  once : distinct l ≡ true
+
+-- other orders
+with-orders-formed :
+    (s : State) {act exec : List ℕ} → Listed (s .size) act → Listed (s .size) exec → Formed s → Formed (withOrders s act exec)
+unfolding withOrders
+with-orders-formed s act exec h =
+    record {
+      sized = h .sized;
+      parents = h .parents;
+      light = h .light;
+      bounded = h .bounded;
+      columns =
+          record {
+            works-long = h .columns .works-long;
+            outs-long = h .columns .outs-long;
+            nobody = h .columns .nobody;
+            in-steps = h .columns .in-steps;
+            whole = h .columns .whole;
+          };
+      activation-inside = act .inside;
+      activation-once = act .once;
+      execution-inside = exec .inside;
+      execution-once = exec .once;
+      staffed = h .staffed;
+      limited = h .limited;
+    }
+
+-- 03 and 04 add an entry
+one-more :
+    (s : State) (l : List ℕ) (i : ℕ)
+    → Listed (s .size) l
+    → within i (s .size) ≡ true
+    → demand (not (mem i l)) 5 0 ≡ 0
+    → Listed (s .size) (l ++ (i ∷ []))
+one-more s l i h limits own =
+    record {
+      inside = every-snoc (λ k. within k (s .size)) l i (h .inside) limits;
+      once = distinct-snoc l i (h .once) (new-entry i l own);
+    }
+
+-- BEGIN completes them
+pub completed-formed : (s : State) → Formed s → Formed (completed s)
+unfolding completed
+completed-formed s h =
+    let act : Listed (s .size) (s .activation) = record { inside = h .activation-inside; once = h .activation-once } in
+    with-orders-formed s act
+    (either-order (Listed (s .size)) s (λ _. act) (λ _. record { inside = h .execution-inside; once = h .execution-once })) h
+
 -- an accepted command keeps it
 pub obey-formed : (s : State) (c : Command) → Accepted s c → Formed s → Formed (obey s c .state)
-unfolding obey opened withTask withOrders inTurn inLimits ownGround every distinct proceed
+unfolding obey opened withTask withOrders completed inTurn inLimits ownGround every distinct proceed
 obey-formed s (plan n p bound) a h =
     let limits = and-true (within n maxTasks && within p maxProcessors) (leb bound maxBound) (a .limits) in
     let both = and-true (within n maxTasks) (within p maxProcessors) (limits .0) in
@@ -224,52 +277,15 @@ obey-formed s (task parent work out) a h =
       limited = h .limited;
     }
 obey-formed s (activation i) a h =
-    record {
-      sized = h .sized;
-      parents = h .parents;
-      light = h .light;
-      bounded = h .bounded;
-      columns =
-          record {
-            works-long = h .columns .works-long;
-            outs-long = h .columns .outs-long;
-            nobody = h .columns .nobody;
-            in-steps = h .columns .in-steps;
-            whole = h .columns .whole;
-          };
-      activation-inside = every-snoc (λ k. within k (s .size)) (s .activation) i (h .activation-inside) (a .limits);
-      activation-once = distinct-snoc (s .activation) i (h .activation-once) (new-entry i (s .activation) (a .own));
-      execution-inside = h .execution-inside;
-      execution-once = h .execution-once;
-      staffed = h .staffed;
-      limited = h .limited;
-    }
+    with-orders-formed s
+    (one-more s (s .activation) i (record { inside = h .activation-inside; once = h .activation-once }) (a .limits) (a .own))
+    (record { inside = h .execution-inside; once = h .execution-once }) h
 obey-formed s (execution i) a h =
-    record {
-      sized = h .sized;
-      parents = h .parents;
-      light = h .light;
-      bounded = h .bounded;
-      columns =
-          record {
-            works-long = h .columns .works-long;
-            outs-long = h .columns .outs-long;
-            nobody = h .columns .nobody;
-            in-steps = h .columns .in-steps;
-            whole = h .columns .whole;
-          };
-      activation-inside = h .activation-inside;
-      activation-once = h .activation-once;
-      execution-inside = every-snoc (λ k. within k (s .size)) (s .execution) i (h .execution-inside) (a .limits);
-      execution-once = distinct-snoc (s .execution) i (h .execution-once) (new-entry i (s .execution) (a .own));
-      staffed = h .staffed;
-      limited = h .limited;
-    }
+    with-orders-formed s (record { inside = h .activation-inside; once = h .activation-once })
+    (one-more s (s .execution) i (record { inside = h .execution-inside; once = h .execution-once }) (a .limits) (a .own)) h
 obey-formed s begin a h =
-    let ph = and-true (eqb (s .phase) Phase.orders && eqb (length (s .activation)) (s .size)) (eqb (length (s .execution)) (s .size)) (a .turn) in
-    let or = and-true (eqb (s .phase) Phase.orders) (eqb (length (s .activation)) (s .size)) (ph .0) in
-    let now = eqb-true (s .phase) Phase.orders (or .0) in
-    with-books-formed s _ _ _ (h .staffed (λ e. omega arith)) (omega arith) (omega arith) h
+    let now = begin-turn s (a .turn) .now in
+    with-books-formed (completed s) _ _ _ (h .staffed (λ e. omega arith)) (omega arith) (omega arith) (completed-formed s h)
 obey-formed s (done j) a h =
     let now = eqb-true (s .phase) Phase.running (a .turn) in
     with-books-formed s _ _ _ (h .staffed (λ e. omega arith)) (omega arith) (let after = after-report s j in omega arith) h

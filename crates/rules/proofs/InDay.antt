@@ -1,6 +1,5 @@
 -- A plan in its day: what holds after an accepted BEGIN and after each accepted DONE.
 use mathlib.Core.Path.{_≡_, refl, sym, _∙_}
-use mathlib.Core.Bool.{_&&_}
 use mathlib.Core.List.{List, _++_, map}
 use Prim.Native.Nat.{ℕ, suc, _≤_}
 use native.Mathlib.Omega.{arith}
@@ -15,22 +14,22 @@ use Rattle.rules.specs.Phase
 use Rattle.rules.specs.Standing.{waiting, running, finished, count}
 use Rattle.rules.specs.State.{Store, State, needsIn, needs}
 use Rattle.rules.specs.Command.{begin}
-use Rattle.rules.specs.Grounds.{inTurn, demand, peakOf, ownGround}
+use Rattle.rules.specs.Grounds.{demand, peakOf, ownGround}
 use Rattle.rules.specs.Booking.{Books, total}
-use Rattle.rules.specs.Obey.{withBooks, booksOf, ahead, begun, proceed, fresh}
+use Rattle.rules.specs.Obey.{withOrders, completed, withBooks, booksOf, ahead, begun, proceed, fresh}
 use Rattle.rules.specs.Day.{Event, started}
 use Rattle.rules.specs.Theorem.{OrdersHold}
 use Rattle.rules.specs.Invariant.{Valid, rankIn, Tree, Roomy, arrived, Stocked, Good}
-use Rattle.rules.proofs.Tests.{and-true}
 use Rattle.rules.proofs.Sums.{Task, sum-zero, count-none, only-false}
 use Rattle.rules.proofs.Orders.{each-once}
 use Rattle.rules.proofs.Ranks.{tree-of}
 use Rattle.rules.proofs.Children.{children-zero}
 use Rattle.rules.proofs.Course.{Settled, Coursed, coursed}
 use Rattle.rules.proofs.Log.{Logged, InOrder}
-use Rattle.rules.proofs.Formed.{Formed, Accepted, demand-none, with-books-formed}
+use Rattle.rules.proofs.Completing.{begin-turn}
+use Rattle.rules.proofs.Formed.{Formed, Accepted, demand-none, with-books-formed, completed-formed}
 
--- the plan as BEGIN found it in order, and the bound in force above its peak
+-- the plan as BEGIN found it in order and completed it, and the bound in force above its peak
 pub record Planned (s : State) : Type 0 where
   pub formed : Formed s
   pub given : Phase.orders ≤ s .phase
@@ -129,14 +128,11 @@ fresh-idle n =
     (λ i t. let z = fresh-at n i t in ne-eqb (at (replicate (suc n) waiting) i) running (λ q. omega arith))
 
 -- what BEGIN's checks give
-pub begin-planned : (s : State) → Formed s → Accepted s begin → Planned s
-unfolding inTurn ownGround
+pub begin-planned : (s : State) → Formed s → Accepted s begin → Planned (completed s)
+unfolding ownGround completed withOrders peakOf
 begin-planned s formed a =
-    let turn =
-    and-true (eqb (s .phase) Phase.orders && eqb (length (s .activation)) (s .size))
-    (eqb (length (s .execution)) (s .size)) (a .turn)
-    in
-    let early = and-true (eqb (s .phase) Phase.orders) (eqb (length (s .activation)) (s .size)) (turn .0) in
+    let turn = begin-turn s (a .turn) in
+    let now = turn .now in
     let seven =
     demand-none (eqb (roots (s .size) (at (s .parents))) 1) 7
     (demand (ordered (at (s .parents)) (s .activation)) 8 (demand (leb (peakOf s) (s .chilled .bound)) 9 0))
@@ -147,18 +143,17 @@ begin-planned s formed a =
     (λ q. omega arith) (seven .1)
     in
     let nine = demand-none (leb (peakOf s) (s .chilled .bound)) 9 0 (λ q. omega arith) (eight .1) in
-    let phase = eqb-true (s .phase) Phase.orders (early .0) in
     record {
-      formed = formed;
+      formed = completed-formed s formed;
       given = omega arith;
       valid =
           record {
             inside = formed .activation-inside;
             once = formed .activation-once;
-            whole = eqb-true (length (s .activation)) (s .size) (early .1);
+            whole = turn .activated;
             upward = eight .0;
           };
-      executed = eqb-true (length (s .execution)) (s .size) (turn .1);
+      executed = turn .executed;
       rooted = eqb-true (roots (s .size) (at (s .parents))) 1 (seven .0);
       staffed = formed .staffed (λ z. omega arith);
       fits = leb-true (peakOf s) (s .chilled .bound) (nine .0);

@@ -25,7 +25,7 @@ use Rattle.rules.proofs.Orders.{task-within}
 use Rattle.rules.proofs.Judging.{ground-own}
 use Rattle.rules.proofs.Reaching.{lives}
 use Rattle.rules.proofs.Staged.{staged}
-use Rattle.rules.proofs.Leading.{Leads, stays, obeyed-first, _then_, Order, order-leads}
+use Rattle.rules.proofs.Leading.{Leads, stays, obeyed-first, _then_, Order, order-leads, executions-lead}
 
 -- a column: an entry for nobody, and one in its limit for each of n tasks
 record Column (n limit : ℕ) (l : List ℕ) : Type 0 where
@@ -126,14 +126,8 @@ module _ (m : Instance) (g : Proper m) where
 
   execution-leads :
       Leads (withOrders (unbegun m) (m .activation) []) (map execution (m .execution)) (unbegun m)
-  unfolding inTurn inLimits ownGround obey withOrders unbegun widthsOf find forms byteOf operandsOf
-  execution-leads =
-      let most = g .tasks .high in
-      order-leads (m .size) execution (λ l. withOrders (unbegun m) (m .activation) l)
-      (λ i t. let high = t .high in (omega arith, tt))
-      (λ l i more t new.
-      ground-own _ (execution i) (lt-ltb (length l) (m .size) more) (task-within (m .size) i t) ∙ rw new refl)
-      (λ l i. refl) [] (m .execution) (g .execution)
+  unfolding withOrders unbegun
+  execution-leads = executions-lead (unbegun m) (m .activation) (m .execution) refl (g .tasks .high) (g .execution)
 
   -- all of them, from any plan that PLAN may drop
   opening-leads :

@@ -2,20 +2,23 @@
 use mathlib.Core.Path.{_≡_, refl, sym, subst, _∙_}
 use mathlib.Core.Bool.{true, false}
 use mathlib.Core.List.{List, [], _∷_, _++_, map, append-nil, append-assoc}
-use Prim.Native.Nat.{ℕ, _+_, _<_}
+use Prim.Native.Nat.{ℕ, _+_, _≤_, _<_}
 use native.Mathlib.Omega.{arith}
-use borrow.Author.Tests.{eqb-true, eq-eqb}
+use borrow.Author.Tests.{eqb-true, eq-eqb, lt-ltb}
 use lib.Dec.{eqb}
 use lib.ListN.{length, length-append}
+use Rattle.rules.specs.Limits.{maxTasks}
 use Rattle.rules.specs.Sums.{Task}
 use Rattle.rules.specs.Lists.{mem, every, distinct}
+use Rattle.rules.specs.Phase
 use Rattle.rules.specs.State.{State}
-use Rattle.rules.specs.Command.{Command}
-use Rattle.rules.specs.Grounds.{within, ground}
-use Rattle.rules.specs.Obey.{obey}
+use Rattle.rules.specs.Command.{Command, execution, forms, find, byteOf, operandsOf, widthsOf}
+use Rattle.rules.specs.Grounds.{within, inTurn, inLimits, ownGround, ground}
+use Rattle.rules.specs.Obey.{withOrders, obey}
 use Rattle.rules.specs.Stream.{obeyAll, acceptsAll}
 use Rattle.rules.proofs.Tests.{and-true, and-both}
-use Rattle.rules.proofs.Orders.{within-task, every-append, new-behind}
+use Rattle.rules.proofs.Orders.{within-task, task-within, every-append, new-behind}
+use Rattle.rules.proofs.Judging.{ground-own}
 use Rattle.rules.proofs.Bytes.{fits}
 use Rattle.rules.proofs.Stream.{FitAll}
 
@@ -83,3 +86,30 @@ order-leads n next with fit granted obeys front (i ∷ rest) order =
     (obeyed-first (next i) (fit i task)
     (granted front i (omega (arith, length-append front (i ∷ rest))) task (new-behind front i rest (order .once)))
     (rw (obeys front i) later))
+
+-- 04 for a task that is not in the execution order yet
+pub execution-granted :
+    (s : State) (act exec : List ℕ) (i : ℕ)
+    → s .phase ≡ Phase.orders
+    → length exec < s .size
+    → Task (s .size) i
+    → mem i exec ≡ false
+    → ground (withOrders s act exec) (execution i) ≡ 0
+unfolding inTurn inLimits ownGround withOrders
+execution-granted s act exec i now more t new =
+    ground-own _ (execution i)
+    (and-both _ _ (eq-eqb (s .phase) Phase.orders now) (lt-ltb (length exec) (s .size) more))
+    (task-within (s .size) i t)
+    ∙ rw new refl
+
+-- and for each entry of an order, to a plan that has no execution order yet
+pub executions-lead :
+    (s : State) (act exec : List ℕ)
+    → s .phase ≡ Phase.orders
+    → s .size ≤ maxTasks
+    → Order (s .size) exec
+    → Leads (withOrders s act []) (map execution exec) (withOrders s act exec)
+unfolding obey withOrders widthsOf find forms byteOf operandsOf
+executions-lead s act exec now most order =
+    order-leads (s .size) execution (withOrders s act) (λ i t. let high = t .high in (omega arith, tt))
+    (λ l i more t new. execution-granted s act l i now more t new) (λ l i. refl) [] exec order

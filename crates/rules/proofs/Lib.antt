@@ -37,6 +37,7 @@ pub mod Sharing
 -- the list of commands
 pub mod Judging
 pub mod Log
+pub mod Completing
 pub mod Formed
 pub mod Course
 pub mod InDay
@@ -59,6 +60,8 @@ pub mod Staged
 pub mod Leading
 pub mod Instance
 pub mod Written
+pub mod OneOrder
+pub mod AsBefore
 -- the day printer
 pub mod Lengths
 pub mod Parts

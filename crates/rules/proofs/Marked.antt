@@ -2,6 +2,7 @@
 use mathlib.Core.Path.{_≡_, refl}
 use mathlib.Core.Bool.{true}
 use mathlib.Core.List.{[], _∷_, _++_}
+use lib.ListN.{take, drop}
 use Rattle.rules.specs.Lists.{every, distinct}
 use Rattle.rules.specs.Command.{begin}
 use Rattle.rules.specs.Desk.{deskGround, deskAnswer, column, desk}
@@ -16,6 +17,7 @@ use Rattle.rules.specs.Marked.{
   inOrders,
   tasksA,
   planA,
+  oneOrderA,
   reading,
   short,
   told,
@@ -58,9 +60,11 @@ unfolding
     ask
     asks
     last
+    startedBy
     inOrder
     tasksA
     planA
+    oneOrderA
     single
     dayA
     short
@@ -89,3 +93,8 @@ pub day-A :
     ++ ascii "done 3 offers=0 booked=0 used=0 full=0 start -\n"
 unfolding computing dayA
 day-A = refl
+
+-- the same without its execution order, which is the same as its activation order
+pub day-A-alone : print (take 38 dayA ++ drop 47 dayA) ≡ print dayA
+unfolding computing dayA
+day-A-alone = refl

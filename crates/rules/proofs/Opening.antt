@@ -10,7 +10,7 @@ use Rattle.rules.specs.Standing.{running, finished, count}
 use Rattle.rules.specs.State.{State, needs}
 use Rattle.rules.specs.Command.{begin}
 use Rattle.rules.specs.Grounds.{peakOf}
-use Rattle.rules.specs.Obey.{fresh, withBooks, proceed, obey}
+use Rattle.rules.specs.Obey.{fresh, withOrders, completed, withBooks, proceed, obey}
 use Rattle.rules.specs.Day.{started}
 use Rattle.rules.specs.Invariant.{rankIn, Good}
 use Rattle.rules.proofs.Tests.{clash}
@@ -45,7 +45,7 @@ still-open s p good few =
 
 pub begin-in-day :
     (s : State) → Formed s → Accepted s begin → InDay (obey s begin .state) (map started (obey s begin .started))
-unfolding obey
+unfolding obey completed withOrders peakOf
 begin-in-day s formed a =
     let p = begin-planned s formed a in
     let good =
@@ -54,6 +54,6 @@ begin-in-day s formed a =
     let few : count (s .size) (at (fresh (s .size) .standings)) running ≤ s .processors =
     (let z = fresh-idle (s .size) in omega arith)
     in
-    proceed-in-day s p Phase.running (fresh (s .size)) (peakOf s) 0 good few []
+    proceed-in-day (completed s) p Phase.running (fresh (s .size)) (peakOf s) 0 good few []
     (nothing-logged (s .size) (at (fresh (s .size) .standings)) (λ i t. let z = fresh-waits (s .size) i t in omega arith))
-    (nothing-in-order (s .size) (at (s .parents))) (still-open s p good few)
+    (nothing-in-order (s .size) (at (s .parents))) (still-open (completed s) p good few)

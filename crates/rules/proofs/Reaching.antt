@@ -1,13 +1,13 @@
 -- What holds of every plan that commands led to: it is formed, and from BEGIN on it is in its day.
-use mathlib.Core.Path.{_≡_, sym, ap, subst, _∙_}
+use mathlib.Core.Path.{_≡_, refl, sym, ap, subst, _∙_}
 use mathlib.Core.Bool.{Bool, true, false, cond}
 use mathlib.Core.Logic.{⊎-elim}
 use mathlib.Core.List.{List, [], _∷_, _++_, map}
 use Prim.Native.Nat.{ℕ, _≤_}
 use native.Mathlib.Omega.{arith}
 use lib.Dec.{eqb, ltb}
-use lib.ListN.{length}
-use borrow.Author.Tests.{eqb-true}
+use lib.ListN.{length, replicate}
+use borrow.Author.Tests.{eqb-true, eq-eqb}
 use Rattle.rules.specs.Limits.{leastStarts}
 use Rattle.rules.specs.Phase
 use Rattle.rules.specs.State.{State, none}
@@ -79,6 +79,13 @@ response s d list =
         (λ (g : eqb (ground s c) 0 ≡ false).
         left-alone (ap (λ (a : Answered). a .state) (is-read s c used list e) ∙ denied s c used list g))
         (decide (eqb (ground s c) 0))
+
+-- so is the plan that a command leaves against which there is no ground
+pub obeyed-reachable : (s : State) (c : Command) → ground s c ≡ 0 → Reachable s → Reachable (obey s c .state)
+obeyed-reachable s c g r =
+    let list : List ℕ = replicate leastStarts 0 in
+    subst Reachable
+    (ap (λ (a : Answered). a .state) (is-read s c 0 list refl) ∙ granted s c 0 list (eq-eqb (ground s c) 0 g)) (next (read c 0) list r)
 
 -- the plan after any list of askings is one that commands led to
 pub after-reachable : (l : List Asking) {s : State} → Reachable s → Reachable (after s l)

@@ -5,18 +5,18 @@ use mathlib.Core.Bool.{_&&_}
 use mathlib.Core.List.{List, []}
 use Prim.Native.Nat.{ℕ, _≤_}
 use native.Mathlib.Omega.{arith}
-use lib.Dec.{eqb, leb}
-use lib.ListN.{length}
+use lib.Dec.{leb}
 use borrow.Author.Tests.{eqb-true}
 use Rattle.rules.specs.Limits.{maxTasks, maxProcessors, maxBound}
 use Rattle.rules.specs.Phase
 use Rattle.rules.specs.State.{State, none}
 use Rattle.rules.specs.Command.{Command, plan, task, activation, execution, begin, done}
 use Rattle.rules.specs.Grounds.{inTurn, inLimits, within}
-use Rattle.rules.specs.Obey.{opened, withTask, withOrders, withBooks, proceed, obey}
+use Rattle.rules.specs.Obey.{opened, withTask, withOrders, completed, withBooks, proceed, obey}
 use Rattle.rules.specs.Reachable.{Reachable}
 use Rattle.rules.proofs.Tests.{and-true}
 use Rattle.rules.proofs.Orders.{within-task}
+use Rattle.rules.proofs.Completing.{begin-turn}
 use Rattle.rules.proofs.Formed.{Accepted, after-report}
 use Rattle.rules.proofs.Reaching.{by-commands}
 
@@ -29,7 +29,7 @@ none-staged : Staged none
 none-staged =
     record { some = λ d. absurd (d refl); no-orders = λ _. (refl, refl); no-books = λ _. (refl, refl) }
 
--- 03 and 04 change an order of a plan in orders
+-- 03, 04 and BEGIN change an order of a plan in orders
 entry-staged :
     (s : State) (act exec : List ℕ) → s .phase ≡ Phase.orders → Staged s → Staged (withOrders s act exec)
 unfolding withOrders
@@ -52,7 +52,7 @@ day-staged s phase st b before after h =
     }
 
 obey-staged : (s : State) (c : Command) → Accepted s c → Staged s → Staged (obey s c .state)
-unfolding obey opened withTask inTurn inLimits proceed
+unfolding obey opened withTask withOrders completed inTurn inLimits proceed
 obey-staged s (plan n p bound) a h =
     let limits = and-true (within n maxTasks && within p maxProcessors) (leb bound maxBound) (a .limits) in
     let tasks = within-task maxTasks n (and-true (within n maxTasks) (within p maxProcessors) (limits .0) .0) in
@@ -69,9 +69,8 @@ obey-staged s (activation i) a h =
 obey-staged s (execution i) a h =
     entry-staged s _ _ (eqb-true (s .phase) Phase.orders (and-true _ _ (a .turn) .0)) h
 obey-staged s begin a h =
-    let ph = and-true (eqb (s .phase) Phase.orders && eqb (length (s .activation)) (s .size)) (eqb (length (s .execution)) (s .size)) (a .turn) in
-    let now = eqb-true (s .phase) Phase.orders (and-true (eqb (s .phase) Phase.orders) (eqb (length (s .activation)) (s .size)) (ph .0) .0) in
-    day-staged s _ _ _ (omega arith) (omega arith) h
+    let now = begin-turn s (a .turn) .now in
+    day-staged (completed s) _ _ _ (omega arith) (omega arith) (entry-staged s _ _ now h)
 obey-staged s (done j) a h =
     let now = eqb-true (s .phase) Phase.running (a .turn) in
     day-staged s _ _ _ (omega arith) (after-report s j) h

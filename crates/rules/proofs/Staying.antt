@@ -1,16 +1,16 @@
--- In a day the plan stays as BEGIN found it, but for its phase and its books.
+-- In a day the plan stays as BEGIN found and completed it, but for its phase and its books.
 use mathlib.Core.Path.{_≡_, refl}
 use mathlib.Core.List.{List}
 use Prim.Native.Nat.{ℕ}
 use Rattle.rules.specs.State.{State}
-use Rattle.rules.specs.Obey.{withBooks}
+use Rattle.rules.specs.Obey.{withOrders, completed, withBooks}
 use Rattle.rules.specs.Day.{Event}
 use Rattle.rules.specs.Theorem.{SamePlan}
 use Rattle.rules.proofs.InDay.{InDay}
 
--- the plan and the places of the cold room are those that BEGIN found
+-- the plan is the one that BEGIN found, completed, and the places of the cold room are those that it found
 pub record Stays (found s : State) : Type 0 where
-  pub plan : SamePlan found s
+  pub plan : SamePlan (completed found) s
   pub places : s .chilled .bound ≡ found .chilled .bound
 
 -- a day of the plan that BEGIN found
@@ -18,8 +18,9 @@ pub record DayOf (found s : State) (happened : List Event) : Type 0 where
   pub day : InDay s happened
   pub stays : Stays found s
 
-pub itself : (s : State) → Stays s s
-itself s =
+pub completes : (s : State) → Stays s (completed s)
+unfolding completed withOrders
+completes s =
     record {
       plan =
           record {

@@ -10,7 +10,7 @@ use Rattle.rules.specs.Phase
 use Rattle.rules.specs.State.{State, none}
 use Rattle.rules.specs.Command.{Command, plan, task, activation, execution, begin, done, byteOf, operandsOf, read, decode}
 use Rattle.rules.specs.Grounds.{inTurn}
-use Rattle.rules.specs.Obey.{proceed, obey}
+use Rattle.rules.specs.Obey.{completed, proceed, obey}
 use Rattle.rules.specs.Answer.{Asking, command}
 use Rattle.rules.specs.Day.{
   Event,
@@ -34,7 +34,7 @@ use Rattle.rules.proofs.InDay.{Closing, open-day, closed, orders-hold}
 use Rattle.rules.proofs.Opening.{begin-in-day}
 use Rattle.rules.proofs.Reporting.{done-in-day}
 use Rattle.rules.proofs.Holds.{day-holds}
-use Rattle.rules.proofs.Staying.{DayOf, itself, books-stay}
+use Rattle.rules.proofs.Staying.{DayOf, completes, books-stay}
 use Rattle.rules.proofs.Steps.{Step, is-refused, is-obeyed, step}
 use Rattle.rules.proofs.Askings.{asking-holds}
 use Rattle.rules.proofs.Refusals.{nothing-happens, after-accepted, log-accepted}
@@ -126,7 +126,7 @@ begun-by s (plan n p bound) used h a e = absurd (clash e refl)
 begun-by s (task parent work out) used h a e = absurd (clash e refl)
 begun-by s (activation i) used h a e = absurd (clash e refl)
 begun-by s (execution i) used h a e = absurd (clash e refl)
-begun-by s begin used h a e = record { day = begin-in-day s h a; stays = books-stay s s _ _ _ (itself s) }
+begun-by s begin used h a e = record { day = begin-in-day s h a; stays = books-stay s (completed s) _ _ _ (completes s) }
 begun-by s (done j) used h a e = absurd (clash e refl)
 
 opened-day : (s : State) (a : Asking) → Formed s → opensDay s a ≡ true → DayOf s (command s a .state) (events s a)

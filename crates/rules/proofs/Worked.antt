@@ -1,10 +1,10 @@
 -- A worked day with refusals in it: what is promised of every day is not empty, and statements that promise more are false.
-use mathlib.Core.Path.{_≡_, refl}
+use mathlib.Core.Path.{_≡_, refl, ap}
 use mathlib.Core.Bool.{true, false}
 use mathlib.Core.List.{List, [], _∷_, _++_, map}
 use Prim.Native.Nat.{ℕ, _<_}
 use native.Mathlib.Omega.{arith}
-use lib.ListN.{take, replicate}
+use lib.ListN.{length, take, replicate}
 use Rattle.rules.specs.Sums.{countTo}
 use Rattle.rules.specs.State.{none}
 use Rattle.rules.specs.Command.{Command, plan, task, activation, begin, done, bytes}
@@ -16,7 +16,7 @@ use Rattle.rules.specs.Instance.{instanceOf, written}
 use Rattle.rules.specs.Write.{write}
 use Rattle.rules.specs.Day.{started, ended, after, answers, acceptedOnly, log, opensDay, nextPlan}
 use Rattle.rules.specs.Theorem.{runs, DayHolds, EveryDay}
-use Rattle.rules.specs.Marked.{ask, asks, inOrder, tasksA, planA, dayA, planC, reading, short}
+use Rattle.rules.specs.Marked.{ask, asks, inOrder, tasksA, planA, oneOrderA, dayA, planC, reading, short}
 use Rattle.rules.proofs.Computing.{computing}
 use Rattle.rules.proofs.Theorem.{every-day-holds}
 
@@ -143,6 +143,19 @@ pub worked-early :
 unfolding computing asks tasksA inOrder ask
 worked-early = refl
 
+-- without an execution order nothing is written before BEGIN, and from then on the activation order twice
+pub worked-alone :
+    write (after none (asks (oneOrderA 7 (1 ∷ 2 ∷ 3 ∷ [])))) (replicate 48 99)
+    ≡ record { number = 3; count = 0; list = replicate 48 99 }
+unfolding computing asks tasksA oneOrderA ask
+worked-alone = refl
+
+pub worked-twice :
+    write (after none (asks (oneOrderA 7 (1 ∷ 2 ∷ 3 ∷ []) ++ begin ∷ []))) (replicate 48 99)
+    ≡ record { number = 0; count = 47; list = take 47 dayA ++ (99 ∷ []) }
+unfolding computing asks tasksA oneOrderA dayA ask
+worked-twice = refl
+
 pub worked-empty : write none [] ≡ record { number = 3; count = 0; list = [] }
 unfolding computing
 worked-empty = refl
@@ -158,6 +171,10 @@ Spare = EveryDay (λ _ s happened. countTo (runs happened) (s .size) < s .proces
 -- wrong: "what is booked is in use"
 abbrev pub Tight : Type 0
 Tight = EveryDay (λ _ s _. Question.inUse s ≡ Question.booked s)
+
+-- wrong: "the execution order stays as BEGIN found it"
+abbrev pub AsFound : Type 0
+AsFound = EveryDay (λ found s _. s .execution ≡ found .execution)
 
 -- after the morning all seven places are booked
 pub not-below : Below → ⊥
@@ -178,4 +195,11 @@ pub not-tight : Tight → ⊥
 unfolding computing asks planC inOrder ask
 not-tight h =
     let one : _≡_ {A = ℕ} 5 6 = h (asks planC) (ask begin) (ask (done 1) ∷ []) refl refl in
+    omega arith
+
+-- without 04 BEGIN finds none, and uses the activation order
+pub not-as-found : AsFound → ⊥
+unfolding computing asks tasksA oneOrderA ask
+not-as-found h =
+    let three : _≡_ {A = ℕ} 3 0 = ap length (h (asks (oneOrderA 7 (1 ∷ 2 ∷ 3 ∷ []))) (ask begin) [] refl refl) in
     omega arith

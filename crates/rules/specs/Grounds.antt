@@ -1,6 +1,6 @@
 -- The grounds for refusing a whole command, in the order of checks: "3; 4; then 5 for 03 and 04, 6 for DONE, and 7, 8, 9 for
 -- BEGIN". 0 is no ground.
-use mathlib.Core.Bool.{Bool, true, not, cond, _&&_}
+use mathlib.Core.Bool.{Bool, true, not, cond, _&&_, _||_}
 use Prim.Native.Nat.{ℕ}
 use lib.Dec.{eqb, leb, ltb}
 use lib.ListN.{length}
@@ -12,15 +12,22 @@ use Rattle.rules.specs.Standing
 use Rattle.rules.specs.State.{State}
 use Rattle.rules.specs.Command.{Command, plan, task, activation, execution, begin, done}
 
+-- "no 04 at all"
+abbrev pub noExecution : State → Bool
+noExecution s = eqb (length (s .execution)) 0
+
 -- "PLAN is in turn in every phase but running .. STEP is in turn in steps .. 03 and 04 are in turn in orders, in any mix, n of
--- each at most. BEGIN is in turn in orders once both orders have n entries .. DONE is in turn only in running"
+-- each at most. BEGIN is in turn in orders once both orders have n entries .. DONE is in turn only in running"; "BEGIN with a full
+-- activation order and no 04 at all shall now be in turn"
 unfoldable pub inTurn : State → Command → Bool
 inTurn s (plan n p bound) = not (eqb (s .phase) Phase.running)
 inTurn s (task parent work out) = eqb (s .phase) Phase.steps
 inTurn s (activation i) = eqb (s .phase) Phase.orders && ltb (length (s .activation)) (s .size)
 inTurn s (execution i) = eqb (s .phase) Phase.orders && ltb (length (s .execution)) (s .size)
 inTurn s begin =
-    eqb (s .phase) Phase.orders && eqb (length (s .activation)) (s .size) && eqb (length (s .execution)) (s .size)
+    eqb (s .phase) Phase.orders
+    && eqb (length (s .activation)) (s .size)
+    && (eqb (length (s .execution)) (s .size) || noExecution s)
 inTurn s (done i) = eqb (s .phase) Phase.running
 
 -- a number from 1 to a limit

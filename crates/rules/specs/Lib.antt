@@ -30,4 +30,5 @@ pub mod Reachable
 pub mod Reasons
 pub mod Stream
 pub mod Restored
+pub mod OneOrder
 pub mod Marked

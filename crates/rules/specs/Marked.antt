@@ -66,6 +66,10 @@ dayA =
     ∷ 6 ∷ 3 ∷ 0
     ∷ []
 
+-- plan A without an execution order
+unfoldable pub oneOrderA : ℕ → List ℕ → List Command
+oneOrderA bound act = tasksA bound ++ map activation act
+
 -- plan C
 unfoldable pub planC : List Command
 planC =
@@ -251,6 +255,22 @@ sentences =
     ∷ record { given = told (asks (planA 6 ++ (begin ∷ []))) (ask begin); stated = refusal 9 }
     ∷ record { given = told (asks (planA 6 ++ (begin ∷ []))) (ask (plan 3 2 7)); stated = 0 ∷ 8 ∷ 0 ∷ 0 ∷ 0 ∷ [] }
     ∷ record { given = told (asks (planA 7) ++ (short (bytes begin) ∷ [])) (ask begin); stated = 0 ∷ 1 ∷ 1 ∷ 7 ∷ 0 ∷ [] }
+    -- "with the activation order used for both": A at M = 12 with activation order 2, 1, 3 and no 04 starts 2, then 1
+    ∷ record { given = startedBy (last (oneOrderA 12 (2 ∷ 1 ∷ 3 ∷ [])) begin); stated = 2 ∷ 1 ∷ [] }
+    -- "3 as before where 1 to n − 1 entries of 04 were given"
+    ∷ record { given = told (asks (oneOrderA 7 (1 ∷ 2 ∷ 3 ∷ []) ++ (execution 1 ∷ []))) (ask begin); stated = refusal 3 }
+    ∷ record { given = told (asks (oneOrderA 7 (1 ∷ 2 ∷ 3 ∷ []) ++ (execution 1 ∷ execution 2 ∷ []))) (ask begin); stated = refusal 3 }
+    -- and where the activation order is not full
+    ∷ record { given = told (asks (oneOrderA 7 (1 ∷ 2 ∷ []))) (ask begin); stated = refusal 3 }
+    -- a refused BEGIN fills nothing in: 04 is taken behind it, and then all n entries are needed
+    ∷ record { given = told (asks (oneOrderA 6 (1 ∷ 2 ∷ 3 ∷ []))) (ask begin); stated = refusal 9 }
+    ∷ record { given = told (asks (oneOrderA 6 (1 ∷ 2 ∷ 3 ∷ []) ++ (begin ∷ []))) (ask (execution 1)); stated = 0 ∷ 3 ∷ 0 ∷ 0 ∷ 0 ∷ [] }
+    ∷ record { given = told (asks (oneOrderA 6 (1 ∷ 2 ∷ 3 ∷ []) ++ (begin ∷ execution 1 ∷ []))) (ask begin); stated = refusal 3 }
+    -- an accepted one completes the order: 04 is out of turn
+    ∷ record { given = told (asks (oneOrderA 7 (1 ∷ 2 ∷ 3 ∷ []) ++ (begin ∷ []))) (ask (execution 1)); stated = refusal 3 }
+    -- one step: no entry of 04 will do as well as one
+    ∷ record { given = told (asks (plan 1 1 0 ∷ task 0 0 0 ∷ activation 1 ∷ [])) (ask begin); stated = 0 ∷ 1 ∷ 1 ∷ 0 ∷ 0 ∷ [] }
+    ∷ record { given = told (asks single) (ask begin); stated = 0 ∷ 1 ∷ 1 ∷ 0 ∷ 0 ∷ [] }
     ∷ []
 
 -- the two lists of a row are the same

@@ -9,7 +9,7 @@ use Rattle.rules.specs.Phase
 use Rattle.rules.specs.Standing
 use Rattle.rules.specs.State.{State, needs}
 use Rattle.rules.specs.Command.{Command, plan, task, activation, execution, begin, done}
-use Rattle.rules.specs.Grounds.{peakOf}
+use Rattle.rules.specs.Grounds.{noExecution, peakOf}
 use Rattle.rules.specs.Booking.{Books, Climbed, activate, starts, start, free, dispatch}
 
 -- what an accepted command leaves: the plan, the tasks that it starts, in order, the peak (BEGIN only) and the offers (DONE only)
@@ -66,6 +66,14 @@ withOrders s act exec =
       standings = s .standings;
       chilled = s .chilled;
     }
+
+-- "with the activation order used for both", where no 04 was given
+unfoldable pub executionOrder : State → List ℕ
+executionOrder s = cond (noExecution s) (s .activation) (s .execution)
+
+-- the plan with both orders: "Once it is accepted the execution order counts as complete"
+unfoldable pub completed : State → State
+completed s = withOrders s (s .activation) (executionOrder s)
 
 -- the plan in a phase of its day, with other standings and booked trays
 unfoldable pub withBooks : State → ℕ → List ℕ → List ℕ → State
@@ -156,5 +164,5 @@ obey s (plan n p bound) = plain (opened n p bound)
 obey s (task parent work out) = plain (withTask s parent work out)
 obey s (activation i) = plain (withOrders s (s .activation ++ (i ∷ [])) (s .execution))
 obey s (execution i) = plain (withOrders s (s .activation) (s .execution ++ (i ∷ [])))
-obey s begin = proceed s Phase.running (fresh (s .size)) (peakOf s) 0
+obey s begin = proceed (completed s) Phase.running (fresh (s .size)) (peakOf s) 0
 obey s (done j) = proceed s (phaseAfter s j) (ended s j) 0 (length (shared s j .offered))

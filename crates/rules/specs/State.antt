@@ -22,7 +22,7 @@ pub record State : Type 0 where
   pub processors : ℕ
   -- the parent of each task, 0 for the root; entry 0 for nobody
   pub parents : List ℕ
-  -- the two orders, as far as they are given
+  -- the two orders, as far as they are given; from BEGIN on both are complete
   pub activation : List ℕ
   pub execution : List ℕ
   -- the standing of each task, from BEGIN on

@@ -14,6 +14,7 @@ use Rattle.rules.specs.Phase
 use Rattle.rules.specs.Standing
 use Rattle.rules.specs.State.{Store, State, none, needsIn}
 use Rattle.rules.specs.Booking.{total}
+use Rattle.rules.specs.Obey.{completed}
 use Rattle.rules.specs.Answer.{Asking, refuse, command}
 use Rattle.rules.specs.Question
 use Rattle.rules.specs.Day.{Event, started, ended, starts, ends, log, after, accepted, acceptedOnly, opensDay, nextPlan}
@@ -125,9 +126,10 @@ EveryDayHolds = EveryDay (λ _ s happened. DayHolds s happened)
 -- the theorem: what holds of every list of askings, day by day and as a whole
 pub record Theorem : Type 0 where
   pub days : EveryDayHolds
-  -- in a day both orders are what they must be, and the plan stays as BEGIN found it
+  -- in a day both orders are what they must be, and the plan stays as BEGIN found it, with the activation order used for both where
+  -- no 04 was given
   pub orders : EveryDay (λ _ s _. OrdersHold s)
-  pub plans : EveryDay (λ found s _. SamePlan found s)
+  pub plans : EveryDay (λ found s _. SamePlan (completed found) s)
   -- and so do the places of the cold room
   pub places : EveryDay (λ found s _. s .chilled .bound ≡ found .chilled .bound)
   -- all that is promised of an asking holds of each of the list

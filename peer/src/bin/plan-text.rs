@@ -17,8 +17,10 @@ const NOTES: &str = "
 Without FILE, or with -, it reads standard input. It writes to standard output,
 what a line says as soon as the line has come.
 One thing a line; # starts a comment. Steps are numbered from 1 in each plan;
-a step may say its number. Parent - (or 0) is the last step. Where the line
-ends with ... it may go on, and each number is a command. The lines:
+a step may say its number. Parent - (or 0) is the last step. Execution lines may
+be left out altogether: then the activation order is used for both. With some of
+its steps missing, begin is refused 3. Where the line ends with ... it may go on,
+and each number is a command. The lines:
 ";
 
 const WRITTEN: &str = "
@@ -26,9 +28,11 @@ const WRITTEN: &str = "
 writes the bytes of the plan that they lead to: its opening, its steps, the
 activation order, the execution order, and nothing of its day. So all texts of
 one plan give the same bytes, whatever mix the orders come in, and the tidy text
-is 'plan-text --written FILE | plan-text --back'. A command that is refused is
-told with its line and its number K. Then, after a wrong line, and where an order
-is not complete at the end, no byte is written.
+is 'plan-text --written FILE | plan-text --back'. Of a plan that has begun
+without an execution line the activation order is written twice; before its
+'begin' its execution order is not complete. A command that is refused is told
+with its line and its number K. Then, after a wrong line, and where an order is
+not complete at the end, no byte is written.
 ";
 
 const TROUBLE: &str = "
@@ -109,11 +113,8 @@ fn written(name: &str) -> Result<(), Stop> {
         taken.map_err(|fault| wrong(name, &fault))
     })?;
     match written.bytes() {
-        Some(bytes) => write(&bytes),
-        None => Err(Stop::Trouble(format!(
-            "{}: no plan with both orders complete at the end",
-            shown(name)
-        ))),
+        Ok(bytes) => write(&bytes),
+        Err(lack) => Err(Stop::Trouble(format!("{}: {lack}", shown(name)))),
     }
 }
 

@@ -3,7 +3,7 @@
 use super::day::Habit;
 use super::draft::Draft;
 use super::random::Random;
-use super::{flaw, nuisance};
+use super::{flaw, nuisance, orders};
 use crate::command::Command;
 use crate::encode::encode;
 use crate::phase::Phase;
@@ -109,11 +109,14 @@ impl Asker {
     }
 
     /// Sends a whole plan and, where BEGIN is accepted, reports until the day
-    /// is over.
+    /// is over. A refused BEGIN may come again, with the execution order whole.
     fn send(&mut self, draft: &Draft) {
         let n = draft.records.len().max(1) as u16;
         for command in draft.commands(&mut self.random) {
             self.ask(&command, n);
+        }
+        if self.plan.phase() == Phase::Orders && self.random.chance(50) {
+            self.send_rest(draft, n);
         }
         let habit = Habit::random(&mut self.random);
         while self.plan.phase() == Phase::Running {
@@ -121,6 +124,16 @@ impl Asker {
             self.ask(&encode(Command::Done(task)), n);
         }
         self.pester(&encode(Command::Begin), n);
+    }
+
+    /// Sends what the execution order lacks, and BEGIN again.
+    fn send_rest(&mut self, draft: &Draft, n: u16) {
+        let mut rest = orders::execution(&mut self.random, &draft.activation);
+        rest.retain(|task| !draft.execution.contains(task));
+        for task in rest {
+            self.ask(&encode(Command::Execution(task)), n);
+        }
+        self.ask(&encode(Command::Begin), n);
     }
 
     /// Asks a command, after some that are refused.

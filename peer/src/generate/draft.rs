@@ -1,4 +1,4 @@
-//! A plan to be sent, orders included.
+//! A plan to be sent, with both orders or the activation order alone.
 
 use super::counts::Counts;
 use super::random::Random;
@@ -19,6 +19,7 @@ pub(crate) struct Draft {
     pub memory_bound: u32,
     pub records: Vec<Record>,
     pub activation: Vec<u16>,
+    /// Empty where no 04 will come.
     pub execution: Vec<u16>,
 }
 
@@ -40,7 +41,7 @@ impl Draft {
             tasks: n as u16,
             processors: processors(random),
             memory_bound: memory_bound(random, &records, &activation),
-            execution: orders::execution(random, &activation),
+            execution: execution(random, &activation),
             records,
             activation,
         }
@@ -76,6 +77,15 @@ impl Draft {
             }
         };
         std::iter::from_fn(either_left).map(encode).collect()
+    }
+}
+
+/// An execution order, or none.
+fn execution(random: &mut Random, activation: &[u16]) -> Vec<u16> {
+    if random.chance(25) {
+        Vec::new()
+    } else {
+        orders::execution(random, activation)
     }
 }
 

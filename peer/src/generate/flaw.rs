@@ -1,6 +1,7 @@
 //! Flaws of a plan, to be met by STEP, 03, 04 or BEGIN.
 
 use super::draft::Draft;
+use super::orders;
 use super::random::Random;
 use crate::desk::desk_peak;
 use crate::record::index;
@@ -22,10 +23,11 @@ enum Flaw {
     Cycle,
     ParentFirst,
     BoundBelowPeak,
+    PartOfExecution,
 }
 
-/// Flaws that need another task beside the root come last.
-const FLAWS: [Flaw; 15] = [
+/// Flaws that need another task beside the root come last; one is twice as likely.
+const FLAWS: [Flaw; 17] = [
     Flaw::TaskCount,
     Flaw::ProcessorCount,
     Flaw::Parent,
@@ -41,6 +43,8 @@ const FLAWS: [Flaw; 15] = [
     Flaw::OwnParent,
     Flaw::Cycle,
     Flaw::ParentFirst,
+    Flaw::PartOfExecution,
+    Flaw::PartOfExecution,
 ];
 const FLAWS_OF_ONE_TASK: usize = 10;
 
@@ -72,7 +76,7 @@ pub(crate) fn spoil(random: &mut Random, draft: &mut Draft) {
             some_order(random, draft).push(again);
         }
         Flaw::OneEntryLess => {
-            some_order(random, draft).pop();
+            draft.activation.pop();
         }
         Flaw::OneTaskMore => draft.records.push(draft.records[0]),
         Flaw::OneTaskLess => {
@@ -100,11 +104,17 @@ pub(crate) fn spoil(random: &mut Random, draft: &mut Draft) {
             let peak = desk_peak(&draft.records, &draft.activation).peak;
             draft.memory_bound = random.pick(&[peak.saturating_sub(1), peak / 2, 0]);
         }
+        Flaw::PartOfExecution => {
+            let part = 1 + random.below(n - 1);
+            draft.execution = orders::execution(random, &draft.activation);
+            draft.execution.truncate(random.pick(&[1, part, n - 1]));
+        }
     }
 }
 
+/// One of the orders that will come.
 fn some_order<'a>(random: &mut Random, draft: &'a mut Draft) -> &'a mut Vec<u16> {
-    if random.chance(50) {
+    if draft.execution.is_empty() || random.chance(50) {
         &mut draft.activation
     } else {
         &mut draft.execution

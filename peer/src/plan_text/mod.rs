@@ -2,7 +2,8 @@
 //! thing a line; `#` starts a comment. The text may say any whole commands
 //! whose numbers are within the limits of document 01. Whether they are in
 //! turn, and all else that the rules ask, is asked only where the plan that
-//! they lead to is written.
+//! they lead to is written. A plan needs no execution line: the activation
+//! order is then used for both.
 
 mod form;
 mod offsets;

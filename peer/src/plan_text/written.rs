@@ -32,11 +32,18 @@ impl Written {
         Ok(())
     }
 
-    /// The bytes of the plan; none unless both its orders are complete.
-    pub fn bytes(&self) -> Option<Vec<u8>> {
+    /// The bytes of the plan, or what it lacks where they cannot be written.
+    pub fn bytes(&self) -> Result<Vec<u8>, &'static str> {
         let mut bytes = vec![0; Plan::WRITTEN];
         let wrote = self.plan.write(&mut bytes);
         bytes.truncate(wrote.count);
-        (wrote.number == 0).then_some(bytes)
+        match wrote.number {
+            0 => Ok(bytes),
+            // All is there but the execution order.
+            _ if self.plan.may_begin() => {
+                Err("no execution order, and no 'begin' to use the activation order for both")
+            }
+            _ => Err("no plan with both orders complete at the end"),
+        }
     }
 }

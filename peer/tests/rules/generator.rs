@@ -2,8 +2,8 @@
 
 use crate::menu::ask;
 use peer::generate::{askings, cut_stream, encode, many_askings, stream, Random};
-use peer::{decode, Command, Phase, Plan};
-use std::collections::BTreeSet;
+use peer::{decode, Answer, Command, Phase, Plan};
+use std::collections::{BTreeMap, BTreeSet};
 
 #[test]
 fn the_same_seed_gives_the_same_bytes() {
@@ -95,4 +95,113 @@ fn askings_go_on_after_every_refusal() {
     }
     assert_eq!(numbers, (0..=10).collect());
     assert!(over > 75);
+}
+
+/// How often BEGIN was answered in which way, by how much of the execution order
+/// the plan had; only where all but that order is in turn for BEGIN.
+#[derive(Default)]
+struct Begins {
+    plan: Plan,
+    tasks: usize,
+    activation: usize,
+    execution: usize,
+    /// Whether a BEGIN came while there was no 04.
+    came_without: bool,
+    seen: BTreeMap<&'static str, usize>,
+}
+
+impl Begins {
+    /// Asks the plan, and takes note of what was accepted and how it began.
+    fn ask(&mut self, bytes: &[u8], place: usize, starts_len: usize) -> Answer {
+        let in_orders = self.plan.phase() == Phase::Orders;
+        let counts = in_orders && self.activation == self.tasks && starts_len >= Plan::STARTS;
+        let (answer, _) = ask(&mut self.plan, bytes, place, starts_len);
+        match (decode(bytes, place), answer.number) {
+            (Ok((Command::Plan { tasks, .. }, _)), 0) => {
+                self.tasks = tasks.into();
+                (self.activation, self.execution) = (0, 0);
+                self.came_without = false;
+            }
+            (Ok((Command::Activation(_), _)), 0) => self.activation += 1,
+            (Ok((Command::Execution(_), _)), 0) => self.execution += 1,
+            (Ok((Command::Begin, _)), number) if counts => {
+                *self.seen.entry(self.way(number)).or_default() += 1;
+                self.came_without |= self.execution == 0;
+            }
+            _ => {}
+        }
+        answer
+    }
+
+    /// The way in which BEGIN was answered.
+    fn way(&self, number: u8) -> &'static str {
+        let (entries, all) = (self.execution, self.tasks);
+        match number {
+            0 if entries == 0 && all == 1 => "no 04, one task",
+            0 if entries == 0 => "no 04",
+            0 => "all",
+            3 if entries == 0 => panic!("refused 3 without 04"),
+            3 if entries == 1 => "one 04, out of turn",
+            3 if entries == all - 1 => "all but one, out of turn",
+            3 => "some, out of turn",
+            _ if entries == 0 => "no 04, refused",
+            _ if self.came_without => "all, refused before and after",
+            _ => "all, refused",
+        }
+    }
+
+    /// Each of these ways was seen at least so often.
+    fn check(&self, least: &[(&str, usize)]) {
+        for &(way, least) in least {
+            assert!(self.seen.get(way) >= Some(&least), "{way}: {:?}", self.seen);
+        }
+    }
+}
+
+#[test]
+fn streams_begin_with_and_without_an_execution_order() {
+    let mut begins = Begins::default();
+    for stream in (0..1000).map(stream) {
+        begins.plan = Plan::new();
+        let mut place = 0;
+        loop {
+            let answer = begins.ask(&stream, place, 64);
+            if answer.number != 0 {
+                break;
+            }
+            place += answer.used;
+        }
+    }
+    begins.check(&[
+        ("all", 600),
+        ("no 04", 200),
+        ("no 04, one task", 20),
+        ("one 04, out of turn", 10),
+        ("some, out of turn", 10),
+        ("all but one, out of turn", 10),
+        ("all, refused", 50),
+        ("no 04, refused", 15),
+    ]);
+}
+
+#[test]
+fn askings_begin_with_and_without_an_execution_order() {
+    let mut begins = Begins::default();
+    for list in (0..300).map(askings) {
+        begins.plan = Plan::new();
+        for asking in list {
+            begins.ask(&asking.bytes, asking.place, asking.starts_len);
+        }
+    }
+    begins.check(&[
+        ("all", 200),
+        ("no 04", 80),
+        ("no 04, one task", 5),
+        ("one 04, out of turn", 10),
+        ("some, out of turn", 100),
+        ("all but one, out of turn", 20),
+        ("all, refused", 60),
+        ("no 04, refused", 20),
+        ("all, refused before and after", 10),
+    ]);
 }

@@ -1,6 +1,6 @@
 //! The table of grounds, and the order of checks.
 
-use crate::menu::{accepting, ask, done, give, hex, plan_a, plan_c, Menu};
+use crate::menu::{accepting, ask, done, give, hex, plan_a, plan_c, refused_plans, Menu};
 use peer::{Phase, Plan};
 
 /// The number that answers these bytes.
@@ -132,12 +132,14 @@ fn turns() {
 }
 
 #[test]
-fn begin_waits_for_both_orders() {
+fn begin_waits_for_whole_orders() {
     let commands = plan_a().commands();
-    for given in 0..commands.len() {
-        assert_eq!(number(&mut accepting(&commands[..given]), "05"), 3);
+    for given in 0..=commands.len() {
+        // All of the activation order, and none or all of the execution order.
+        let wanted = if given == 7 || given == 10 { 0 } else { 3 };
+        let mut plan = accepting(&commands[..given]);
+        assert_eq!(number(&mut plan, "05"), wanted, "{given}");
     }
-    assert_eq!(number(&mut accepting(&commands), "05"), 0);
 }
 
 #[test]
@@ -165,21 +167,9 @@ fn done_only_while_running() {
 
 #[test]
 fn seven_before_eight_before_nine() {
-    let menu = |records, activation: &[u16]| Menu {
-        activation: activation.to_vec(),
-        ..Menu::new(1, 0, records)
-    };
-    let begin = |menu: Menu| menu.begun().0.number;
-    assert_eq!(begin(menu(&[(0, 1, 1), (0, 1, 1)], &[1, 2])), 7);
-    assert_eq!(begin(menu(&[(2, 1, 1), (1, 1, 1)], &[1, 2])), 7);
-    assert_eq!(begin(menu(&[(0, 1, 1), (2, 1, 1)], &[1, 2])), 8);
-    assert_eq!(begin(menu(&[(0, 1, 1), (1, 1, 1)], &[1, 2])), 8);
-    assert_eq!(begin(menu(&[(0, 1, 1), (1, 1, 1)], &[2, 1])), 9);
-    // A cycle beside the root.
-    assert_eq!(
-        begin(menu(&[(2, 0, 0), (1, 0, 0), (0, 0, 0)], &[1, 2, 3])),
-        8
-    );
+    for (menu, number) in refused_plans() {
+        assert_eq!(menu.begun().0.number, number, "{menu:?}");
+    }
 }
 
 #[test]

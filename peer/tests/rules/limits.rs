@@ -1,8 +1,8 @@
 //! The limits of n and p, and the largest plans.
 
-use crate::menu::{done, give, Menu};
+use crate::menu::{finish, give, Menu};
 use peer::generate::encode;
-use peer::{Command, Phase, Plan};
+use peer::{Command, Plan};
 
 fn open(tasks: u16, processors: u8) -> u8 {
     let command = Command::Plan {
@@ -20,19 +20,11 @@ fn n_and_p() {
     assert_eq!((open(0, 1), open(1, 0), open(65_535, 255)), (4, 4, 4));
 }
 
-/// Runs a day to its end, always reporting the longest running task.
+/// Runs a day to its end: its peak, and how many tasks started.
 fn run(menu: &Menu) -> (u32, usize) {
     let (answer, starts, mut plan) = menu.begun();
     assert_eq!(answer.number, 0);
-    let mut started = starts;
-    let mut ended = 0;
-    while plan.phase() == Phase::Running {
-        let (report, starts) = done(&mut plan, started[ended]);
-        assert_eq!(report.number, 0);
-        started.extend(starts);
-        ended += 1;
-    }
-    (answer.peak, ended)
+    (answer.peak, finish(&mut plan, starts).len())
 }
 
 #[test]

@@ -1,4 +1,4 @@
-//! The rules of document 01, and requests 01 and 02 of document 02, tried on
+//! The rules of document 01, and requests 01 to 03 of document 02, tried on
 //! this implementation.
 
 mod against_naive;
@@ -11,6 +11,7 @@ mod grounds;
 mod limits;
 mod menu;
 mod naive;
+mod one_order;
 mod plan_a;
 mod plan_c;
 mod plan_text;

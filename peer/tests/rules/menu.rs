@@ -1,7 +1,7 @@
 //! Plans to try things on, and ways to give commands.
 
 use peer::generate::encode;
-use peer::{Answer, Command, Plan, Reason, Record, Wrote};
+use peer::{Answer, Command, Phase, Plan, Reason, Record, Wrote};
 
 /// What unused entries of a start list hold before a command.
 pub const MARK: u16 = 0xbeef;
@@ -90,6 +90,24 @@ pub fn plan_c() -> Menu {
     Menu::new(2, 6, &[(3, 1, 2), (3, 2, 1), (4, 1, 2), (0, 0, 3)])
 }
 
+/// Plans whose BEGIN is refused, each with the number.
+pub fn refused_plans() -> Vec<(Menu, u8)> {
+    let menu = |records, activation: &[u16]| Menu {
+        activation: activation.to_vec(),
+        ..Menu::new(1, 0, records)
+    };
+    vec![
+        (menu(&[(1, 0, 0)], &[1]), 7),
+        (menu(&[(0, 1, 1), (0, 1, 1)], &[1, 2]), 7),
+        (menu(&[(2, 1, 1), (1, 1, 1)], &[1, 2]), 7),
+        (menu(&[(0, 1, 1), (2, 1, 1)], &[1, 2]), 8),
+        // A cycle beside the root.
+        (menu(&[(2, 0, 0), (1, 0, 0), (0, 0, 0)], &[1, 2, 3]), 8),
+        (menu(&[(0, 1, 1), (1, 1, 1)], &[1, 2]), 8),
+        (menu(&[(0, 1, 1), (1, 1, 1)], &[2, 1]), 9),
+    ]
+}
+
 /// A plan that accepted these commands from empty on.
 pub fn accepting(commands: &[Vec<u8>]) -> Plan {
     let mut plan = Plan::new();
@@ -124,6 +142,20 @@ pub fn give(plan: &mut Plan, command: &[u8]) -> (Answer, Vec<u16>) {
 /// Gives DONE for a task.
 pub fn done(plan: &mut Plan, task: u16) -> (Answer, Vec<u16>) {
     give(plan, &encode(Command::Done(task)))
+}
+
+/// Goes on with a day to its end, always reporting the longest running task.
+/// Answers all its starts.
+pub fn finish(plan: &mut Plan, mut started: Vec<u16>) -> Vec<u16> {
+    let mut ended = 0;
+    while plan.phase() == Phase::Running {
+        let (report, starts) = done(plan, started[ended]);
+        assert_eq!(report.number, 0);
+        started.extend(starts);
+        ended += 1;
+    }
+    assert_eq!(ended, started.len());
+    started
 }
 
 /// Gives one command. Later entries of the start list must stay untouched,

@@ -127,7 +127,10 @@ impl Naive {
             0x02 => self.phase == Phase::Steps,
             0x03 => self.phase == Phase::Orders && activation < self.n,
             0x04 => self.phase == Phase::Orders && execution < self.n,
-            0x05 => self.phase == Phase::Orders && activation == self.n && execution == self.n,
+            0x05 => {
+                let none_or_all = execution == 0 || execution == self.n;
+                self.phase == Phase::Orders && activation == self.n && none_or_all
+            }
             _ => self.phase == Phase::Running,
         }
     }
@@ -170,6 +173,17 @@ impl Naive {
         self.state = vec![State::Waiting; self.n + 1];
         self.booked = vec![0; self.n + 1];
         Ok(peak)
+    }
+
+    /// The execution order: of a plan that began without one, the activation
+    /// order.
+    fn execution_order(&self) -> &[usize] {
+        let has_begun = matches!(self.phase, Phase::Running | Phase::Over);
+        if has_begun && self.execution.is_empty() {
+            &self.activation
+        } else {
+            &self.execution
+        }
     }
 
     fn steps(&self) -> std::ops::RangeInclusive<usize> {
@@ -247,7 +261,8 @@ impl Naive {
                         .children(i)
                         .all(|child| self.state[child] == State::Ended)
             };
-            let Some(&i) = self.execution.iter().find(|&&i| may_start(i)) else {
+            let mut order = self.execution_order().iter().copied();
+            let Some(i) = order.find(|&i| may_start(i)) else {
                 break;
             };
             self.state[i] = State::Running;
@@ -365,9 +380,9 @@ impl Naive {
 
     /// The plan written into a list of so many bytes.
     pub fn written(&self, list_len: usize) -> Result<Vec<u8>, u8> {
-        let (activation, execution) = (self.activation.len(), self.execution.len());
-        let is_complete = self.n > 0 && activation == self.n && execution == self.n;
-        refuse(3, !is_complete)?;
+        let orders = [&self.activation[..], self.execution_order()];
+        let are_complete = orders.iter().all(|order| order.len() == self.n);
+        refuse(3, self.n == 0 || !are_complete)?;
         refuse(11, list_len < 8 + 13 * self.n)?;
         let mut bytes = vec![];
         say(&mut bytes, 0x01, &[(self.n, 2), (self.p, 1), (self.m, 4)]);
@@ -375,11 +390,10 @@ impl Naive {
             let (parent, work, out) = (self.parent[i], self.work[i], self.out[i]);
             say(&mut bytes, 0x02, &[(parent, 2), (work, 2), (out, 2)]);
         }
-        for &i in &self.activation {
-            say(&mut bytes, 0x03, &[(i, 2)]);
-        }
-        for &i in &self.execution {
-            say(&mut bytes, 0x04, &[(i, 2)]);
+        for (byte, order) in [0x03, 0x04].into_iter().zip(orders) {
+            for &i in order {
+                say(&mut bytes, byte, &[(i, 2)]);
+            }
         }
         Ok(bytes)
     }

@@ -19,11 +19,18 @@ done 2 offers=1 booked=3 used=3 full=428 start 3
 done 3 offers=0 booked=0 used=0 full=0 start -
 ";
 
+/// The same bytes but for the three commands 04.
+pub fn bytes_without_04() -> Vec<u8> {
+    hex(&BYTES.replace("04 01 00 04 02 00 04 03 00", ""))
+}
+
 #[test]
 fn whole_output() {
-    let mut output = Vec::new();
-    printer::print(&hex(BYTES)[..], &mut output).unwrap();
-    assert_eq!(String::from_utf8(output).unwrap(), LINES);
+    for bytes in [hex(BYTES), bytes_without_04()] {
+        let mut output = Vec::new();
+        printer::print(&bytes[..], &mut output).unwrap();
+        assert_eq!(String::from_utf8(output).unwrap(), LINES);
+    }
 }
 
 #[test]

@@ -8,6 +8,7 @@ use peer::{decode, printer, Command, Plan, Record};
 
 const PLAN_A: &str = include_str!("../../../examples/plan-a.plan");
 const BREAKFAST: &str = include_str!("../../../examples/breakfast.plan");
+const LUNCH: &str = include_str!("../../../examples/lunch.plan");
 
 fn fault(place: usize, what: &str) -> Fault {
     Fault {
@@ -157,6 +158,16 @@ begin
 done 1 2 3
 ";
     assert_eq!(to_text(&hex(plan_a::BYTES)), (text.to_string(), None));
+}
+
+#[test]
+fn execution_lines_may_be_left_out() {
+    let text = PLAN_A.replace("execution  1 2 3\n", "");
+    let bytes = to_bytes(&text).unwrap();
+    assert_eq!(bytes, plan_a::bytes_without_04());
+    let back = to_text(&bytes).0;
+    assert!(!back.contains("execution"), "{back}");
+    assert_eq!(to_bytes(&back), Ok(bytes));
 }
 
 #[test]
@@ -448,7 +459,7 @@ fn of_a_long_word_the_front_is_shown() {
 
 #[test]
 fn line_by_line_as_all_at_once() {
-    for text in [PLAN_A, BREAKFAST] {
+    for text in [PLAN_A, BREAKFAST, LUNCH] {
         let mut translator = Translator::default();
         let lines = text.lines().flat_map(|line| translator.line(line).unwrap());
         assert_eq!(to_bytes(text), Ok(lines.collect()));

@@ -171,6 +171,10 @@ fn help_and_usage() {
         help.contains("    plan steps N stations N places N\n"),
         "{help}"
     );
+    let words = help.split_whitespace().collect::<Vec<_>>().join(" ");
+    let one_order = "Execution lines may be left out altogether: then the activation order is \
+        used for both.";
+    assert!(words.contains(one_order), "{help}");
     assert_eq!((errors, status), (String::new(), 0));
     for arguments in [
         &["--forth"][..],

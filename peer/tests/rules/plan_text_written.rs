@@ -136,8 +136,9 @@ fn a_plan_that_is_not_complete() {
     let what = ": no plan with both orders complete at the end";
     for orders in [
         "",
-        "activation 1 2 3\n",
+        "activation 1 2\n",
         "execution 1 2 3\n",
+        "activation 1 2 3\nexecution 1\n",
         "activation 1 2\nexecution 1 2 3\n",
         "activation 1 2 3\nexecution 1 2\n",
     ] {
@@ -147,6 +148,39 @@ fn a_plan_that_is_not_complete() {
     check_wrong(b"# no plan\n", what);
     check_wrong(&text(&[STEPS, ORDERS, DAY, STEPS]), what);
     check_wrong(b"plan steps 1 stations 1 places 0\n", what);
+}
+
+/// The activation order alone, and all of that plan once it has begun.
+const ONE_ORDER: &str = "activation 2 1 3\n";
+const ONE_ORDER_TWICE: &str = "activation 2 1 3\nexecution 2 1 3\n";
+
+#[test]
+fn without_execution_lines_the_activation_order_comes_twice() {
+    let tidy = text(&[STEPS, ONE_ORDER_TWICE]);
+    let bytes = to_bytes(str::from_utf8(&tidy).unwrap()).unwrap();
+    for day in ["begin\n", "begin\ndone 2 1\n", DAY] {
+        for orders in [ONE_ORDER, ONE_ORDER_TWICE] {
+            let text = text(&[STEPS, orders, day]);
+            assert_eq!(run(&["--written"], &text), fine(&bytes));
+        }
+    }
+    assert_eq!(run(&["--written"], &tidy), fine(&bytes));
+    assert_eq!(run(&["--back"], &bytes), fine(&tidy));
+}
+
+#[test]
+fn without_execution_lines_a_plan_has_to_begin() {
+    let what = ": no execution order, and no 'begin' to use the activation order for both";
+    check_wrong(&text(&[STEPS, ONE_ORDER]), what);
+    check_wrong(&text(&[STEPS, ORDERS, DAY, STEPS, ONE_ORDER]), what);
+    check_wrong(&text(&[STEPS, ONE_ORDER, DAY, STEPS, ONE_ORDER]), what);
+    let what = ":7: 'begin' is refused 3";
+    check_wrong(&text(&[STEPS, ONE_ORDER, "execution 2 1\nbegin\n"]), what);
+    let low = STEPS.replace("places 7", "places 6");
+    let what = ":6: 'begin' is refused 9";
+    check_wrong(&text(&[&low, ONE_ORDER, "begin\n"]), what);
+    let what = ":7: 'execution 2' is refused 3";
+    check_wrong(&text(&[STEPS, ONE_ORDER, "begin\nexecution 2 1 3\n"]), what);
 }
 
 #[test]
@@ -161,6 +195,11 @@ fn a_wrong_line() {
 fn messages_name_the_file() {
     for (name, orders, what) in [
         ("begun.plan", "begin\n", ":5: 'begin' is refused 3"),
+        (
+            "one-order.plan",
+            ONE_ORDER,
+            ": no execution order, and no 'begin' to use the activation order for both",
+        ),
         (
             "half.plan",
             "activation 1\n",
@@ -184,7 +223,7 @@ fn of_text(text: &str) -> Result<Option<Vec<u8>>, String> {
             fault.what
         })?;
     }
-    Ok(plan.bytes())
+    Ok(plan.bytes().ok())
 }
 
 #[test]

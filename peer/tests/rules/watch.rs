@@ -60,6 +60,9 @@ impl Watch {
             Command::Activation(task) => self.activation.push(task),
             Command::Execution(task) => self.execution.push(task),
             Command::Begin => {
+                if self.execution.is_empty() {
+                    self.execution = self.activation.clone();
+                }
                 self.needs = needs(&self.records)[..self.records.len()].to_vec();
                 self.started = vec![false; self.records.len()];
                 self.ended = vec![false; self.records.len()];
@@ -88,7 +91,8 @@ impl Watch {
         }
     }
 
-    /// The plan as it was given; none unless both its orders are complete.
+    /// The plan as it was given, and its activation order twice if it began
+    /// without the other; none unless both its orders are complete.
     pub fn menu(&self) -> Option<Menu> {
         let is_complete = |order: &[u16]| self.tasks > 0 && order.len() == self.tasks;
         let both_are = is_complete(&self.activation) && is_complete(&self.execution);

@@ -1,6 +1,8 @@
 //! A plan written back out: cases worked out by hand.
 
-use crate::menu::{accepting, bytes_of, done, give, hex, plan_a, plan_c, reading, written, Menu};
+use crate::menu::{
+    accepting, bytes_of, done, give, hex, plan_a, plan_c, reading, refused_plans, written, Menu,
+};
 use crate::naive::Naive;
 use crate::plan_a;
 use peer::{Phase, Plan, Wrote};
@@ -194,19 +196,7 @@ fn a_refusal_answers_its_number_and_no_bytes() {
 
 #[test]
 fn a_refused_begin_leaves_a_plan_to_write() {
-    let menu = |records, activation: &[u16]| Menu {
-        activation: activation.to_vec(),
-        ..Menu::new(1, 0, records)
-    };
-    for (menu, number) in [
-        (menu(&[(1, 0, 0)], &[1]), 7),
-        (menu(&[(0, 1, 1), (0, 1, 1)], &[1, 2]), 7),
-        (menu(&[(2, 1, 1), (1, 1, 1)], &[1, 2]), 7),
-        (menu(&[(0, 1, 1), (2, 1, 1)], &[1, 2]), 8),
-        (menu(&[(2, 0, 0), (1, 0, 0), (0, 0, 0)], &[1, 2, 3]), 8),
-        (menu(&[(0, 1, 1), (1, 1, 1)], &[1, 2]), 8),
-        (menu(&[(0, 1, 1), (1, 1, 1)], &[2, 1]), 9),
-    ] {
+    for (menu, number) in refused_plans() {
         check(&menu);
         let (answer, _, plan) = menu.begun();
         assert_eq!(answer.number, number);

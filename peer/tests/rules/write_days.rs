@@ -54,7 +54,7 @@ fn check_restored(plan: &Plan, bytes: &[u8]) {
 #[test]
 fn streams_cut_anywhere() {
     let mut seen: BTreeMap<&str, usize> = BTreeMap::new();
-    for stream in (4200..4500).map(cut_stream) {
+    for stream in (5000..5600).map(cut_stream) {
         let (watch, plan, number) = follow(&stream, |_, _| {});
         let bytes = written(&plan, Plan::WRITTEN);
         assert_eq!(bytes, wanted(&watch));
