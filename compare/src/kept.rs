@@ -1,6 +1,5 @@
 //! A plan that is kept and asked: the proved one, and the peer's.
 
-use crate::tool::is_whole;
 use cephlouk::{Answer, Phase, Refusal, Standing};
 use std::ops::Range;
 
@@ -27,7 +26,7 @@ pub struct Questions {
     pub in_use: u32,
     pub fullness: u32,
     pub standing: Standing,
-    /// Whether both orders are complete: what it would write, were there a list.
+    /// Whether both orders are complete: it would be written, were there a list.
     pub is_whole: bool,
 }
 
@@ -64,6 +63,11 @@ impl Kept for cephlouk::Plan {
     fn clear(&mut self) {
         cephlouk::Plan::clear(self);
     }
+}
+
+/// Whether both orders of the peer's plan are complete.
+pub fn is_whole(plan: &peer::Plan) -> bool {
+    plan.write(&mut []).number != peer::Refusal::OutOfTurn.number()
 }
 
 /// The peer does not show what it keeps.

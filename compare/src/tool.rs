@@ -1,9 +1,9 @@
 //! A tool beside the peer's: it is asked where the commands of a stream led to
 //! a plan, cut at any of them, and with good and bad operands.
 
-use crate::kept::{give, Kept};
+use crate::kept::{give, is_whole, Kept};
 use peer::generate::{stream, Random};
-use peer::{decode, Command, Plan, Refusal};
+use peer::{decode, Command, Plan};
 use std::collections::BTreeMap;
 use std::fmt::Debug;
 
@@ -108,12 +108,6 @@ fn moment(plan: &Plan) -> usize {
         (true, false) => MOMENTS - 1,
         _ => plan.phase() as usize,
     }
-}
-
-/// Whether both orders of a plan are complete: it would be written, were there a
-/// list.
-pub fn is_whole(plan: &Plan) -> bool {
-    plan.write(&mut []).number != Refusal::OutOfTurn.number()
 }
 
 #[cfg(test)]

@@ -58,11 +58,11 @@ completed-whole s ranked placed =
 -- BEGIN as it was: where it was in turn, it still is
 module _ (s : State) where
   -- the plan was in orders with a full activation order
-  abbrev ready : Bool
-  ready = eqb (s .phase) Phase.orders && eqb (length (s .activation)) (s .size)
+  abbrev fullOrder : Bool
+  fullOrder = eqb (s .phase) Phase.orders && eqb (length (s .activation)) (s .size)
 
   abbrev both : Bool
-  both = ready && eqb (length (s .execution)) (s .size)
+  both = fullOrder && eqb (length (s .execution)) (s .size)
 
   -- what was accepted is accepted, and is answered alike
   accepted-before :
@@ -71,7 +71,7 @@ module _ (s : State) where
   unfolding groundBefore outcomeBefore obey
   accepted-before g =
       let was = demand-none both 3 (ownGround s begin) (λ q. omega arith) g in
-      let last = and-true ready (eqb (length (s .execution)) (s .size)) (was .0) in
+      let last = and-true fullOrder (eqb (length (s .execution)) (s .size)) (was .0) in
       let first = and-true (eqb (s .phase) Phase.orders) (eqb (length (s .activation)) (s .size)) (last .0) in
       let ranked = eqb-true (length (s .activation)) (s .size) (first .1) in
       let placed = eqb-true (length (s .execution)) (s .size) (last .1) in
@@ -84,7 +84,7 @@ module _ (s : State) where
   ground-before : oneOrder s ≡ false → ground s begin ≡ groundBefore s
   unfolding groundBefore oneOrder inTurn inLimits ground
   ground-before other =
-      ap (λ (t : Bool). demand t 3 (ownGround s begin)) (without ready (eqb (length (s .execution)) (s .size)) (noExecution s) other)
+      ap (λ (t : Bool). demand t 3 (ownGround s begin)) (without fullOrder (eqb (length (s .execution)) (s .size)) (noExecution s) other)
     where
       without : (a b c : Bool) → (a && c) ≡ false → (a && (b || c)) ≡ (a && b)
       without true b c none = rw none (or-none b)
@@ -94,7 +94,7 @@ module _ (s : State) where
   unfolding groundBefore
   late-before some one =
       let none = found s one .none in
-      rw (ne-eqb (length (s .execution)) (s .size) (λ e. omega arith), and-none ready)
+      rw (ne-eqb (length (s .execution)) (s .size) (λ e. omega arith), and-none fullOrder)
 
   -- the answer to BEGIN as it was
   module _ (list : List ℕ) where
@@ -184,7 +184,7 @@ accepted-streams (a ∷ later) s all =
 pub every-one-order-holds : EveryOneOrderHolds
 every-one-order-holds =
     record {
-      kept = completed-given;
+      stays = completed-given;
       plans = one-order-holds;
       part = part-late;
       streams = λ s asks. accepted-streams asks s;

@@ -73,8 +73,8 @@ pub record OneOrderHolds (s : State) : Type 0 where
   pub refusal : (used : ℕ) (list : List ℕ) → (grounds.ground s begin ≡ 0 → ⊥) → judge s begin used list .state ≡ s
 
 pub record EveryOneOrderHolds : Type 0 where
-  -- an execution order that was given is kept
-  pub kept : (s : State) → (length (s .execution) ≡ 0 → ⊥) → completed s ≡ s
+  -- an execution order that was given stays
+  pub stays : (s : State) → (length (s .execution) ≡ 0 → ⊥) → completed s ≡ s
   pub plans : (s : State) → Reachable s → oneOrder s ≡ true → OneOrderHolds s
   -- "3 as before where 1 to n − 1 entries of 04 were given"
   pub part : (s : State) → 1 ≤ length (s .execution) → length (s .execution) < s .size → grounds.ground s begin ≡ 3
