@@ -34,6 +34,7 @@ static const struct form forms[] = {
     {"execution", "execution N ...", 1, CEPHLOUK_EXECUTION, {{NULL, 2}}},
     {"begin", "begin", 0, CEPHLOUK_BEGIN, {{NULL, 0}}},
     {"done", "done N ...", 1, CEPHLOUK_DONE, {{NULL, 2}}},
+    {"fetch", "fetch", 0, CEPHLOUK_FETCH, {{NULL, 0}}},
     {NULL, NULL, 0, 0, {{NULL, 0}}},
 };
 
@@ -43,7 +44,7 @@ static const char *const grounds[] = {
     "too short a list",
 };
 
-static const char *const phases[] = {"empty", "steps missing", "orders", "running", "over"};
+static const char *const phases[] = {"empty", "steps missing", "orders", "running", "over", "ready"};
 
 static char *next_word(void)
 {

@@ -40,14 +40,15 @@ enum {
     CEPHLOUK_ACTIVATION = 0x03, /* step (2): the next in the activation order */
     CEPHLOUK_EXECUTION = 0x04,  /* step (2): the next in the execution order: n of them, or none at all */
     CEPHLOUK_BEGIN = 0x05,      /* no operands: the day begins; where no 04 was given, the activation order is used for both */
-    CEPHLOUK_DONE = 0x06        /* step (2): this step has ended */
+    CEPHLOUK_DONE = 0x06,       /* step (2): this step has ended */
+    CEPHLOUK_FETCH = 0x07       /* no operands: the trolley is fetched, and the out of the last step is free */
 };
 
 /* The number of an answer. */
 enum {
     CEPHLOUK_ACCEPTED = 0,
     CEPHLOUK_CUT_SHORT = 1,        /* no byte is left at the place, or operands are cut short */
-    CEPHLOUK_UNKNOWN_BYTE = 2,     /* the byte is none of 01 to 06 */
+    CEPHLOUK_UNKNOWN_BYTE = 2,     /* the byte is none of 01 to 07 */
     CEPHLOUK_OUT_OF_TURN = 3,      /* the command, or what the plan is asked, is not in turn */
     CEPHLOUK_OUTSIDE_LIMITS = 4,   /* n, p, a parent or a step number is outside its limits */
     CEPHLOUK_REPEATED = 5,         /* the step is already in that order */
@@ -65,7 +66,8 @@ enum {
     CEPHLOUK_PHASE_STEPS = 1,   /* steps are missing */
     CEPHLOUK_PHASE_ORDERS = 2,  /* entries of the orders, or BEGIN, are missing */
     CEPHLOUK_PHASE_RUNNING = 3, /* the day runs: at least one step is running */
-    CEPHLOUK_PHASE_OVER = 4     /* the last step has ended */
+    CEPHLOUK_PHASE_OVER = 4,    /* the last step has ended, and its trolley has been fetched */
+    CEPHLOUK_PHASE_READY = 5    /* the last step has ended, and its out stands in the cold room until it is fetched */
 };
 
 /* The answer to a command; in a refusal all but the number is 0. */
@@ -118,10 +120,10 @@ struct cephlouk_answer cephlouk_command(uint32_t *plan, const uint8_t *bytes, si
 
 /* Questions, at any time. A plan that is asked is only read. */
 uint32_t cephlouk_phase(const uint32_t *plan);
-uint32_t cephlouk_booked(const uint32_t *plan);                   /* trays booked; 0 outside running */
-uint32_t cephlouk_in_use(const uint32_t *plan);                   /* trays in use; 0 outside running */
-uint32_t cephlouk_fullness(const uint32_t *plan);                 /* trays booked, in thousandths of the places; 0 outside running */
-struct cephlouk_counts cephlouk_standing(const uint32_t *plan);   /* four zeros outside running and over */
+uint32_t cephlouk_booked(const uint32_t *plan);                 /* trays booked; 0 outside running and ready */
+uint32_t cephlouk_in_use(const uint32_t *plan);                 /* trays in use; 0 outside running and ready */
+uint32_t cephlouk_fullness(const uint32_t *plan);               /* trays booked, in thousandths of places; 0 outside running and ready */
+struct cephlouk_counts cephlouk_standing(const uint32_t *plan); /* four zeros outside running, ready and over */
 struct cephlouk_reason cephlouk_why(const uint32_t *plan, uint16_t task); /* why a step is not starting */
 
 /* Writes what was given of a plan back out, to the front of a list of `length` bytes: PLAN, the steps, the activation order and the

@@ -14,6 +14,7 @@
 //! | 04 | step (2) | next in the execution order: n of them, or none at all |
 //! | 05 | none | BEGIN: the day begins; where no 04 was given, the activation order is used for both |
 //! | 06 | step (2) | DONE: this step has ended |
+//! | 07 | none | FETCH: the trolley is fetched, and the out of the last step is free |
 //!
 //! Two salads go into one bowl, and the cold room has 7 places:
 //!
@@ -42,7 +43,13 @@
 //! assert_eq!(plan.command(&[0x06, 1, 0])?.starts, [2]);
 //! assert_eq!(plan.command(&[0x06, 2, 0])?.starts, [3]);
 //! assert_eq!(plan.command(&[0x06, 3, 0])?.starts, []);
+//!
+//! // The bowl keeps its tray until it is fetched.
+//! assert_eq!(plan.phase(), Phase::Ready);
+//! assert_eq!(plan.booked(), 1);
+//! plan.command(&[0x07])?;
 //! assert_eq!(plan.phase(), Phase::Over);
+//! assert_eq!(plan.booked(), 0);
 //! # Ok::<(), Refusal>(())
 //! ```
 

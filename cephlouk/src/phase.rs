@@ -11,8 +11,11 @@ pub enum Phase {
     Orders,
     /// The day runs.
     Running,
-    /// The last step has ended.
+    /// The last step has ended, and its trolley has been fetched.
     Over,
+    /// The last step has ended, and its out stands in the cold room until it is
+    /// fetched.
+    Ready,
 }
 
 impl Phase {
@@ -23,7 +26,8 @@ impl Phase {
             1 => Phase::Steps,
             2 => Phase::Orders,
             3 => Phase::Running,
-            _ => Phase::Over,
+            4 => Phase::Over,
+            _ => Phase::Ready,
         }
     }
 }

@@ -72,9 +72,10 @@ impl Plan {
     /// ```
     /// use cephlouk::{Phase, Plan, Refusal};
     ///
-    /// // One step with no trays, both orders, BEGIN and DONE.
+    /// // One step with no trays, both orders, BEGIN, DONE and FETCH.
     /// let day = [
     ///     0x01, 1, 0, 1, 0, 0, 0, 0, 0x02, 0, 0, 0, 0, 0, 0, 0x03, 1, 0, 0x04, 1, 0, 0x05, 0x06, 1, 0,
+    ///     0x07,
     /// ];
     /// let mut plan = Plan::new();
     /// let mut place = 0;
@@ -119,23 +120,23 @@ impl Plan {
         Phase::of_number(unsafe { exported::cephlouk_phase(self.words.as_ptr()) })
     }
 
-    /// Trays booked; 0 outside running.
+    /// Trays booked; 0 outside running and ready.
     pub fn booked(&self) -> u32 {
         unsafe { exported::cephlouk_booked(self.words.as_ptr()) }
     }
 
-    /// Trays in use; 0 outside running.
+    /// Trays in use; 0 outside running and ready.
     pub fn in_use(&self) -> u32 {
         unsafe { exported::cephlouk_in_use(self.words.as_ptr()) }
     }
 
-    /// Trays booked, in thousandths of the places; 0 outside running.
+    /// Trays booked, in thousandths of the places; 0 outside running and ready.
     pub fn fullness(&self) -> u32 {
         unsafe { exported::cephlouk_fullness(self.words.as_ptr()) }
     }
 
     /// How many steps wait, are booked, run and have ended; four zeros outside
-    /// running and over.
+    /// running, ready and over.
     pub fn standing(&self) -> Standing {
         unsafe { exported::cephlouk_standing(self.words.as_ptr()) }
     }

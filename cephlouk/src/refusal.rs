@@ -19,7 +19,7 @@ use std::fmt::{Display, Formatter, Result};
 pub enum Refusal {
     /// No byte is left at the place, or operands are cut short.
     CutShort = 1,
-    /// The byte is none of 01 to 06.
+    /// The byte is none of 01 to 07.
     UnknownByte = 2,
     /// The command, or what the plan is asked, is not in turn: the question why
     /// a step is not starting outside running, and writing a plan until both

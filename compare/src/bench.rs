@@ -11,17 +11,24 @@ use std::ops::Range;
 
 /// About so many tasks have the copies of a plan that are timed together.
 const TASKS_TOGETHER: usize = 512;
+/// So many copies of a plan are fetched together, whatever their tasks.
+const FETCHED_TOGETHER: usize = 8;
 
 fn main() {
     print_notes();
     let done = print_table("DONE", reports);
     let begin = print_table("BEGIN, divided by n", begin);
     let one_order = print_table("BEGIN without 04, divided by n", begin_with_one_order);
+    let fetch = print_table("FETCH", fetch);
     let setup = print_table("PLAN, STEP, 03 and 04", setup);
     let why = print_table("Why a step is not starting", why);
     let write = print_table("A plan written out, divided by n", write);
     let programs = programs::times();
-    print_aims([done, begin, setup], [&one_order, &why, &write], programs);
+    print_aims(
+        [done, begin, setup],
+        [&one_order, &fetch, &why, &write],
+        programs,
+    );
 }
 
 /// How the figures come about.
@@ -30,9 +37,9 @@ fn print_notes() {
         "- Nanoseconds per command, of BEGIN per step of the plan, by the proved library through its exported function and by the peer, which gets the same \
          bytes in the same process. Both are built for release.\n\
          - A sample gives all commands of one kind to fresh copies of a plan that was led up to them: all reports of a day, its \
-         BEGIN, with 04 and without, or all commands ahead of BEGIN, these on a plan whose day is over. The copies, 8 at 64 steps, 2 at 256 and 1 at \
-         1,024, are made before the time is taken. It is the time for which the thread had a processor, less that of a look at \
-         the clock. The two sides take turns, and a figure is the median of {SAMPLES} samples.\n\
+         BEGIN, with 04 and without, its FETCH, or all commands ahead of BEGIN, these on a plan whose day is over. The copies, 8 at 64 steps, 2 at \
+         256 and 1 at 1,024, of FETCH {FETCHED_TOGETHER} each, are made before the time is taken. It is the time for which the thread had a \
+         processor, less that of a look at the clock. The two sides take turns, and a figure is the median of {SAMPLES} samples.\n\
          - Parents have lower numbers than their children, the activation order falls and the execution order is mixed; works \
          and outs are 0 to 20; any running step ends next.\n\
          - Why a step is not starting is asked of every step once half of the reports came; the figure is that of one asking. The \
@@ -58,6 +65,13 @@ fn begin(day: &Day) -> Pair {
 /// The same where no 04 was given.
 fn begin_with_one_order(day: &Day) -> Pair {
     pair(day, day.begin(), day.activated(), day.tasks)
+}
+
+/// FETCH.
+fn fetch(day: &Day) -> Pair {
+    let places = day.fetch();
+    let led_to = places.start;
+    pair_of_copies(day, places, led_to, FETCHED_TOGETHER)
 }
 
 /// A command ahead of BEGIN.
@@ -106,19 +120,25 @@ fn write(day: &Day) -> Pair {
 /// A command of those at some places, on a plan that was led to a place.
 fn pair(day: &Day, places: Range<usize>, led_to: usize, commands: usize) -> Pair {
     let copies = (TASKS_TOGETHER / day.tasks).max(1);
+    let times = pair_of_copies(day, places, led_to, copies);
+    times.map(|time| time / commands as f64)
+}
+
+/// All commands at some places, on one of so many copies of such a plan.
+fn pair_of_copies(day: &Day, places: Range<usize>, led_to: usize, copies: usize) -> Pair {
     let proved = day.led(cephlouk::Plan::new(), led_to);
     let peer = day.led(peer::Plan::new(), led_to);
     let times = medians([
         &mut Batch::new(day, places.clone(), proved, copies),
         &mut Batch::new(day, places, peer, copies),
     ]);
-    times.map(|time| time / (copies * commands) as f64)
+    times.map(|time| time / copies as f64)
 }
 
 /// What is aimed at, and what was measured.
 fn print_aims(
     [done, begin, setup]: [Extremes; 3],
-    [one_order, why, write]: [&Extremes; 3],
+    [one_order, fetch, why, write]: [&Extremes; 4],
     [printer, peer]: [[f64; 2]; 2],
 ) {
     let ratio = |extremes: &Extremes| {
@@ -135,6 +155,7 @@ fn print_aims(
     );
     println!("| BEGIN | at most 1.1 | {} |", ratio(&begin));
     println!("| BEGIN without 04 | at most 1.1 | {} |", ratio(one_order));
+    println!("| FETCH | – | {} |", ratio(fetch));
     println!(
         "| PLAN, STEP, 03 and 04 | at most 0.8 | {} |",
         ratio(&setup)

@@ -51,7 +51,12 @@ impl Day {
 
     /// The places of the reports.
     pub fn reports(&self) -> Range<usize> {
-        self.begin + 1..self.bytes.len()
+        self.begin().end..self.fetch().start
+    }
+
+    /// The place of FETCH, the last command.
+    pub fn fetch(&self) -> Range<usize> {
+        self.bytes.len() - 1..self.bytes.len()
     }
 
     /// The place behind half of the reports.
@@ -99,8 +104,8 @@ fn setup(random: &mut Random, shape: Shape, n: usize, p: u8, peaks: u32) -> Vec<
     commands
 }
 
-/// Adds BEGIN and the reports of all tasks, in some order in which they can
-/// end, by the peer.
+/// Adds BEGIN, the reports of all tasks, in some order in which they can end, by
+/// the peer, and FETCH.
 fn add_day(random: &mut Random, bytes: &mut Vec<u8>) {
     let mut plan = Plan::new();
     let mut starts = [0; Plan::STARTS];
@@ -116,4 +121,5 @@ fn add_day(random: &mut Random, bytes: &mut Vec<u8>) {
             bytes.extend(encode(Command::Done(task)));
         }
     }
+    bytes.extend(encode(Command::Fetch));
 }

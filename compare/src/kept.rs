@@ -92,6 +92,7 @@ impl Kept for peer::Plan {
                 peer::Phase::Orders => Phase::Orders,
                 peer::Phase::Running => Phase::Running,
                 peer::Phase::Over => Phase::Over,
+                peer::Phase::Ready => Phase::Ready,
             },
             booked: self.booked(),
             in_use: self.in_use(),

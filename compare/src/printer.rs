@@ -31,6 +31,7 @@ const TEXTS: [(&str, &str); 3] = [
 #[derive(Default)]
 struct Tally {
     lines: usize,
+    fetched: usize,
     refusals: usize,
     after_refusals: usize,
     in_pieces: usize,
@@ -55,6 +56,10 @@ impl Tally {
         let output = expected(&bytes);
         let text = String::from_utf8_lossy(&output);
         self.lines += text.lines().count();
+        self.fetched += text
+            .lines()
+            .filter(|line| line.starts_with("fetch "))
+            .count();
         let refused = text
             .lines()
             .last()
@@ -134,9 +139,10 @@ fn main() -> ExitCode {
         return ExitCode::FAILURE;
     }
     println!(
-        "printer: {count} streams, the same {} lines, {} of them refusals, {} with another day fed behind; \
+        "printer: {count} streams, the same {} lines, {} of them of FETCH, {} refusals, {} with another day fed behind; \
          {} streams in pieces too; {} long ones as files; {} texts typed",
         tally.lines,
+        tally.fetched,
         tally.refusals,
         tally.after_refusals,
         tally.in_pieces,

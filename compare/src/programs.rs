@@ -44,7 +44,7 @@ fn stream() -> Vec<u8> {
             break;
         }
         stream.extend(Day::new(shape, Plan::TASKS, 4, 2).bytes);
-        commands += 4 * Plan::TASKS + 2;
+        commands += 4 * Plan::TASKS + 3;
     }
     stream
 }

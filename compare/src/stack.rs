@@ -110,7 +110,8 @@ fn name(byte: u8) -> &'static str {
         0x03 => "cephlouk_command, 03",
         0x04 => "cephlouk_command, 04",
         0x05 => "cephlouk_command, BEGIN",
-        _ => "cephlouk_command, DONE",
+        0x06 => "cephlouk_command, DONE",
+        _ => "cephlouk_command, FETCH",
     }
 }
 

@@ -121,6 +121,14 @@ mod tests {
     }
 
     #[test]
+    fn days_to_their_fetch() {
+        for stream in [another_day(), long(&[])] {
+            let (line, _) = last_line(&stream);
+            assert_eq!(line, "fetch booked=0");
+        }
+    }
+
+    #[test]
     fn a_refusal_behind_the_input_buffer() {
         let days = long(&[]);
         assert!(days.len() > 3 * INPUT_BUFFER);

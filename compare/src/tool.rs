@@ -22,9 +22,9 @@ pub trait Tool {
     fn answer(commands: &[u8], lent: &mut Self::Lent) -> Vec<u64>;
 }
 
-/// How many moments of a plan are told apart: its five phases, of which orders
+/// How many moments of a plan are told apart: its six phases, of which orders
 /// is three.
-const MOMENTS: usize = 7;
+const MOMENTS: usize = 8;
 
 /// How many answers had which first number.
 pub type Tally = BTreeMap<u64, u64>;

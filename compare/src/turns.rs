@@ -147,7 +147,7 @@ impl<P: Kept> Pair<P> {
         } else if self.plan.words() != self.words {
             return Err(self.tell(asking, "a refusal changed words of the plan"));
         }
-        tally.add(wanted.answer.number, &before, &wanted.questions);
+        tally.add(asking, &wanted.answer, &before, &wanted.questions);
         self.asked += 1;
         Ok(())
     }
@@ -219,12 +219,14 @@ fn marks(entries: usize) -> Vec<u16> {
     (0..entries as u16).map(|place| !place).collect()
 }
 
-/// An asking as it comes here: its start list has up to the most entries, and
-/// sometimes there are more bytes ahead of it.
+/// An asking as it comes here: its start list has up to the most entries, where
+/// it is too short often one too few, and sometimes there are more bytes ahead
+/// of it.
 fn recast(random: &mut Random, asking: Asking) -> Asking {
     let least = Plan::LEAST_STARTS;
     let starts_len = if asking.starts_len < least {
-        random.below(least)
+        let any = random.below(least);
+        random.pick(&[least - 1, any])
     } else {
         random.between(least as u32, LONGEST_LIST as u32) as usize
     };
@@ -243,8 +245,12 @@ fn recast(random: &mut Random, asking: Asking) -> Asking {
 #[cfg(test)]
 mod tests {
     use super::*;
+    use cephlouk::Phase;
     use std::cell::Cell;
     use std::rc::Rc;
+
+    /// Among so many askings there is one of those looked for.
+    const MORE: usize = 150;
 
     /// What goes wrong.
     #[derive(Clone, Copy)]
@@ -311,16 +317,33 @@ mod tests {
         told.err().expect("a difference")
     }
 
-    /// The first asking of a seed, from one on, that is refused and has a start
-    /// list of entries enough.
-    fn refused(seed: u64, from: usize) -> usize {
+    /// The first asking of a seed, from one on, that has a start list of entries
+    /// enough and is one of those looked for, by the phase ahead of it and the
+    /// number of its answer.
+    fn first(seed: u64, from: usize, is_such: fn(Phase, u8) -> bool) -> usize {
         let mut plan = peer::Plan::new();
-        let answered = many_askings(seed, from).into_iter().map(|asking| {
+        let answered = many_askings(seed, from + MORE).into_iter().map(|asking| {
+            let phase = plan.questions().phase;
             let outcome = Outcome::of(&mut plan, &asking);
-            outcome.answer.number != 0 && outcome.starts.len() >= Plan::LEAST_STARTS
+            is_such(phase, outcome.answer.number) && outcome.starts.len() >= Plan::LEAST_STARTS
         });
         let mut places = answered.enumerate().skip(from);
-        places.find(|&(_, is_such)| is_such).expect("a refusal").0
+        places
+            .find(|&(_, is_such)| is_such)
+            .expect("such an asking")
+            .0
+    }
+
+    fn is_refused(_: Phase, number: u8) -> bool {
+        number != 0
+    }
+
+    fn is_refused_in_ready(phase: Phase, number: u8) -> bool {
+        phase == Phase::Ready && number != 0
+    }
+
+    fn is_fetch(phase: Phase, number: u8) -> bool {
+        phase == Phase::Ready && number == 0
     }
 
     #[test]
@@ -337,27 +360,36 @@ mod tests {
 
     #[test]
     fn a_touched_entry_is_told_with_its_list() {
-        let at = refused(6, 30);
-        let told = told(6, at, Fault::StartList);
-        assert!(told.starts_with(&format!("seed 6, asking {at} ")), "{told}");
-        assert!(told.contains("start list [63] 9\n"), "{told}");
+        for is_such in [is_refused, is_refused_in_ready, is_fetch] {
+            let at = first(10, 30, is_such);
+            let told = told(10, at, Fault::StartList);
+            assert!(
+                told.starts_with(&format!("seed 10, asking {at} ")),
+                "{told}"
+            );
+            assert!(told.contains("start list [63] 9\n"), "{told}");
+        }
     }
 
     #[test]
     fn a_wrong_answer_to_a_question_is_told() {
-        let told = told(7, 40, Fault::Finished);
-        assert!(told.starts_with("seed 7, asking 40 "), "{told}");
+        for at in [40, first(7, 40, is_fetch)] {
+            let told = told(7, at, Fault::Finished);
+            assert!(told.starts_with(&format!("seed 7, asking {at} ")), "{told}");
+        }
     }
 
     #[test]
     fn a_word_that_a_refusal_changes_is_told() {
-        let at = refused(8, 20);
-        let told = told(8, at, Fault::Word);
-        assert!(told.starts_with(&format!("seed 8, asking {at} ")), "{told}");
-        assert!(
-            told.ends_with("a refusal changed words of the plan"),
-            "{told}"
-        );
+        for is_such in [is_refused, is_refused_in_ready] {
+            let at = first(8, 20, is_such);
+            let told = told(8, at, Fault::Word);
+            assert!(told.starts_with(&format!("seed 8, asking {at} ")), "{told}");
+            assert!(
+                told.ends_with("a refusal changed words of the plan"),
+                "{told}"
+            );
+        }
     }
 
     /// The peer with a word that the askings of one plan set in all others.

@@ -34,7 +34,7 @@ impl Plan {
         figures.standing = Standing::Activated;
         let by_subtree = figures.by_subtree;
         if figures.unfinished_children == 0 {
-            self.ready.insert(self.execution.place(task));
+            self.available.insert(self.execution.place(task));
         }
         // The parent still waits; from now on its sum counts this task.
         if let Some(parent) = self.records[index(task)].parent_index() {

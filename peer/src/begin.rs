@@ -1,11 +1,11 @@
 //! BEGIN: the last checks, the figures of a new day, its first starts.
 
 use crate::answer::Answer;
+use crate::available::Available;
 use crate::figures::Figures;
 use crate::peak::{needs, peak};
 use crate::phase::Phase;
 use crate::plan::Plan;
-use crate::ready::Ready;
 use crate::refusal::Refusal;
 use crate::tree::check_tree;
 
@@ -54,7 +54,7 @@ impl Plan {
                 self.figures[parent].unfinished_children += 1;
             }
         }
-        self.ready = Ready::new();
+        self.available = Available::new();
         self.activated = 0;
         self.running = 0;
         self.finished = 0;

@@ -22,6 +22,8 @@ pub enum Command {
     Begin,
     /// 06, DONE: this task has ended.
     Done(u16),
+    /// 07, FETCH.
+    Fetch,
 }
 
 /// The bytes of PLAN.
@@ -30,8 +32,8 @@ pub(crate) const PLAN_BYTES: usize = 8;
 pub(crate) const STEP_BYTES: usize = 7;
 /// The bytes of a command with one step number.
 pub(crate) const NUMBER_BYTES: usize = 3;
-/// The bytes of BEGIN.
-const BEGIN_BYTES: usize = 1;
+/// The bytes of a command without operands.
+const BARE_BYTES: usize = 1;
 
 /// Reads the command at a place in a stream and tells how many bytes it uses.
 /// The checks come in the paper's order: no byte, unknown byte, cut operands.
@@ -59,8 +61,9 @@ pub fn decode(stream: &[u8], place: usize) -> Result<(Command, usize), Refusal> 
         }
         0x03 => Ok((Command::Activation(number(operands)?), NUMBER_BYTES)),
         0x04 => Ok((Command::Execution(number(operands)?), NUMBER_BYTES)),
-        0x05 => Ok((Command::Begin, BEGIN_BYTES)),
+        0x05 => Ok((Command::Begin, BARE_BYTES)),
         0x06 => Ok((Command::Done(number(operands)?), NUMBER_BYTES)),
+        0x07 => Ok((Command::Fetch, BARE_BYTES)),
         _ => Err(Refusal::UnknownByte),
     }
 }

@@ -9,16 +9,14 @@ impl Plan {
     pub(crate) fn dispatch(&mut self, task: usize) -> usize {
         let figures = &mut self.figures[task];
         // R: it belongs to no task until it is given.
-        let mut left = figures.booked;
+        let taken = figures.booked;
         figures.booked = 0;
         figures.by_subtree = 0;
+        // The out goes to the parent; the root's remains booked.
         let parent = self.records[task].parent_index();
-        if let Some(parent) = parent {
-            let out = u32::from(self.records[task].out);
-            self.figures[parent].booked += out;
-            left -= out;
-        }
-        let (offers, free) = self.climb(parent, left);
+        let out = u32::from(self.records[task].out);
+        self.figures[parent.unwrap_or(task)].booked += out;
+        let (offers, free) = self.climb(parent, taken - out);
         self.booked -= free;
         offers
     }

@@ -9,7 +9,7 @@ use crate::refusal::Refusal;
 
 impl Plan {
     /// DONE shares out, books ahead and starts. When the root ends the phase
-    /// is over.
+    /// is ready.
     pub(crate) fn done(&mut self, task: u16, starts: &mut [u16]) -> Result<Answer, Refusal> {
         if self.phase != Phase::Running {
             return Err(Refusal::OutOfTurn);
@@ -23,7 +23,7 @@ impl Plan {
         self.activate();
         let starts = self.start(starts);
         if self.finished == self.tasks {
-            self.phase = Phase::Over;
+            self.phase = Phase::Ready;
         }
         Ok(Answer {
             starts,
@@ -32,20 +32,19 @@ impl Plan {
         })
     }
 
-    /// The task leaves its processor; its out stays in use unless it is the
-    /// root, and its parent has one child less to wait for.
+    /// The task leaves its processor and its out stays in use; its parent has
+    /// one child less to wait for.
     fn finish(&mut self, task: usize) {
         self.figures[task].standing = Standing::Finished;
         self.running -= 1;
         self.finished += 1;
-        self.in_use -= self.figures[task].need;
         let record = self.records[task];
+        self.in_use -= self.figures[task].need - u32::from(record.out);
         if let Some(parent) = record.parent_index() {
-            self.in_use += u32::from(record.out);
             let figures = &mut self.figures[parent];
             figures.unfinished_children -= 1;
             if figures.unfinished_children == 0 && figures.standing == Standing::Activated {
-                self.ready.insert(self.execution.place(record.parent));
+                self.available.insert(self.execution.place(record.parent));
             }
         }
     }

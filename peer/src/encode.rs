@@ -16,6 +16,7 @@ pub fn encode(command: Command) -> Vec<u8> {
         Command::Execution(task) => execution(task).to_vec(),
         Command::Begin => vec![0x05],
         Command::Done(task) => with_number(0x06, task).to_vec(),
+        Command::Fetch => vec![0x07],
     }
 }
 

@@ -1,7 +1,8 @@
 //! An independent writing of the rules in document 01: the plan, the booking
-//! and the day; and of requests 01 to 03 in document 02: why a step isn't
-//! starting, a plan written back out, and a plan without an execution order. It
-//! shares nothing with the tool it is compared with.
+//! and the day; and of requests 01 to 04 in document 02: why a step isn't
+//! starting, a plan written back out, a plan without an execution order, and the
+//! trolley that stands until it is fetched. It shares nothing with the tool it is
+//! compared with.
 //!
 //! Terms follow research report RR-8966: a step is a task, a station a
 //! processor, the tray places the memory bound, and booked trays are booked
@@ -9,6 +10,7 @@
 
 mod activate;
 mod answer;
+mod available;
 mod begin;
 mod command;
 mod desk;
@@ -16,6 +18,7 @@ mod dispatch;
 mod done;
 mod encode;
 mod feed;
+mod fetch;
 mod figures;
 mod fullness;
 pub mod generate;
@@ -26,7 +29,6 @@ mod phase;
 mod plan;
 pub mod plan_text;
 pub mod printer;
-mod ready;
 mod record;
 mod refusal;
 mod start;

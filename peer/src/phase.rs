@@ -1,6 +1,7 @@
 //! The phases of a plan.
 
-/// Empty, steps, orders, running, over.
+/// Empty, steps, orders, running, over; and ready, between running and over,
+/// which stands last so that the numbers of the others stay.
 #[derive(Clone, Copy, Debug, PartialEq, Eq)]
 pub enum Phase {
     Empty,
@@ -8,4 +9,5 @@ pub enum Phase {
     Orders,
     Running,
     Over,
+    Ready,
 }

@@ -1,11 +1,11 @@
 //! The plan: its limits, its figures and the questions it answers.
 
+use crate::available::Available;
 use crate::figures::Figures;
 use crate::fullness::fullness;
 use crate::order::Order;
 use crate::phase::Phase;
-use crate::ready::Ready;
-use crate::record::Record;
+use crate::record::{index, Record};
 
 /// A plan with its booking. All figures are kept in place, whatever n is.
 #[derive(Clone)]
@@ -24,7 +24,7 @@ pub struct Plan {
     /// Given by 04; or, where no 04 came, the activation order from BEGIN on.
     pub(crate) execution: Order,
     pub(crate) figures: [Figures; Plan::TASKS],
-    pub(crate) ready: Ready,
+    pub(crate) available: Available,
     /// How many tasks no longer wait; the place in the activation order of
     /// the first that does.
     pub(crate) activated: usize,
@@ -32,9 +32,10 @@ pub struct Plan {
     pub(crate) running: usize,
     /// How many tasks have ended.
     pub(crate) finished: usize,
-    /// B, the sum of all booked trays.
+    /// B, the sum of all booked trays; 0 outside running and ready, since
+    /// FETCH frees the last of them.
     pub(crate) booked: u32,
-    /// Trays in use.
+    /// Trays in use; 0 outside running and ready.
     pub(crate) in_use: u32,
 }
 
@@ -58,7 +59,7 @@ impl Plan {
             activation: Order::new(),
             execution: Order::new(),
             figures: [Figures::new(0); Plan::TASKS],
-            ready: Ready::new(),
+            available: Available::new(),
             activated: 0,
             running: 0,
             finished: 0,
@@ -72,35 +73,34 @@ impl Plan {
         self.phase
     }
 
-    /// Booked trays, B; 0 outside running.
+    /// Booked trays, B; 0 outside running and ready.
     pub fn booked(&self) -> u32 {
-        self.while_running(self.booked)
+        self.booked
     }
 
-    /// Trays in use; 0 outside running.
+    /// Trays in use; 0 outside running and ready.
     pub fn in_use(&self) -> u32 {
-        self.while_running(self.in_use)
+        self.in_use
     }
 
-    /// Fullness of B in M; 0 outside running.
+    /// Fullness of B in M; 0 outside running and ready.
     pub fn fullness(&self) -> u32 {
-        self.while_running(fullness(self.booked, self.memory_bound))
+        fullness(self.booked, self.memory_bound)
     }
 
-    /// The booked trays of one task; 0 outside running and for no task.
+    /// The booked trays of one task; 0 outside running and ready and for no
+    /// task.
     pub fn booked_by(&self, task: u16) -> u32 {
-        match usize::from(task) {
-            number if (1..=self.tasks).contains(&number) => {
-                self.while_running(self.figures[number - 1].booked)
-            }
-            _ => 0,
+        match self.check_number(task) {
+            Ok(()) => self.figures[index(task)].booked,
+            Err(_) => 0,
         }
     }
 
     /// The standing of the day: how many tasks wait, are activated, run and
-    /// have finished; four zeros outside running and over.
+    /// have finished; four zeros outside running, ready and over.
     pub fn standing(&self) -> [u32; 4] {
-        if !matches!(self.phase, Phase::Running | Phase::Over) {
+        if !matches!(self.phase, Phase::Running | Phase::Ready | Phase::Over) {
             return [0; 4];
         }
         let waiting = self.tasks - self.activated;
@@ -118,14 +118,6 @@ impl Plan {
     /// Whether an order of this plan has all n entries.
     pub(crate) fn is_complete(&self, order: &Order) -> bool {
         order.len() == self.tasks
-    }
-
-    fn while_running(&self, figure: u32) -> u32 {
-        if self.phase == Phase::Running {
-            figure
-        } else {
-            0
-        }
     }
 }
 

@@ -7,8 +7,8 @@ use crate::refusal::Refusal;
 use crate::text;
 use std::io::{Read, Result, Write};
 
-/// Reads commands and prints one line per accepted BEGIN or DONE. Stops after
-/// the line of a refusal, or without a line where the input ends between
+/// Reads commands and prints one line per accepted BEGIN, DONE or FETCH. Stops
+/// after the line of a refusal, or without a line where the input ends between
 /// commands. A line is out before more input is waited for.
 pub fn print(input: impl Read, mut output: impl Write) -> Result<()> {
     let mut feed = Feed::new(input);
@@ -35,6 +35,7 @@ pub fn print(input: impl Read, mut output: impl Write) -> Result<()> {
             Ok((Command::Done(task), _)) => {
                 text::done(&mut output, &plan, task, &answer, &starts)?;
             }
+            Ok((Command::Fetch, _)) => text::fetch(&mut output, &plan)?,
             _ => {}
         }
         feed.advance(answer.used);

@@ -6,7 +6,7 @@
 pub enum Refusal {
     /// No byte is left, or operands are cut short.
     Cut = 1,
-    /// The byte is none of 01 to 06.
+    /// The byte is none of 01 to 07.
     UnknownByte = 2,
     /// The command is not in turn.
     OutOfTurn = 3,

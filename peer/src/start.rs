@@ -5,13 +5,13 @@ use crate::plan::Plan;
 use crate::record::index;
 
 impl Plan {
-    /// While a processor is free, starts the ready task that is earliest in
-    /// the execution order. Writes the starts to the front of the caller's
+    /// While a processor is free, starts the available task that is earliest
+    /// in the execution order. Writes the starts to the front of the caller's
     /// list and tells how many they are.
     pub(crate) fn start(&mut self, starts: &mut [u16]) -> usize {
         let mut count = 0;
         while self.running < self.processors {
-            let Some(place) = self.ready.take_first() else {
+            let Some(place) = self.available.take_first() else {
                 break;
             };
             let task = self.execution.entries()[place];

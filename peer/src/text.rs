@@ -22,6 +22,11 @@ pub fn done(
     standing(to, plan, &starts[..answer.starts])
 }
 
+/// The line of an accepted FETCH, asked of the plan right after it.
+pub fn fetch(to: &mut impl Write, plan: &Plan) -> io::Result<()> {
+    writeln!(to, "fetch booked={}", plan.booked())
+}
+
 /// The line of a refusal: its number, and the command's byte offset.
 pub fn refused(to: &mut impl Write, answer: &Answer, offset: u64) -> io::Result<()> {
     writeln!(to, "refused {} at {offset}", answer.number)

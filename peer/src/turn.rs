@@ -40,13 +40,15 @@ impl Plan {
             }
             Command::Begin => self.begin(starts),
             Command::Done(task) => self.done(task, starts),
+            Command::Fetch => self.fetch(),
         }?;
         Ok(Answer { used, ..answer })
     }
 
-    /// PLAN: drop the old plan, open a new one.
+    /// PLAN: drop the old plan, open a new one. In turn in every phase but
+    /// running and ready.
     fn open(&mut self, tasks: u16, processors: u8, bound: u32) -> Result<Answer, Refusal> {
-        if self.phase == Phase::Running {
+        if matches!(self.phase, Phase::Running | Phase::Ready) {
             return Err(Refusal::OutOfTurn);
         }
         let (tasks, processors) = (usize::from(tasks), usize::from(processors));

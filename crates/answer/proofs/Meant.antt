@@ -18,11 +18,12 @@ use Rattle.rules.specs.Reachable.{Reachable}
 use Rattle.rules.specs.Invariant.{Valid, Roomy}
 use Rattle.rules.proofs.Tests.{le-or-lt}
 use Rattle.rules.proofs.Sums.{only-true}
-use Rattle.rules.proofs.InDay.{needs-roomy}
+use Rattle.rules.proofs.InDay.{Going, still-going, needs-roomy}
 use Rattle.rules.proofs.Reaching.{lives}
 use Rattle.words.specs.Contents.{Contents}
 use Rattle.words.proofs.Contents.{Lengths}
 use Rattle.store.specs.Rows.{rowsOf, books, activationOf}
+use Rattle.store.specs.Cached.{Cached}
 use Rattle.store.specs.Kept.{Kept}
 use Rattle.store.proofs.Rows.{rows-is}
 use Rattle.answer.specs.Meaning.{dayRows, meaning}
@@ -92,57 +93,76 @@ module _ (c : Contents) (sound : Sound c) (day : Phase.running ≤ c .phase) whe
   pub books-rows : booksOf (meaning c) ≡ books c
   books-rows = rw (day-rows c day)
 
-  -- and have for each task what the columns have
-  pub standings-meant : at (meaning c .standings) ≡ at (c .standings)
-  standings-meant = ap at standings-rows ∙ rows-is (c .size) (c .standings) (sound .day day .cached .standings-zero)
-
-  -- the needs are those that were weighed
-  pub needs-meant : needs (meaning c) ≡ at (c .chilled .needs)
-  needs-meant = needs-columns c sound ∙ sym (fun-ext (sound .day day .cached .store .needed))
-
   -- the activation order is whole
   pub activation-meant : meaning c .activation ≡ activationOf c
   activation-meant = ap (λ (k : ℕ). take k (c .activation)) (sound .day day .ranked-all)
 
--- a plan in its day that commands led to
-module _ (c : Contents) (reached : Reachable (meaning c)) (sound : Sound c) (day : Phase.running ≤ c .phase) where
-  -- its activation order holds each task once, before its parent
-  pub order-valid : Valid (c .size) (at (c .parents)) (activationOf c)
-  order-valid =
-      rw (parents-meant c sound, activation-meant c sound day) at (lives reached .day day .1 .planned .valid)
+-- its activation order holds each task once, before its parent
+pub order-valid :
+    (c : Contents)
+    → Reachable (meaning c)
+    → Sound c
+    → Phase.running ≤ c .phase
+    → Valid (c .size) (at (c .parents)) (activationOf c)
+order-valid c reached sound day =
+    rw (parents-meant c sound, activation-meant c sound day) at (lives reached .day day .1 .planned .valid)
+
+-- while it runs
+module _ (c : Contents) (sound : Sound c) (now : c .phase ≡ Phase.running) where
+  pub in-running : Phase.running ≤ c .phase
+  in-running = omega arith
+
+  pub cached-now : Cached c
+  cached-now = sound .day in-running .cached now
+
+  -- the lists of the day have for each task what the columns have
+  pub standings-meant : at (meaning c .standings) ≡ at (c .standings)
+  standings-meant = ap at (standings-rows c sound in-running) ∙ rows-is (c .size) (c .standings) (cached-now .standings-zero)
+
+  -- the needs are those that were weighed
+  pub needs-meant : needs (meaning c) ≡ at (c .chilled .needs)
+  needs-meant = needs-columns c sound ∙ sym (fun-ext (cached-now .store .needed))
+
+-- a running plan that commands led to
+module _ (c : Contents) (reached : Reachable (meaning c)) (sound : Sound c) (now : c .phase ≡ Phase.running) where
+  day : Phase.running ≤ c .phase
+  day = in-running c sound now
+
+  -- its root has not ended
+  pub going : Going (meaning c)
+  going = still-going (meaning c) (lives reached .day day .1 .course) now
 
   -- its books keep what holds of a day
   pub still-kept : Kept c
   still-kept =
-      let inDay = lives reached .day day .1 in
       record {
         invariant =
             record {
               small = sound .small;
               bounded = sound .bounded;
-              valid = order-valid;
+              valid = order-valid c reached sound day;
               parents = parents-small c sound reached;
               roomy =
                   subst (λ (par : ℕ → ℕ). Roomy (c .size) par (at (c .chilled .needs)) (at (c .chilled .outs))) (parents-meant c sound)
                   (subst (λ (f : ℕ → ℕ). Roomy (c .size) (at (meaning c .parents)) f (at (c .chilled .outs)))
-                  (needs-meant c sound day)
+                  (needs-meant c sound now)
                   (subst (λ (out : ℕ → ℕ). Roomy (c .size) (at (meaning c .parents)) (needs (meaning c)) out) (outs-meant c sound)
                   (needs-roomy (meaning c) (meaning c .chilled))));
               good =
                   rw (
-                    needs-meant c sound day,
+                    needs-meant c sound now,
                     parents-meant c sound,
                     activation-meant c sound day,
                     outs-meant c sound,
                     books-rows c sound day,
-                  ) at (inDay .settled .good);
+                  ) at (going .settled .good);
             };
-        cached = sound .day day .cached;
+        cached = cached-now c sound now;
       }
 
   -- no more tasks run than there are processors
   pub staffed : c .active ≤ c .processors
   staffed =
-      let r = sound .day day .cached .runs in
-      let s = rw (standings-rows c sound day) at (lives reached .day day .1 .settled .staffed) in
+      let r = cached-now c sound now .runs in
+      let s = rw (standings-rows c sound day) at (going .settled .staffed) in
       omega arith

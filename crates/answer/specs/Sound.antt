@@ -5,8 +5,10 @@ use Prim.Native.Nat.{ℕ, suc, _^_, _≤_, _<_}
 use Rattle.rules.specs.Limits.{maxTasks, maxProcessors, maxCount}
 use Rattle.rules.specs.Lists.{at}
 use Rattle.rules.specs.Phase
+use Rattle.rules.specs.Booking.{total}
 use Rattle.words.specs.Layout.{words}
 use Rattle.words.specs.Contents.{Contents}
+use Rattle.store.specs.Rows.{ZeroPast, books}
 use Rattle.store.specs.Cached.{Cached}
 use Rattle.store.specs.AtRest.{AtRest}
 
@@ -27,15 +29,33 @@ pub record Noted (size count : ℕ) (order places : List ℕ) : Type 0 where
   pub few : count ≤ size
   pub noted : (e : ℕ) → e < count → at places (at order e) ≡ e
 
--- what is kept of a day
+-- no row past n tasks says anything of a day
+pub record DayPast (n : ℕ) (c : Contents) : Type 0 where
+  pub unended : ZeroPast n (c .unended)
+  pub standings : ZeroPast n (c .standings)
+  pub needs : ZeroPast n (c .chilled .needs)
+  pub booked : ZeroPast n (c .chilled .booked)
+  pub figures : ZeroPast n (c .chilled .figures)
+
+-- what is kept once all have ended: how many, and what is booked, which is all that is in use
+pub record Closed (c : Contents) : Type 0 where
+  pub next : c .next ≡ c .size
+  pub active : c .active ≡ 0
+  pub ended : c .ended ≡ c .size
+  pub totals : c .chilled .total ≡ total (c .size) (at (books c .booked))
+  pub uses : c .chilled .used ≡ c .chilled .total
+  pub past : DayPast (c .size) c
+
+-- what is kept of a day: all its figures while it runs
 pub record InDay (c : Contents) : Type 0 where
   pub ranked-all : c .ranked ≡ c .size
   pub placed-all : c .placed ≡ c .size
-  pub cached : Cached c
+  pub cached : c .phase ≡ Phase.running → Cached c
+  pub closed : Phase.running < c .phase → Closed c
 
 pub record Sound (c : Contents) : Type 0 where
   pub long : c .extent ≡ words
-  pub named : c .phase ≤ Phase.over
+  pub named : c .phase ≤ Phase.ready
   pub small : c .size ≤ maxTasks
   pub few : c .processors ≤ maxProcessors
   pub bounded : c .chilled .bound < 2 ^ 32

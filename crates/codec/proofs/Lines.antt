@@ -12,6 +12,7 @@ use Rattle.rules.specs.Command.{
   execution,
   begin,
   done,
+  fetch,
   forms,
   find,
   number,
@@ -51,6 +52,10 @@ module _ (given : List ℕ) where
   pub done-line : table 6 given ≡ whole given 2 (done (number 2 given))
   unfolding forms find numbers room readBy table
   done-line = refl
+
+  pub fetch-line : table 7 given ≡ whole given 0 fetch
+  unfolding forms find numbers room readBy table
+  fetch-line = refl
 
   -- a byte with no line
   pub no-line : (byte : ℕ) → find forms byte ≡ none → table byte given ≡ refused 2

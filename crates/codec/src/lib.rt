@@ -18,6 +18,8 @@ pub enum Command {
     Begin,
     // this task has ended
     Done(u16),
+    // the trolley is fetched
+    Fetch,
 }
 
 // What stands at a place of a stream.
@@ -82,7 +84,8 @@ fn whole(given: &[u8], width: usize, command: Command) -> Decoded
     Decoded::Read { command, used }
 }
 
-// The table of commands: the byte picks operand width and meaning; "the byte is none of 01 to 06" (2).
+// The table of commands: the byte picks operand width and meaning; "the byte is none of 01 to 06" (2),
+// and 07 "leaves the unknown ones".
 fn table(byte: u8, given: &[u8]) -> Decoded
     ensures { λ r. ⌜ decoded r ≡ rules.table byte (now (given .entry)) ⌝ }
 {
@@ -109,6 +112,7 @@ fn table(byte: u8, given: &[u8]) -> Decoded
         4 => whole(given, 2, Command::Execution(two(given))),
         5 => whole(given, 0, Command::Begin),
         6 => whole(given, 2, Command::Done(two(given))),
+        7 => whole(given, 0, Command::Fetch),
         _ => Decoded::Refused(2),
     }
 }
@@ -168,5 +172,6 @@ pub fn encode(command: Command, buffer: &mut [u8], place: usize) -> usize
         Command::Execution(task) => encode_execution(task, buffer, place),
         Command::Begin => put::byte(buffer, place, 5),
         Command::Done(task) => start(buffer, place, 6, task),
+        Command::Fetch => put::byte(buffer, place, 7),
     }
 }

@@ -1,5 +1,5 @@
 -- BEGIN in code: what the survey answers is the ground of the rules, and what it leaves is what preparing the day asks.
-use mathlib.Core.Path.{_≡_, refl, sym, ap, ap₂, subst, _∙_}
+use mathlib.Core.Path.{_≡_, sym, ap, ap₂, subst, _∙_}
 use mathlib.Core.Bool.{Bool, true, false, _&&_, _||_}
 use mathlib.Core.Logic.{⊎-elim}
 use mathlib.Core.List.{List}
@@ -35,7 +35,8 @@ use Rattle.answer.specs.Meaning.{meaning}
 use Rattle.answer.specs.Sound.{Unused, Noted, Sound}
 use Rattle.day.specs.Day.{begins, MayBegin, Begun}
 use Rattle.answer.proofs.Meant.{parents-meant, works-meant, outs-meant, ranked-length, placed-length, parents-small}
-use Rattle.day.proofs.Proceeding.{Whole, same, sound-then}
+use Rattle.day.proofs.Staying.{Whole}
+use Rattle.day.proofs.Proceeding.{same, sound-then}
 
 -- the ground against BEGIN, from the ground against its activation order
 module _ (s : State) where
@@ -284,8 +285,8 @@ module _ (c : Contents) {d : Contents} (sound : Sound d) (long : Lengths d) (rea
         ≡ accept (obey (meaning c) begin) used list
     unfolding obey completed withOrders
     begin-answers {high} high-is used =
-        same whole b (omega arith) used high 0
+        same whole b used high 0
         ∙ ap₂ (λ (t : State) (v : ℕ). accept (proceed t Phase.running (fresh (t .size)) v 0) used list) means high-is
 
     pub begin-sound : Sound c′
-    begin-sound = sound-then whole b (omega arith) (omega arith)
+    begin-sound = sound-then whole b

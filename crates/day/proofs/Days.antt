@@ -1,23 +1,21 @@
 -- BEGIN and DONE, one part after the other.
 use mathlib.Core.Path.{_≡_, refl, ap, _∙_}
-use mathlib.Core.Bool.{cond}
 use mathlib.Core.List.{List}
 use Prim.Native.Nat.{ℕ, _≤_}
 use native.Mathlib.Omega.{arith}
-use lib.Dec.{eqb}
 use lib.ListN.{set}
 use Rattle.rules.specs.Lists.{at}
 use Rattle.rules.specs.Phase
 use Rattle.rules.specs.Standing.{running, finished, count}
 use Rattle.rules.proofs.Reporting.{one-fewer}
-use Rattle.words.specs.Contents.{Contents, withHead}
+use Rattle.words.specs.Contents.{Contents, withHead, storeWithHead}
 use Rattle.store.specs.Rows.{books}
 use Rattle.store.proofs.Rows.{at-rows}
 use Rattle.starting.specs.Started.{MayStart}
 use Rattle.survey.specs.Prepare.{Prepared}
 use Rattle.dispatch.specs.Finished.{Finished}
 use Rattle.day.specs.Advanced.{Advanced}
-use Rattle.day.specs.Day.{MayBegin, Begun, MayEnd, Ended}
+use Rattle.day.specs.Day.{MayBegin, Begun, MayGoOn, WentOn}
 use Rattle.day.proofs.Same.{same-tasks, prepared-same}
 
 -- a day on which nothing has happened
@@ -46,7 +44,7 @@ module _ {c c₁ : Contents} {list : List ℕ} (may : MayBegin c list) (prepared
       }
 
 -- a day on which a task has ended
-module _ {c c₁ : Contents} {j : ℕ} {list : List ℕ} {offers : ℕ} (may : MayEnd c j list) (ends : Finished c j c₁ offers) where
+module _ {c c₁ : Contents} {j : ℕ} {list : List ℕ} {offers : ℕ} (may : MayGoOn c j list) (ends : Finished c j c₁ offers) where
   -- one task fewer runs
   fewer : c₁ .active ≤ c .active
   fewer =
@@ -68,13 +66,16 @@ module _ {c c₁ : Contents} {j : ℕ} {list : List ℕ} {offers : ℕ} (may : M
       let less = fewer in
       record { kept = ends .kept; busy = omega arith; few = omega arith; room = may .room }
 
-  pub ended :
-      {c₂ c₃ : Contents} {list₂ : List ℕ} {count phase : ℕ}
+  -- the phase stays
+  same-phase : (d : Contents) → d .phase ≡ Phase.running → d ≡ withHead 0 Phase.running d
+  unfolding withHead storeWithHead
+  same-phase d e = ap (λ (p : ℕ). withHead 0 p d) e
+
+  pub went-on :
+      {c₂ : Contents} {list₂ : List ℕ} {count : ℕ}
       → Advanced c₁ c₂ list list₂ count
-      → phase ≡ cond (eqb (at (c .parents) j) 0) Phase.over Phase.running
-      → c₃ ≡ withHead 0 phase c₂
-      → Ended c j c₃ list list₂ count offers
-  ended {c₂ = c₂} {c₃ = c₃} advanced is phased =
+      → WentOn c j c₂ list list₂ count offers
+  went-on {c₂ = c₂} advanced =
       record {
         left = c₁;
         finished = ends;
@@ -86,6 +87,6 @@ module _ {c c₁ : Contents} {j : ℕ} {list : List ℕ} {offers : ℕ} (may : M
               kept = ends .kept;
               books = refl;
               advanced = advanced;
-              phased = phased ∙ ap (λ (p : ℕ). withHead 0 p c₂) is;
+              phased = same-phase c₂ (advanced .same .phase ∙ ends .same .phase ∙ may .now);
             };
       }

@@ -2,12 +2,9 @@
 -- the rules, and the plan stays sound.
 use mathlib.Core.Path.{_≡_, sym, ap, ap₂, subst, fun-ext, _∙_}
 use mathlib.Core.List.{List}
-use Prim.Native.Nat.{ℕ, suc, _≤_}
+use Prim.Native.Nat.{ℕ}
 use native.Mathlib.Omega.{arith}
-use lib.Dec.{leb}
 use lib.ListN.{length, take}
-use borrow.Author.Tests.{le-leb}
-use Rattle.rules.specs.Sums.{only}
 use Rattle.rules.specs.Lists.{at}
 use Rattle.rules.specs.Need.{need}
 use Rattle.rules.specs.Phase
@@ -15,7 +12,6 @@ use Rattle.rules.specs.State.{needs}
 use Rattle.rules.specs.Booking.{Books, activate, starts, start, free}
 use Rattle.rules.specs.Obey.{withBooks, ahead, begun, proceed}
 use Rattle.rules.specs.Answer as rules
-use Rattle.rules.proofs.Sums.{only-true}
 use Rattle.words.specs.Contents.{Contents, withHead, storeWithHead}
 use Rattle.store.specs.Rows.{books, activationOf, executionOf}
 use Rattle.store.specs.Cached.{Cached}
@@ -25,16 +21,10 @@ use Rattle.day.specs.Advanced.{bookedAhead, startsThen}
 use Rattle.day.specs.Day.{SameTasks, Proceeded}
 use Rattle.answer.proofs.Meant.{parents-meant, needs-columns}
 use Rattle.day.proofs.Same.{same-tasks, then-same}
+use Rattle.day.proofs.Staying.{Whole, phase-same, day-sound}
 
--- a plan whose two orders are whole
-pub record Whole (c : Contents) : Type 0 where
-  pub sound : Sound c
-  pub given : Phase.orders ≤ c .phase
-  pub ranked-all : c .ranked ≡ c .size
-  pub placed-all : c .placed ≡ c .size
-
-module _ {c : Contents} (whole : Whole c) {k : Books} {phase : ℕ} {c′ : Contents} {list list′ : List ℕ} {count : ℕ}
-    (p : Proceeded c k phase c′ list list′ count) where
+module _ {c : Contents} (whole : Whole c) {k : Books} {c′ : Contents} {list list′ : List ℕ} {count : ℕ}
+    (p : Proceeded c k c′ list list′ count) where
   abbrev m : Contents
   m = p .between
 
@@ -86,116 +76,78 @@ module _ {c : Contents} (whole : Whole c) {k : Books} {phase : ℕ} {c′ : Cont
   kept-tasks = then-same (p .same) (same-tasks (p .advanced .same))
 
   abbrev then : Contents
-  then = withHead 0 phase (p .after)
+  then = withHead 0 Phase.running (p .after)
 
-  module _ (on : Phase.running ≤ phase) where
-    -- the columns of its day have an entry for each task, and one for nobody
-    rows : only (leb Phase.running phase) (suc (p .after .size)) ≡ suc (p .after .size)
-    rows = only-true (leb Phase.running phase) (suc (p .after .size)) (le-leb Phase.running phase on)
+  state-is : (peak offers : ℕ) → meaning then ≡ proceed (meaning c) Phase.running k peak offers .state
+  unfolding proceed withBooks withHead storeWithHead
+  state-is peak offers =
+      let t = kept-tasks in
+      λ z.
+      record {
+        phase = Phase.running;
+        size = t .size z;
+        processors = t .processors z;
+        parents = take (t .given z) (t .parents z);
+        activation = take (t .ranked z) (t .activation z);
+        execution = take (t .placed z) (t .execution z);
+        standings = books-are z .standings;
+        chilled =
+            record {
+              bound = t .bound z;
+              works = take (t .given z) (t .works z);
+              outs = take (t .given z) (t .outs z);
+              booked =
+                  books-are z .booked;
+            };
+      }
 
-    state-is : (peak offers : ℕ) → meaning then ≡ proceed (meaning c) phase k peak offers .state
-    unfolding proceed withBooks withHead storeWithHead
-    state-is peak offers =
-        let t = kept-tasks in
-        λ z.
-        record {
-          phase = phase;
-          size = t .size z;
-          processors = t .processors z;
-          parents = take (t .given z) (t .parents z);
-          activation = take (t .ranked z) (t .activation z);
-          execution = take (t .placed z) (t .execution z);
-          standings = (ap (λ (r : ℕ). take r (p .after .standings)) rows ∙ ap (λ (b : Books). b .standings) books-are) z;
-          chilled =
-              record {
-                bound = t .bound z;
-                works = take (t .given z) (t .works z);
-                outs = take (t .given z) (t .outs z);
-                booked =
-                    (ap (λ (r : ℕ). take r (p .after .chilled .booked)) rows ∙ ap (λ (b : Books). b .booked) books-are) z;
-              };
-        }
+  -- all that the caller receives
+  pub same :
+      (used peak offers : ℕ)
+      → answeredOf (record { number = 0; used = used; starts = count; peak = peak; offers = offers }) c′ list′
+      ≡ rules.accept (proceed (meaning c) Phase.running k peak offers) used list
+  unfolding rules.accept proceed
+  same used peak offers =
+      let l : List ℕ = begun (meaning c) (ahead (meaning c) k) in
+      let many : count ≡ length l = p .advanced .counted ∙ ap length (sym begun-is) in
+      let written : list′ ≡ rules.front l list =
+      p .advanced .listed ∙ ap (λ (m : List ℕ). rules.front m list) (sym begun-is)
+      in
+      λ z.
+      record {
+        answer = record { number = 0; used = used; starts = many z; peak = peak; offers = offers };
+        state = (ap meaning (p .phased) ∙ state-is peak offers) z;
+        list = written z;
+      }
 
-    -- all that the caller receives
-    pub same :
-        (used peak offers : ℕ)
-        → answeredOf (record { number = 0; used = used; starts = count; peak = peak; offers = offers }) c′ list′
-        ≡ rules.accept (proceed (meaning c) phase k peak offers) used list
-    unfolding rules.accept proceed
-    same used peak offers =
-        let l : List ℕ = begun (meaning c) (ahead (meaning c) k) in
-        let many : count ≡ length l = p .advanced .counted ∙ ap length (sym begun-is) in
-        let written : list′ ≡ rules.front l list =
-        p .advanced .listed ∙ ap (λ (m : List ℕ). rules.front m list) (sym begun-is)
-        in
-        λ z.
-        record {
-          answer = record { number = 0; used = used; starts = many z; peak = peak; offers = offers };
-          state = (ap meaning (p .phased) ∙ state-is peak offers) z;
-          list = written z;
-        }
+  then-cached : Cached then
+  unfolding withHead storeWithHead
+  then-cached =
+      let k = p .advanced .kept .cached in
+      record {
+        long = k .long;
+        counted = k .counted;
+        marks = record { marked = k .marks .marked; filled = k .marks .filled };
+        reached = k .reached;
+        runs = k .runs;
+        ends = k .ends;
+        placed = k .placed;
+        standings-zero = k .standings-zero;
+        unended-zero = k .unended-zero;
+        store =
+            record {
+              needed = k .store .needed;
+              figured = k .store .figured;
+              totals = k .store .totals;
+              uses = k .store .uses;
+              booked-zero = k .store .booked-zero;
+              figures-zero = k .store .figures-zero;
+            };
+      }
 
-    then-cached : Cached then
-    unfolding withHead storeWithHead
-    then-cached =
-        let k = p .advanced .kept .cached in
-        record {
-          long = k .long;
-          counted = k .counted;
-          marks = record { marked = k .marks .marked; filled = k .marks .filled };
-          reached = k .reached;
-          runs = k .runs;
-          ends = k .ends;
-          placed = k .placed;
-          standings-zero = k .standings-zero;
-          unended-zero = k .unended-zero;
-          store =
-              record {
-                needed = k .store .needed;
-                figured = k .store .figured;
-                totals = k .store .totals;
-                uses = k .store .uses;
-                booked-zero = k .store .booked-zero;
-                figures-zero = k .store .figures-zero;
-              };
-        }
-
-    pub sound-then : phase ≤ Phase.over → Sound c′
-    unfolding withHead storeWithHead
-    sound-then end =
-        let t = kept-tasks in
-        let s = whole .sound in
-        subst (λ (d : Contents). Sound d) (sym (p .phased))
-        (record {
-          long = p .advanced .kept .cached .long;
-          named = end;
-          small = (let n = t .size in let m = s .small in omega arith);
-          few = (let n = t .processors in let m = s .few in omega arith);
-          bounded = (let n = t .bound in let m = s .bounded in omega arith);
-          light =
-              λ i.
-              (let works : at (p .after .chilled .works) i ≡ at (c .chilled .works) i = ap (λ (l : List ℕ). at l i) (t .works) in
-              let outs : at (p .after .chilled .outs) i ≡ at (c .chilled .outs) i = ap (λ (l : List ℕ). at l i) (t .outs) in
-              let old = s .light i in
-              (omega (arith, old .0), omega (arith, old .1)));
-          parents = rw (t .given, t .parents) (s .parents);
-          works = rw (t .given, t .works) (s .works);
-          outs = rw (t .given, t .outs) (s .outs);
-          given =
-              record {
-                unopened = λ e. absurd (omega arith);
-                in-steps = λ e. absurd (omega arith);
-                whole = λ _. t .given ∙ s .given .whole (whole .given) ∙ ap suc (sym (t .size));
-                some = λ _. (let n = t .size in let m = s .given .some (whole .given) in omega arith);
-              };
-          activation = rw (t .size, t .ranked, t .activation, t .ranks) (s .activation);
-          execution = rw (t .size, t .placed, t .execution, t .places) (s .execution);
-          rest = λ h. absurd (omega arith);
-          day =
-              λ _.
-              record {
-                ranked-all = t .ranked ∙ whole .ranked-all ∙ sym (t .size);
-                placed-all = t .placed ∙ whole .placed-all ∙ sym (t .size);
-                cached = then-cached;
-              };
-        })
+  pub sound-then : Sound c′
+  unfolding withHead storeWithHead
+  sound-then =
+      subst (λ (d : Contents). Sound d) (sym (p .phased))
+      (day-sound whole (phase-same Phase.running kept-tasks)
+      (p .advanced .kept .cached .long) (omega arith) (omega arith) (λ _. then-cached) (λ late. absurd (omega arith)))

@@ -7,6 +7,7 @@ use native.Mathlib.Omega.{arith}
 use lib.Dec.{eqb}
 use lib.ListN.{length, set}
 use borrow.Author.Tests.{eqb-true, eq-eqb, ne-eqb}
+use Rattle.rules.specs.Sums.{Task}
 use Rattle.rules.specs.Lists.{at}
 use Rattle.rules.specs.Limits.{leastStarts}
 use Rattle.rules.specs.Phase
@@ -25,8 +26,9 @@ use Rattle.store.specs.Rows.{books}
 use Rattle.dispatch.specs.Finished.{dispatchedFrom}
 use Rattle.answer.specs.Meaning.{meaning}
 use Rattle.answer.specs.Sound.{Sound}
-use Rattle.day.specs.Day.{MayEnd, Ended}
+use Rattle.day.specs.Day.{MayGoOn, WentOn}
 use Rattle.answer.proofs.Meant.{
+  in-running,
   parents-meant,
   outs-meant,
   standings-rows,
@@ -36,7 +38,8 @@ use Rattle.answer.proofs.Meant.{
   still-kept,
   staffed,
 }
-use Rattle.day.proofs.Proceeding.{Whole, same, sound-then}
+use Rattle.day.proofs.Staying.{Whole, in-its-day}
+use Rattle.day.proofs.Proceeding.{same, sound-then}
 
 module _ (c : Contents) (j : ℕ) where
   -- out of turn outside a running day, and in turn in it
@@ -59,7 +62,7 @@ module _ (c : Contents) (j : ℕ) where
       unfolding inLimits ownGround
       own =
           ground-own (meaning c) (done j) turn inside
-          ∙ ap (λ (f : ℕ → ℕ). demand (eqb (f j) running) 6 0) (standings-meant c sound (omega arith))
+          ∙ ap (λ (f : ℕ → ℕ). demand (eqb (f j) running) 6 0) (standings-meant c sound now)
 
       -- a task that does not run
       pub report-idle : (at (c .standings) j ≡ running → ⊥) → ground (meaning c) (done j) ≡ 6
@@ -70,76 +73,72 @@ module _ (c : Contents) (j : ℕ) where
       report-free e = own ∙ ap (λ (b : Bool). demand b 6 0) (eq-eqb (at (c .standings) j) running e)
 
 -- a report against which there is no ground
-module _ (c : Contents) (j : ℕ) (reached : Reachable (meaning c)) (sound : Sound c) (none : ground (meaning c) (done j) ≡ 0) where
-  record Accepted : Type 0 where
-    pub now : c .phase ≡ Phase.running
-    pub inside : within j (c .size) ≡ true
-    pub runs : at (meaning c .standings) j ≡ running
+pub record Accepted (c : Contents) (j : ℕ) : Type 0 where
+  pub now : c .phase ≡ Phase.running
+  pub task : Task (c .size) j
+  pub runs : at (c .standings) j ≡ running
 
-  accepted : Accepted
-  unfolding ground inTurn inLimits ownGround
-  accepted =
-      let turn =
-      demand-none (eqb (c .phase) Phase.running) 3
-      (demand (within j (c .size)) 4 (demand (eqb (at (meaning c .standings) j) running) 6 0)) (λ q. omega arith) none
-      in
-      let limits =
-      demand-none (within j (c .size)) 4 (demand (eqb (at (meaning c .standings) j) running) 6 0) (λ q. omega arith) (turn .1)
-      in
-      let stands = demand-none (eqb (at (meaning c .standings) j) running) 6 0 (λ q. omega arith) (limits .1) in
-      record {
-        now = eqb-true (c .phase) Phase.running (turn .0);
-        inside = limits .0;
-        runs = eqb-true (at (meaning c .standings) j) running (stands .0);
-      }
+pub accepted : (c : Contents) (j : ℕ) → Sound c → ground (meaning c) (done j) ≡ 0 → Accepted c j
+unfolding ground inTurn inLimits ownGround
+accepted c j sound none =
+    let turn =
+    demand-none (eqb (c .phase) Phase.running) 3
+    (demand (within j (c .size)) 4 (demand (eqb (at (meaning c .standings) j) running) 6 0)) (λ q. omega arith) none
+    in
+    let limits =
+    demand-none (within j (c .size)) 4 (demand (eqb (at (meaning c .standings) j) running) 6 0) (λ q. omega arith) (turn .1)
+    in
+    let stands = demand-none (eqb (at (meaning c .standings) j) running) 6 0 (λ q. omega arith) (limits .1) in
+    let now = eqb-true (c .phase) Phase.running (turn .0) in
+    record {
+      now = now;
+      task = within-task (c .size) j (limits .0);
+      runs =
+          ap (λ (f : ℕ → ℕ). f j) (sym (standings-meant c sound now))
+          ∙ eqb-true (at (meaning c .standings) j) running (stands .0);
+    }
 
+-- for a task that has a parent
+module _ (c : Contents) (j : ℕ) (reached : Reachable (meaning c)) (sound : Sound c) (a : Accepted c j)
+    (higher : at (c .parents) j ≡ 0 → ⊥) where
   on : Phase.running ≤ c .phase
-  on = let n = accepted .now in omega arith
-
-  runs : at (c .standings) j ≡ running
-  runs = ap (λ (f : ℕ → ℕ). f j) (sym (standings-meant c sound on)) ∙ accepted .runs
+  on = in-running c sound (a .now)
 
   -- what its parts ask
-  pub may-end : (list : List ℕ) → leastStarts ≤ length list → MayEnd c j list
-  may-end list room =
+  pub may-go-on : (list : List ℕ) → leastStarts ≤ length list → MayGoOn c j list
+  may-go-on list room =
       record {
+        now = a .now;
         may =
             record {
-              kept = still-kept c reached sound on;
-              task = within-task (c .size) j (accepted .inside);
-              runs = runs;
+              kept = still-kept c reached sound (a .now);
+              task = a .task;
+              runs = a .runs;
+              higher = higher;
             };
-        busy = staffed c reached sound on;
+        busy = staffed c reached sound (a .now);
         few = sound .few;
         room = room;
       }
 
   whole : Whole c
-  whole =
-      record {
-        sound = sound;
-        given = (let o = on in omega arith);
-        ranked-all = sound .day on .ranked-all;
-        placed-all = sound .day on .placed-all;
-      }
+  whole = in-its-day sound on
 
   -- sharing out of the rules, by the words
   shared-is : shared (meaning c) j ≡ dispatchedFrom c j
   unfolding shared endedStandings
   shared-is =
       λ z.
-      dispatch (c .size) (parents-meant c sound z) (needs-meant c sound on z) (at (set (standings-rows c sound on z) j finished))
+      dispatch (c .size) (parents-meant c sound z) (needs-meant c sound (a .now) z) (at (set (standings-rows c sound on z) j finished))
       (outs-meant c sound z) (booked-rows c sound on z) j
 
-  up : (t : Bool) → Phase.running ≤ cond t Phase.over Phase.running
-  up true = omega arith
-  up false = omega arith
+  phase-is : phaseAfter (meaning c) j ≡ Phase.running
+  unfolding phaseAfter
+  phase-is =
+      ap (λ (f : ℕ → ℕ). cond (eqb (f j) 0) Phase.ready Phase.running) (parents-meant c sound)
+      ∙ ap (λ (t : Bool). cond t Phase.ready Phase.running) (ne-eqb (at (c .parents) j) 0 higher)
 
-  down : (t : Bool) → cond t Phase.over Phase.running ≤ Phase.over
-  down true = omega arith
-  down false = omega arith
-
-  module _ {c′ : Contents} {list list′ : List ℕ} {count offers : ℕ} (e : Ended c j c′ list list′ count offers) where
+  module _ {c′ : Contents} {list list′ : List ℕ} {count offers : ℕ} (e : WentOn c j c′ list list′ count offers) where
     ended-is : books (e .left) ≡ ended (meaning c) j
     unfolding ended endedStandings
     ended-is =
@@ -150,26 +149,17 @@ module _ (c : Contents) (j : ℕ) (reached : Reachable (meaning c)) (sound : Sou
     offers-are : offers ≡ length (shared (meaning c) j .offered)
     offers-are = e .finished .offered ∙ ap (λ (d : Climbed). length (d .offered)) (sym shared-is)
 
-    abbrev phase : ℕ
-    phase = cond (eqb (at (c .parents) j) 0) Phase.over Phase.running
-
-    phase-is : phase ≡ phaseAfter (meaning c) j
-    unfolding phaseAfter
-    phase-is = ap (λ (f : ℕ → ℕ). cond (eqb (f j) 0) Phase.over Phase.running) (sym (parents-meant c sound))
-
     pub report-sound : Sound c′
-    report-sound =
-        sound-then whole (e .proceeded) (up (eqb (at (c .parents) j) 0)) (down (eqb (at (c .parents) j) 0))
+    report-sound = sound-then whole (e .proceeded)
 
     -- all that the caller of a report receives
-    pub report-same :
+    report-same :
         (used : ℕ)
         → accept (obey (meaning c) (done j)) used list
-        ≡ accept (proceed (meaning c) phase (books (e .left)) 0 offers) used list
+        ≡ accept (proceed (meaning c) Phase.running (books (e .left)) 0 offers) used list
     unfolding obey
     report-same used =
-        λ z.
-        accept (proceed (meaning c) (sym phase-is z) (sym ended-is z) 0 (sym offers-are z)) used list
+        λ z. accept (proceed (meaning c) (phase-is z) (sym ended-is z) 0 (sym offers-are z)) used list
 
     pub report-answers :
         (used : ℕ)
@@ -179,5 +169,4 @@ module _ (c : Contents) (j : ℕ) (reached : Reachable (meaning c)) (sound : Sou
           list = list′;
         }
         ≡ accept (obey (meaning c) (done j)) used list
-    report-answers used =
-        same whole (e .proceeded) (up (eqb (at (c .parents) j) 0)) used 0 offers ∙ sym (report-same used)
+    report-answers used = same whole (e .proceeded) used 0 offers ∙ sym (report-same used)

@@ -1,11 +1,10 @@
--- What BEGIN and DONE ask and leave of the contents of a plan.
+-- What BEGIN, DONE and FETCH ask and leave of the contents of a plan.
 use mathlib.Core.Path.{_≡_}
-use mathlib.Core.Bool.{Bool, cond, _&&_, _||_}
+use mathlib.Core.Bool.{Bool, _&&_, _||_}
 use mathlib.Core.List.{List}
 use Prim.Native.Nat.{ℕ, _≤_}
 use lib.Dec.{eqb}
 use lib.ListN.{length}
-use Rattle.rules.specs.Lists.{at}
 use Rattle.rules.specs.Limits.{maxProcessors, leastStarts}
 use Rattle.rules.specs.Phase
 use Rattle.rules.specs.Obey.{fresh}
@@ -13,8 +12,10 @@ use Rattle.rules.specs.Booking.{Books}
 use Rattle.words.specs.Contents.{Contents, withHead}
 use Rattle.store.specs.Rows.{books}
 use Rattle.store.specs.Kept.{Kept}
+use Rattle.store.specs.Store.{withStore, heldAlone}
 use Rattle.survey.specs.Prepare.{MayPrepare}
 use Rattle.dispatch.specs.Finished.{MayFinish, Finished}
+use Rattle.dispatch.specs.Ended.{rootEnded}
 use Rattle.day.specs.Advanced.{Advanced}
 
 -- "BEGIN is in turn in orders once both orders have n entries", or "with a full activation order and no 04 at all"
@@ -38,15 +39,15 @@ pub record SameTasks (c c′ : Contents) : Type 0 where
   pub works : c′ .chilled .works ≡ c .chilled .works
   pub outs : c′ .chilled .outs ≡ c .chilled .outs
 
--- a plan of which a part of the day is done, then booking ahead and starting, in a phase
-pub record Proceeded (c : Contents) (k : Books) (phase : ℕ) (c′ : Contents) (list list′ : List ℕ) (count : ℕ) : Type 0 where
+-- a plan of which a part of the day is done, then booking ahead and starting: the day runs
+pub record Proceeded (c : Contents) (k : Books) (c′ : Contents) (list list′ : List ℕ) (count : ℕ) : Type 0 where
   pub between : Contents
   pub after : Contents
   pub same : SameTasks c between
   pub kept : Kept between
   pub books : books between ≡ k
   pub advanced : Advanced between after list list′ count
-  pub phased : c′ ≡ withHead 0 phase after
+  pub phased : c′ ≡ withHead 0 Phase.running after
 
 -- BEGIN, once there is no ground against it
 pub record MayBegin (c : Contents) (list : List ℕ) : Type 0 where
@@ -55,17 +56,25 @@ pub record MayBegin (c : Contents) (list : List ℕ) : Type 0 where
   pub room : leastStarts ≤ length list
 
 abbrev pub Begun : (c c′ : Contents) (list list′ : List ℕ) (count : ℕ) → Type 0
-Begun c c′ list list′ count = Proceeded c (fresh (c .size)) Phase.running c′ list list′ count
+Begun c c′ list list′ count = Proceeded c (fresh (c .size)) c′ list list′ count
 
--- DONE, once there is no ground against it
-pub record MayEnd (c : Contents) (j : ℕ) (list : List ℕ) : Type 0 where
+-- DONE for a task that has a parent, once there is no ground against it
+pub record MayGoOn (c : Contents) (j : ℕ) (list : List ℕ) : Type 0 where
+  pub now : c .phase ≡ Phase.running
   pub may : MayFinish c j
   pub busy : c .active ≤ c .processors
   pub few : c .processors ≤ maxProcessors
   pub room : leastStarts ≤ length list
 
-pub record Ended (c : Contents) (j : ℕ) (c′ : Contents) (list list′ : List ℕ) (count offers : ℕ) : Type 0 where
+pub record WentOn (c : Contents) (j : ℕ) (c′ : Contents) (list list′ : List ℕ) (count offers : ℕ) : Type 0 where
   pub left : Contents
   pub finished : Finished c j left offers
-  pub proceeded :
-      Proceeded c (books left) (cond (eqb (at (c .parents) j) 0) Phase.over Phase.running) c′ list list′ count
+  pub proceeded : Proceeded c (books left) c′ list list′ count
+
+-- DONE for the root: "its out remains booked and in use, and the phase is a new one, ready"
+unfoldable pub madeReady : ℕ → Contents → Contents
+madeReady j c = withHead 0 Phase.ready (rootEnded j c)
+
+-- FETCH "frees it and leads to over"
+unfoldable pub madeOver : ℕ → Contents → Contents
+madeOver root c = withHead 0 Phase.over (withStore (heldAlone root 0 (c .chilled)) c)

@@ -1,4 +1,5 @@
-// BEGIN and DONE: a day begins, and goes on where a task has ended.
+// BEGIN, DONE and FETCH: a day begins, goes on where a task has ended, and is over with the fetch.
 mod advance;
 pub mod begin;
+pub mod fetch;
 pub mod report;

@@ -1,21 +1,20 @@
 // DONE: a task has ended.
 ghost use mathlib.Core.Path.{_≡_};
-ghost use mathlib.Core.Bool.{cond};
 ghost use Prim.Native.Nat.{_≤_};
-ghost use lib.Dec.{eqb};
 ghost use lib.ListN.{length};
-ghost use Rattle.rules.specs.Phase;
 ghost use Rattle.rules.specs.Command as rules;
 ghost use Rattle.rules.specs.Limits.{leastStarts};
 ghost use Rattle.words.specs.Contents.{contents};
 ghost use Rattle.answer.specs.ValidPlan.{ValidPlan, Judged};
 ghost use Rattle.rules.specs.Grounds.{ground};
 ghost use Rattle.answer.specs.Meaning.{planOf};
-ghost use Rattle.day.specs.Day.{MayEnd, Ended};
+ghost use Rattle.dispatch.specs.Ended.{MayEnd};
+ghost use Rattle.day.specs.Day.{MayGoOn, WentOn, madeReady};
 use crate::advance::advance;
 use answer::Answer;
 use cells::cell;
 use cells::set_cell;
+use dispatch::end_root;
 use dispatch::finish;
 use measure::is_within;
 use words::plan::Plan;
@@ -24,17 +23,6 @@ use words::plan::Plan;
 pub(crate) struct Counted {
     pub(crate) starts: usize,
     pub(crate) offers: usize,
-}
-
-// "when the root ends the phase is over"
-fn phase_after(parent: u32) -> u32
-    ensures { λ r. ⌜ r ≡ cond (eqb parent 0) Phase.over Phase.running ⌝ }
-{
-    if parent == 0 {
-        Plan::OVER
-    } else {
-        Plan::RUNNING
-    }
 }
 
 // The ground against a report; 0 is none.
@@ -54,19 +42,26 @@ fn report_ground(plan: &[u32; Plan::WORDS], task: usize) -> u8
     0
 }
 
-// "DONE shares out, books ahead and starts."
-fn end(plan: &mut [u32; Plan::WORDS], task: usize, starts: &mut [u16]) -> Counted
-    requires { ⌜ MayEnd (contents (now plan)) task (now starts) ⌝ }
-    ensures { λ r. ⌜ Ended (contents (now (plan .entry))) task (contents (now (plan .exit))) (now (starts .entry)) (now (starts .exit)) (r .starts) (r .offers) ⌝ }
+// "DONE shares out, books ahead and starts": a task that has a parent.
+fn go_on(plan: &mut [u32; Plan::WORDS], task: usize, starts: &mut [u16]) -> Counted
+    requires { ⌜ MayGoOn (contents (now plan)) task (now starts) ⌝ }
+    ensures { λ r. ⌜ WentOn (contents (now (plan .entry))) task (contents (now (plan .exit))) (now (starts .entry)) (now (starts .exit)) (r .starts) (r .offers) ⌝ }
 {
-    let parent = cell(plan, task, Plan::PARENT);
     let offers = finish(plan, task);
     let started = advance(plan, starts);
-    set_cell(plan, Plan::HEAD, Plan::PHASE, phase_after(parent));
     Counted {
         starts: started,
         offers,
     }
+}
+
+// "When the root ends, its out remains booked and in use, and the phase is a new one, ready."
+fn make_ready(plan: &mut [u32; Plan::WORDS], root: usize)
+    requires { ⌜ MayEnd root (contents (now plan)) ⌝ }
+    ensures { λ _. ⌜ contents (now (plan .exit)) ≡ madeReady root (contents (now (plan .entry))) ⌝ }
+{
+    end_root(plan, root);
+    set_cell(plan, Plan::HEAD, Plan::PHASE, Plan::READY);
 }
 
 pub fn report(plan: &mut [u32; Plan::WORDS], task: u16, used: usize, starts: &mut [u16]) -> Answer
@@ -77,7 +72,11 @@ pub fn report(plan: &mut [u32; Plan::WORDS], task: u16, used: usize, starts: &mu
     if ground != 0 {
         return Answer::refused(ground);
     }
-    let counted = end(plan, task as usize, starts);
+    if cell(plan, task as usize, Plan::PARENT) == 0 {
+        make_ready(plan, task as usize);
+        return Answer::plain(used);
+    }
+    let counted = go_on(plan, task as usize, starts);
     Answer {
         number: 0,
         used,

@@ -118,12 +118,24 @@ answers-hold w happened day q =
     record {
       running =
           subst (λ (v : ℕ). (v ≡ Phase.running) ↔ (length (days.ends happened) < planOf w .size)) (sym (q .phase-is)) (day .running);
-      over = subst (λ (v : ℕ). (v ≡ Phase.over) ↔ (length (days.ends happened) ≡ planOf w .size)) (sym (q .phase-is)) (day .over);
+      ready =
+          subst
+          (λ (v : ℕ). (v ≡ Phase.ready) ↔ ((length (days.ends happened) ≡ planOf w .size) × (days.isFetched happened ≡ false)))
+          (sym (q .phase-is)) (day .ready);
+      over = subst (λ (v : ℕ). (v ≡ Phase.over) ↔ (days.isFetched happened ≡ true)) (sym (q .phase-is)) (day .over);
       used = q .in-use-is ∙ day .store .used;
       covered = subst₂ (λ (u v : ℕ). u ≤ v) (sym (q .in-use-is)) (sym (q .booked-is)) (day .store .covered);
       within = subst (λ (v : ℕ). v ≤ planOf w .chilled .bound) (sym (q .booked-is)) (day .store .within);
+      remains =
+          λ now r t root.
+          let both = day .store .remains (sym (q .phase-is) ∙ now) r t root in
+          (q .booked-is ∙ both .0, q .in-use-is ∙ both .1);
+      unloaded =
+          λ now.
+          let both = day .store .unloaded (sym (q .phase-is) ∙ now) in (q .booked-is ∙ both .0, q .in-use-is ∙ both .1);
       running-tasks = ap (λ (l : List ℕ). at l Standing.running) (q .standing-is) ∙ day .countRunning;
       finished-tasks = ap (λ (l : List ℕ). at l Standing.finished) (q .standing-is) ∙ day .countEnded;
+      all-finished = λ e. q .standing-is ∙ day .allEnded e;
     }
 
 -- calls of which one is looked at: the plan that it finds and the plan as it stands, by the rules

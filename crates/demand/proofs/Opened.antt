@@ -4,8 +4,8 @@ use mathlib.Core.Bool.{Bool, true, false, _&&_}
 use mathlib.Core.List.{List, [], _∷_}
 use Prim.Native.Nat.{ℕ}
 use Rattle.rules.specs.State.{State}
-use Rattle.rules.specs.Command.{Command, Decoded, plan, task, activation, execution, begin, done, byteOf, refused, read, decode}
-use Rattle.rules.specs.Obey.{opened, withTask, withOrders, completed, withBooks, proceed, obey}
+use Rattle.rules.specs.Command.{Command, Decoded, plan, task, activation, execution, begin, done, fetch, byteOf, refused, read, decode}
+use Rattle.rules.specs.Obey.{opened, withTask, withOrders, completed, unloaded, withBooks, proceed, obey}
 use Rattle.rules.specs.Answer.{Asking, command}
 use Rattle.rules.specs.Day.{accepted, isPlan, opensPlan, nextPlan, after}
 use Rattle.rules.proofs.Tests.{clash, or-false}
@@ -24,13 +24,14 @@ module _ {n p m : ℕ} where
       → OpenedWith n p m s
       → isPlan (read c used) ≡ false
       → OpenedWith n p m (obey s c .state)
-  unfolding isPlan byteOf obey withTask withOrders completed proceed withBooks
+  unfolding isPlan byteOf obey withTask withOrders completed unloaded proceed withBooks
   obeyed-stays s (plan k q b) used h e = absurd (clash refl e)
   obeyed-stays s (task parent work out) used h e = record { size = h .size; processors = h .processors; bound = h .bound }
   obeyed-stays s (activation i) used h e = record { size = h .size; processors = h .processors; bound = h .bound }
   obeyed-stays s (execution i) used h e = record { size = h .size; processors = h .processors; bound = h .bound }
   obeyed-stays s begin used h e = record { size = h .size; processors = h .processors; bound = h .bound }
   obeyed-stays s (done j) used h e = record { size = h .size; processors = h .processors; bound = h .bound }
+  obeyed-stays s fetch used h e = record { size = h .size; processors = h .processors; bound = h .bound }
 
   -- any asking that opens no plan
   asked-stays : (s : State) (a : Asking) → OpenedWith n p m s → opensPlan s a ≡ false → OpenedWith n p m (command s a .state)

@@ -8,6 +8,7 @@ use native.Mathlib.Omega.{arith}
 use lib.Dec.{eqb}
 use lib.ListN.{length, take, drop, length-append, take-append-drop}
 use borrow.Author.Tests.{eqb-true, eq-eqb}
+use Rattle.rules.specs.Phase
 use Rattle.rules.specs.State.{State, none}
 use Rattle.rules.specs.Command.{Command, bytes, read, decode}
 use Rattle.rules.specs.Grounds.{ground}
@@ -100,13 +101,13 @@ pub read-back :
     → Calls w reading
     → Reads stream 0 (r .count) reading
     → (allAccepted reading ≡ true) × (planOf (leftBy w reading) ≡ unbegun (instanceOf s))
-unfolding written
+unfolding written Phase.holdsTrays
 read-back {s} reached list {r} is accepted stream w reading front new e reads =
     let m = instanceOf s in
     let holds : WriteHolds s list r =
     subst (λ (x : Wrote). WriteHolds s list x) (sym is) (every-write-holds .lists s reached list)
     in
-    let leads = commands-lead m (proper s reached (granted-whole s list r holds accepted)) none (λ z. omega arith) in
+    let leads = commands-lead m (proper s reached (granted-whole s list r holds accepted)) none refl in
     let begins : stream ≡ written m ++ drop (r .count) stream =
     sym (take-append-drop (r .count) stream) ∙ ap (λ (l : List ℕ). l ++ drop (r .count) stream) (front ∙ holds .front accepted)
     in

@@ -47,11 +47,10 @@ module _ {w : List ℕ} (new : NewPlan w) where
   unknown-byte = record { same = refl; valid = new-valid new; refused = λ _. refl }
 
   judged : Judged w (plan 3 2 7) 8 (replicate 64 0) (accepted 8) (opens w .left) (replicate 64 0)
-  unfolding opens
+  unfolding opens Phase.holdsTrays
   judged =
       acceptance
-      (open-free (contents w) 3 2 7 (λ runs. let e = ap (λ (s : State). s .phase) (new-empty new) in omega arith) refl refl
-      (omega arith))
+      (open-free (contents w) 3 2 7 (ap (λ (s : State). Phase.holdsTrays (s .phase)) (new-empty new)) refl refl (omega arith))
       refl
       (opening-contents w _ _ _ _ 3 2 7 (new-long new) refl refl refl refl refl)
       (opening-means (contents w) (new-blank new) 3 2 7 (contents w))

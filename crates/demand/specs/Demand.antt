@@ -2,10 +2,10 @@
 use mathlib.Core.Path.{_≡_}
 use mathlib.Core.Bool.{true, false}
 use mathlib.Core.Logic.{_↔_}
-use mathlib.Core.List.{List, _∷_, _++_}
+use mathlib.Core.List.{List, [], _∷_, _++_}
 use Prim.Native.Nat.{ℕ, _^_, _≤_, _<_}
 use lib.ListN.{length, take}
-use Rattle.rules.specs.Sums.{countTo}
+use Rattle.rules.specs.Sums.{Task, countTo}
 use Rattle.rules.specs.Lists.{at}
 use Rattle.rules.specs.Phase
 use Rattle.rules.specs.Standing
@@ -17,7 +17,7 @@ use Rattle.rules.specs.Reasons.{ReasonHolds}
 use Rattle.rules.specs.Instance.{instanceOf, unbegun}
 use Rattle.rules.specs.Write.{write}
 use Rattle.rules.specs.Restored.{WriteHolds}
-use Rattle.rules.specs.Day.{Event, ends, after, answers}
+use Rattle.rules.specs.Day.{Event, ends, isFetched, after, answers}
 use Rattle.rules.specs.Obey.{completed}
 use Rattle.rules.specs.Theorem.{DayHolds, OrdersHold, SamePlan, runs, usedBy}
 use Rattle.answer.specs.Meaning.{planOf}
@@ -38,18 +38,30 @@ use Rattle.demand.specs.Calls.{
   history,
 }
 
--- what the questions answer in a day: w are the words of the plan as it stands, and `happened` the day's starts and ends so far
+-- what the questions answer in a day: w are the words of the plan as it stands, and `happened` the day's starts, ends and fetch so
+-- far
 pub record AnswersHold (w : List ℕ) (happened : List Event) (q : Answers w) : Type 0 where
-  -- running while fewer than n reports were accepted, and over from the n-th on
+  -- running while fewer than n reports were accepted, ready from the n-th to the fetch, and over from then on
   pub running : (q .phase ≡ Phase.running) ↔ (length (ends happened) < planOf w .size)
-  pub over : (q .phase ≡ Phase.over) ↔ (length (ends happened) ≡ planOf w .size)
-  -- trays in use are reckoned from the starts and ends; they are never more than trays booked, and these never more than places
+  pub ready : (q .phase ≡ Phase.ready) ↔ ((length (ends happened) ≡ planOf w .size) × (isFetched happened ≡ false))
+  pub over : (q .phase ≡ Phase.over) ↔ (isFetched happened ≡ true)
+  -- trays in use are reckoned from the starts, the ends and the fetch; they are never more than trays booked, and these never more
+  -- than places
   pub used : q .inUse ≡ usedBy (planOf w) (planOf w .chilled) happened
   pub covered : q .inUse ≤ q .booked
   pub within : q .booked ≤ planOf w .chilled .bound
+  -- while the trolley stands, its load is all that is booked and in use, and once it is fetched nothing is
+  pub remains :
+      q .phase ≡ Phase.ready
+      → (r : ℕ)
+      → Task (planOf w .size) r
+      → at (planOf w .parents) r ≡ 0
+      → (q .booked ≡ at (planOf w .chilled .outs) r) × (q .inUse ≡ at (planOf w .chilled .outs) r)
+  pub unloaded : q .phase ≡ Phase.over → (q .booked ≡ 0) × (q .inUse ≡ 0)
   -- the standing counts the running and the ended steps of the day
   pub running-tasks : at (q .standing) Standing.running ≡ countTo (runs happened) (planOf w .size)
   pub finished-tasks : at (q .standing) Standing.finished ≡ length (ends happened)
+  pub all-finished : length (ends happened) ≡ planOf w .size → q .standing ≡ 0 ∷ 0 ∷ 0 ∷ planOf w .size ∷ []
 
 -- what is promised of a day: BEGIN found the words w, and they are w′ as the plan stands
 pub record DayOfCalls (w w′ : List ℕ) (happened : List Event) : Type 0 where

@@ -1,9 +1,9 @@
 -- A task ends: what is asked of the climb, and what the columns hold after it.
 use mathlib.Core.Path.{_≡_, refl, sym, ap, ap₂, subst, fun-ext, _∙_}
-use mathlib.Core.Bool.{Bool, true, false, not, cond, _&&_}
+use mathlib.Core.Bool.{Bool, true, false, cond, _&&_}
 use mathlib.Core.Logic.{⊎-elim}
 use mathlib.Core.List.{List, []}
-use Prim.Native.Nat.{ℕ, suc, _+_, _-_, _^_, _≤_, _<_}
+use Prim.Native.Nat.{ℕ, _+_, _-_, _^_, _≤_, _<_}
 use native.Mathlib.Omega.{arith}
 use lib.Dec.{eqb}
 use lib.ListN.{length, set, length-set}
@@ -16,26 +16,25 @@ use Rattle.rules.specs.Standing.{activated, running, finished, count}
 use Rattle.rules.specs.Booking.{Books, Share, Climbed, chain, figure, total, release, climb, dispatch, ready, fed}
 use Rattle.rules.specs.Invariant.{Tree, up, rankIn, Shape, Balance, Balanced, Good}
 use Rattle.rules.proofs.Tests.{clash, same-or-not, le-or-lt, and-none}
-use Rattle.rules.proofs.Sums.{count-le, term-le, only-le, only-true, only-false}
-use Rattle.rules.proofs.Counts.{count-change}
+use Rattle.rules.proofs.Sums.{count-le, term-le, only-true, only-false}
 use Rattle.rules.proofs.Tree.{not-above-itself}
 use Rattle.rules.proofs.Ranks.{tree-of}
 use Rattle.rules.proofs.Shape.{Moved, not-begun-above}
 use Rattle.rules.proofs.Balance.{finished-figure}
-use Rattle.rules.proofs.Usage.{in-use-within}
-use Rattle.rules.proofs.Finishing.{Taken, finishing-shape, finishing-balance, finishing-total, figure-taken, figure-kept, kept-within}
-use Rattle.rules.proofs.Branches.{release-root, release-child}
+use Rattle.rules.proofs.Usage.{in-process-within}
+use Rattle.rules.proofs.Finishing.{Taken, finishing-shape, finishing-balance, finishing-total, figure-taken, figure-kept, out-within}
+use Rattle.rules.proofs.Branches.{release-child}
 use Rattle.rules.proofs.Sharing.{climbs, sharing-good}
-use Rattle.rules.proofs.Entries.{at-set, at-other, moved-by-set}
-use Rattle.rules.proofs.Reporting.{one-fewer}
+use Rattle.rules.proofs.Entries.{at-other, moved-by-set}
+use Rattle.rules.proofs.Reporting.{one-fewer, one-more-ended}
 use Rattle.words.specs.Layout.{rows}
 use Rattle.words.specs.Contents.{Contents}
 use Rattle.words.specs.Marks.{Marks, changed}
 use Rattle.words.proofs.Contents.{Lengths}
 use Rattle.store.specs.Rows.{rowsOf, ZeroPast, booksIn, books, activationOf, executionOf}
-use Rattle.store.specs.Cached.{partialFigure, partialFigureWith, unendedChildren, isReadyAt, Reached, usedBy}
-use Rattle.store.specs.Kept.{DayInvariant}
-use Rattle.store.specs.Store.{grown, fewer, keptOut}
+use Rattle.store.specs.Cached.{partialFigure, partialFigureWith, unendedChildren, isReadyAt, Reached, inProcessBy}
+use Rattle.store.specs.Kept.{DayInvariant, Kept}
+use Rattle.store.specs.Store.{grown, fewer}
 use Rattle.store.proofs.Rows.{at-rows, rows-set, rows-length, rows-is, zero-set}
 use Rattle.store.proofs.Entries.{grown-at, grown-length, fewer-at, grown-zero}
 use Rattle.store.proofs.Unended.{fed-is, unended-one}
@@ -45,27 +44,35 @@ use Rattle.store.proofs.Ready.{place-in, ready-at, ready-changed}
 use Rattle.dispatch.specs.Climb.{Carrying, shareOf, Carried}
 use Rattle.dispatch.specs.Ended.{withProgress, MayEnd, ended, becomesReady, MayFeed, Fed}
 use Rattle.dispatch.specs.Finished.{MayFinish, dispatchedFrom}
-use Rattle.dispatch.proofs.Feeding.{unchanged}
 
 -- the booked trays once those of j are taken and its parent keeps its out, and what goes up then
 abbrev pub sharedWith : List ℕ → ℕ → ℕ → ℕ → List ℕ
-sharedWith booked j parent out = grown (set booked j 0) parent (keptOut parent out)
+sharedWith booked j parent out = grown (set booked j 0) parent out
 
-abbrev pub restOf : List ℕ → ℕ → ℕ → ℕ → ℕ
-restOf booked j parent out = at booked j - keptOut parent out
+abbrev pub restOf : List ℕ → ℕ → ℕ → ℕ
+restOf booked j out = at booked j - out
 
--- one more has ended
-one-more-ended :
-    (n : ℕ) (st : List ℕ) (j : ℕ)
-    → length st ≡ suc n
-    → Task n j
-    → at st j ≡ running
-    → count n (at (set st j finished)) finished ≡ count n (at st) finished + 1
+-- what is asked of the end of a running task
+pub may-end : {c : Contents} {j : ℕ} → Kept c → Task (c .size) j → at (c .standings) j ≡ running → MayEnd j c
 unfolding count
-one-more-ended n st j sized t runs =
-    count-change (λ i. eqb (at st i) finished) (λ i. eqb (at (set st j finished) i) finished) n j t
-    (ne-eqb (at st j) finished (λ q. omega arith)) (eq-eqb (at (set st j finished) j) finished (at-set n st j finished sized t))
-    (λ i _ d. ap (λ (v : ℕ). eqb v finished) (at-other st j finished i d))
+may-end {c = c} {j = j} kept task runs =
+    let day = kept .invariant in
+    let high = task .high in
+    let small = day .small in
+    record {
+      long = kept .cached .long;
+      task-in = omega arith;
+      some-run =
+          (let one =
+          one-fewer (c .size) (rowsOf (c .size) (c .standings)) j (day .good .sized) task (at-rows (c .size) (c .standings) j high ∙ runs)
+          in
+          let r = kept .cached .runs in
+          omega arith);
+      ended-fits =
+          (let k = count-le (λ i. eqb (at (rowsOf (c .size) (c .standings)) i) finished) (c .size) in
+          let e = kept .cached .ends in
+          omega arith);
+    }
 
 module _ {c : Contents} {j : ℕ} (may : MayFinish c j) (long : Lengths c) where
   abbrev n : ℕ
@@ -97,7 +104,7 @@ module _ {c : Contents} {j : ℕ} (may : MayFinish c j) (long : Lengths c) where
 
   -- what its parent keeps, what is booked then, and what goes up
   abbrev given : ℕ
-  given = keptOut (at (c .parents) j) (at (c .chilled .outs) j)
+  given = at (c .chilled .outs) j
 
   abbrev taken : List ℕ
   taken = set (c .chilled .booked) j 0
@@ -106,7 +113,7 @@ module _ {c : Contents} {j : ℕ} (may : MayFinish c j) (long : Lengths c) where
   shared = sharedWith (c .chilled .booked) j (at (c .parents) j) (at (c .chilled .outs) j)
 
   abbrev rest : ℕ
-  rest = restOf (c .chilled .booked) j (at (c .parents) j) (at (c .chilled .outs) j)
+  rest = restOf (c .chilled .booked) j (at (c .chilled .outs) j)
 
   day : DayInvariant (c .size) (at (c .parents)) (at (c .chilled .needs)) (at (c .chilled .outs)) (activationOf c) (c .chilled .bound) (books c)
   day = may .kept .invariant
@@ -120,8 +127,8 @@ module _ {c : Contents} {j : ℕ} (may : MayFinish c j) (long : Lengths c) where
   pub parent-in : at (c .parents) j < rows
   parent-in = let p = day .parents j in let s = day .small in omega arith
 
-  parent-task : (par j ≡ 0 → ⊥) → Task n (par j)
-  parent-task d = let p = day .parents j in omega arith
+  parent-task : Task n (par j)
+  parent-task = let p = day .parents j in let d = may .higher in omega arith
 
   -- the standings and the books, as functions of the whole columns
   standings-rows : at (rowsOf n standings) ≡ at standings
@@ -155,12 +162,6 @@ module _ {c : Contents} {j : ℕ} (may : MayFinish c j) (long : Lengths c) where
   taken-others : (i : ℕ) → Task n i → (i ≡ j → ⊥) → at taken i ≡ at booked i
   taken-others i _ d = getD-set-other booked j i 0 0 d
 
-  root : par j ≡ 0 → given ≡ 0
-  root z = ap (λ (b : Bool). only (not b) (outs j)) (eq-eqb (par j) 0 z)
-
-  child : (par j ≡ 0 → ⊥) → given ≡ outs j
-  child d = ap (λ (b : Bool). only (not b) (outs j)) (ne-eqb (par j) 0 d)
-
   shared-size : length shared ≡ rows
   shared-size = grown-length taken (par j) given ∙ length-set booked j 0 ∙ long .booked
 
@@ -168,25 +169,19 @@ module _ {c : Contents} {j : ℕ} (may : MayFinish c j) (long : Lengths c) where
   gave i t =
       grown-at taken (par j) given i (let z = length-set booked j 0 ∙ long .booked in let p = parent-in in omega arith) (t .low)
 
-  ends : Taken n par outs (at booked) (at taken) (at shared) j rest given
+  ends : Taken n par outs (at booked) (at taken) (at shared) j rest
   ends =
-      record {
-        taken = record { there = taken-there; elsewhere = taken-others };
-        gave = gave;
-        root = root;
-        child = child;
-        rest = refl;
-      }
+      record { taken = record { there = taken-there; elsewhere = taken-others }; gave = gave; rest = refl }
 
-  pub out-held : keptOut (at (c .parents) j) (at (c .chilled .outs) j) ≤ at (c .chilled .booked) j
+  pub out-held : at (c .chilled .outs) j ≤ at (c .chilled .booked) j
   out-held =
-      kept-within n par rank tree (at standings) (at then) shape j (may .task) (may .runs) moved needs outs (at booked) (at taken)
-      (at shared) rest given (day .roomy) balanced ends
+      out-within n par rank tree (at standings) (at then) shape j (may .task) (may .runs) moved (may .higher) needs outs (at booked) (at taken)
+      (at shared) rest (day .roomy) balanced ends
 
   total-shared : sumTo (at shared) n + rest ≡ sumTo (at booked) n
   total-shared =
-      finishing-total n par rank tree (at standings) (at then) shape j (may .task) (may .runs) moved needs outs (at booked)
-      (at taken) (at shared) rest given (day .roomy) balanced ends
+      finishing-total n par rank tree (at standings) (at then) shape j (may .task) (may .runs) moved (may .higher) needs outs (at booked)
+      (at taken) (at shared) rest (day .roomy) balanced ends
 
   within-bound : total n (at shared) + rest ≤ c .chilled .bound
   unfolding total
@@ -197,16 +192,15 @@ module _ {c : Contents} {j : ℕ} (may : MayFinish c j) (long : Lengths c) where
       omega arith
 
   -- the parent's trays stay within 32 bits
-  pub parent-fits : (at (c .parents) j ≡ 0 → ⊥) → at (set (c .chilled .booked) j 0) (at (c .parents) j) + at (c .chilled .outs) j < 2 ^ 32
+  pub parent-fits : at (set (c .chilled .booked) j 0) (at (c .parents) j) + at (c .chilled .outs) j < 2 ^ 32
   unfolding total
-  parent-fits d =
-      let u = parent-task d in
+  parent-fits =
+      let u = parent-task in
       let g = gave (par j) u in
       let o = only-true (eqb (par j) (par j)) given (eq-eqb (par j) (par j) refl) in
       let one = term-le (at shared) n (par j) u in
       let w = within-bound in
       let b = day .bounded in
-      let k = child d in
       omega arith
 
   -- nobody above j has begun
@@ -226,12 +220,12 @@ module _ {c : Contents} {j : ℕ} (may : MayFinish c j) (long : Lengths c) where
   figures-in-air a t =
       let parts : rest + given ≡ at booked j = (let k = out-held in omega arith) in
       let before =
-      figure-taken n par rank tree (at standings) (at then) shape j (may .task) (may .runs) moved needs outs (at booked)
-      (at taken) (at shared) rest given (day .roomy) balanced ends
+      figure-taken n par rank tree (at standings) (at then) shape j (may .task) (may .runs) moved (may .higher) needs outs (at booked)
+      (at taken) (at shared) rest (day .roomy) balanced ends
       in
       let later =
-      figure-kept n par rank tree (at standings) (at then) shape j (may .task) (may .runs) moved needs outs (at booked)
-      (at taken) (at shared) rest given (day .roomy) balanced ends
+      figure-kept n par rank tree (at standings) (at then) shape j (may .task) (may .runs) moved (may .higher) needs outs (at booked)
+      (at taken) (at shared) rest (day .roomy) balanced ends
       in
       let below : (k : ℕ) → Task n k → par k ≡ j → figure n par (at booked) k ≡ 0 =
       λ k u e.
@@ -262,7 +256,7 @@ module _ {c : Contents} {j : ℕ} (may : MayFinish c j) (long : Lengths c) where
   pub carrying :
       Carrying (c .size) (at (c .parents)) (at (c .chilled .needs)) (at (set (c .standings) j finished))
       (at (sharedWith (c .chilled .booked) j (at (c .parents) j) (at (c .chilled .outs) j))) (at (set (c .chilled .figures) j 0)) j
-      (restOf (c .chilled .booked) j (at (c .parents) j) (at (c .chilled .outs) j))
+      (restOf (c .chilled .booked) j (at (c .chilled .outs) j))
   carrying =
       record {
         small = day .small;
@@ -274,8 +268,8 @@ module _ {c : Contents} {j : ℕ} (may : MayFinish c j) (long : Lengths c) where
         out = outs;
         roomy = day .roomy;
         owed =
-            finishing-balance n par rank tree (at standings) (at then) shape j (may .task) (may .runs) moved needs outs (at booked)
-            (at taken) (at shared) rest given (day .roomy) balanced ends;
+            finishing-balance n par rank tree (at standings) (at then) shape j (may .task) (may .runs) moved (may .higher) needs outs (at booked)
+            (at taken) (at shared) rest (day .roomy) balanced ends;
         idle = idle;
         figured = figures-in-air;
         bound = c .chilled .bound;
@@ -313,7 +307,7 @@ module _ {c : Contents} {j : ℕ} (may : MayFinish c j) (long : Lengths c) where
       → at (fewer (c .unended) (at (c .parents) j)) i
       ≡ unendedChildren (c .size) (at (c .parents)) (at (rowsOf (c .size) (set (c .standings) j finished))) i
   counted-then i t =
-      (let f = fewer-at (c .unended) (par j) i (let z = long .unended in let p = parent-in in omega arith) (t .low) (some-unended i t) in
+      (let f = fewer-at (c .unended) (par j) i (let z = long .unended in let p = parent-in in omega arith) (some-unended i t) in
       let k = counted-there i t in
       let o = one-child i in
       let e : at (fewer (c .unended) (par j)) i ≡ unendedChildren n par (at then) i = omega arith in
@@ -356,34 +350,33 @@ module _ {c : Contents} {j : ℕ} (may : MayFinish c j) (long : Lengths c) where
       ∙ sym (ready-rows standings i standings-rows))
       (same-or-not i j)
 
-  module _ (higher : at (c .parents) j ≡ 0 → ⊥) where
-    -- the parent was not ready
-    parent-not-ready : ready n par (rowsOf n standings) (par j) ≡ false
-    unfolding ready
-    parent-not-ready =
-        let u = parent-task higher in
-        let some = some-unended (par j) u refl in
-        let k = counted-there (par j) u in
-        ready-rows standings (par j) standings-rows
-        ∙ ap (λ (b : Bool). eqb (at standings (par j)) activated && b)
-        (fed-is n par (at standings) (par j)
-        ∙ ne-eqb (unendedChildren n par (at standings) (par j)) 0 (λ z. omega arith))
-        ∙ and-none (eqb (at standings (par j)) activated)
+  -- the parent was not ready
+  parent-not-ready : ready n par (rowsOf n standings) (par j) ≡ false
+  unfolding ready
+  parent-not-ready =
+      let u = parent-task in
+      let some = some-unended (par j) u refl in
+      let k = counted-there (par j) u in
+      ready-rows standings (par j) standings-rows
+      ∙ ap (λ (b : Bool). eqb (at standings (par j)) activated && b)
+      (fed-is n par (at standings) (par j)
+      ∙ ne-eqb (unendedChildren n par (at standings) (par j)) 0 (λ z. omega arith))
+      ∙ and-none (eqb (at standings (par j)) activated)
 
-    -- and is ready where it is booked and waits for none
-    parent-ready-then : becomesReady (par j) (ended j c) ≡ ready n par (rowsOf n then) (par j)
-    unfolding ready becomesReady ended withProgress
-    parent-ready-then =
-        let u = parent-task higher in
-        let fewer-left : at (c .unended) (par j) - 1 ≡ unendedChildren n par (at then) (par j) =
-        (let k = counted-there (par j) u in
-        let f = one-child (par j) in
-        let o = only-true (eqb (par j) (par j)) 1 (eq-eqb (par j) (par j) refl) in
-        omega arith)
-        in
-        ap (λ (v : ℕ). eqb (at then (par j)) activated && eqb v 0) fewer-left
-        ∙ ap (λ (b : Bool). eqb (at then (par j)) activated && b) (sym (fed-is n par (at then) (par j)))
-        ∙ sym (ready-rows then (par j) then-rows)
+  -- and is ready where it is booked and waits for none
+  parent-ready-then : becomesReady (par j) (ended j c) ≡ ready n par (rowsOf n then) (par j)
+  unfolding ready becomesReady ended withProgress
+  parent-ready-then =
+      let u = parent-task in
+      let fewer-left : at (c .unended) (par j) - 1 ≡ unendedChildren n par (at then) (par j) =
+      (let k = counted-there (par j) u in
+      let f = one-child (par j) in
+      let o = only-true (eqb (par j) (par j)) 1 (eq-eqb (par j) (par j) refl) in
+      omega arith)
+      in
+      ap (λ (v : ℕ). eqb (at then (par j)) activated && eqb v 0) fewer-left
+      ∙ ap (λ (b : Bool). eqb (at then (par j)) activated && b) (sym (fed-is n par (at then) (par j)))
+      ∙ sym (ready-rows then (par j) then-rows)
 
   -- the ready set before, by the test for ready tasks
   abbrev was : ℕ → Bool
@@ -396,24 +389,7 @@ module _ {c : Contents} {j : ℕ} (may : MayFinish c j) (long : Lengths c) where
   unfolding ended withProgress
   still-marked = let m = may .kept .cached .marks in record { marked = m .marked; filled = m .filled }
 
-  -- what is asked of the end and of the parent's count
-  pub may-end : MayEnd j c
-  unfolding count
-  may-end =
-      record {
-        long = may .kept .cached .long;
-        task-in = task-in;
-        some-run =
-            (let one = one-fewer n (rowsOf n standings) j (day .good .sized) (may .task) runs-there in
-            let r = may .kept .cached .runs in
-            omega arith);
-        ended-fits =
-            (let k = count-le (λ i. eqb (at (rowsOf n standings) i) finished) n in
-            let e = may .kept .cached .ends in
-            let s = day .small in
-            omega arith);
-      }
-
+  -- what is asked of the parent's count
   pub may-feed : MayFeed (at (c .parents) j) (ended j c)
   unfolding ended withProgress
   may-feed =
@@ -421,14 +397,14 @@ module _ {c : Contents} {j : ℕ} (may : MayFinish c j) (long : Lengths c) where
         long = may .kept .cached .long;
         parent-in = parent-in;
         unfed =
-            λ d.
-            let u = parent-task d in
             record {
-              waited = some-unended (par j) u refl;
-              place-in = (let p = place-in (may .kept .cached .placed) (par j) u in let s = day .small in omega arith);
+              waited = some-unended (par j) parent-task refl;
+              place-in =
+                  (let p = place-in (may .kept .cached .placed) (par j) parent-task in let s = day .small in omega arith);
               test = was;
               marks = still-marked;
-              not-ready = ready-at (may .kept .cached .placed) par (rowsOf n standings) (par j) u ∙ parent-not-ready d;
+              not-ready =
+                  ready-at (may .kept .cached .placed) par (rowsOf n standings) (par j) parent-task ∙ parent-not-ready;
             };
       }
 
@@ -439,23 +415,11 @@ module _ {c : Contents} {j : ℕ} (may : MayFinish c j) (long : Lengths c) where
       → Marks (isReadyAt (c .size) (at (c .parents)) (executionOf c) (rowsOf (c .size) (set (c .standings) j finished))) c₂
   unfolding ended withProgress
   marks-then {c₂} fed-parent =
-      ⊎-elim
-      (λ z.
       subst (λ (t : ℕ → Bool). Marks t c₂)
-      (sym
-      (unchanged was (place j) (ready-at (may .kept .cached .placed) par (rowsOf n standings) j (may .task) ∙ was-not-ready))
-      ∙ ap (changed was (place j)) (sym is-not-ready)
-      ∙ ready-changed (may .kept .cached .placed) par (rowsOf n standings) (rowsOf n then) j (may .task)
-      (λ i t _. ready-others i t (λ e. let low = t .low in omega arith)))
-      (fed-parent .nobody z was still-marked))
-      (λ d.
-      let u = parent-task d in
-      subst (λ (t : ℕ → Bool). Marks t c₂)
-      (ap (changed was (place (par j))) (parent-ready-then d)
-      ∙ ready-changed (may .kept .cached .placed) par (rowsOf n standings) (rowsOf n then) (par j) u ready-others)
-      (fed-parent .marks d was still-marked
-      (ready-at (may .kept .cached .placed) par (rowsOf n standings) (par j) u ∙ parent-not-ready d)))
-      (same-or-not (par j) 0)
+      (ap (changed was (place (par j))) parent-ready-then
+      ∙ ready-changed (may .kept .cached .placed) par (rowsOf n standings) (rowsOf n then) (par j) parent-task ready-others)
+      (fed-parent .marks was still-marked
+      (ready-at (may .kept .cached .placed) par (rowsOf n standings) (par j) parent-task ∙ parent-not-ready))
 
   -- the rows of the standings then
   rows-then : rowsOf n then ≡ set (rowsOf n standings) j finished
@@ -490,7 +454,7 @@ module _ {c : Contents} {j : ℕ} (may : MayFinish c j) (long : Lengths c) where
   used-within : c .chilled .used ≤ c .chilled .bound
   used-within =
       let w =
-      in-use-within n par rank tree works outs (at (rowsOf n standings)) (at (rowsOf n booked)) (day .good .shape)
+      in-process-within n par rank tree works outs (at (rowsOf n standings)) (at (rowsOf n booked)) (day .good .shape)
       (subst (λ (f : ℕ → ℕ). Balanced n par f outs (at (rowsOf n standings)) (at (rowsOf n booked))) same-need (day .good .stock .books))
       in
       let u = may .kept .cached .store .uses in
@@ -498,9 +462,8 @@ module _ {c : Contents} {j : ℕ} (may : MayFinish c j) (long : Lengths c) where
       omega arith
 
   pub used-fits :
-      c .chilled .used - at (c .chilled .needs) j + keptOut (at (c .parents) j) (at (c .chilled .outs) j) < 2 ^ 32
+      c .chilled .used - at (c .chilled .needs) j + at (c .chilled .outs) j < 2 ^ 32
   used-fits =
-      let k = only-le (not (eqb (par j) 0)) (outs j) in
       let o = day .roomy j (may .task) in
       let u = used-within in
       let f = day .bounded in
@@ -509,19 +472,19 @@ module _ {c : Contents} {j : ℕ} (may : MayFinish c j) (long : Lengths c) where
 
   -- what is in use then
   pub used-then :
-      c .chilled .used - at (c .chilled .needs) j + keptOut (at (c .parents) j) (at (c .chilled .outs) j)
-      ≡ usedBy (c .size) (at (c .parents)) (at (c .chilled .works)) (at (c .chilled .outs))
+      c .chilled .used - at (c .chilled .needs) j + at (c .chilled .outs) j
+      ≡ inProcessBy (c .size) (at (c .parents)) (at (c .chilled .works)) (at (c .chilled .outs))
       (at (rowsOf (c .size) (set (c .standings) j finished)))
   used-then =
       let e =
       used-ended n par works outs (λ i _. day .parents i) (at (rowsOf n standings)) (at (set (rowsOf n standings) j finished)) j
-      (may .task) runs-there parent-idle moved-rows
+      (may .task) runs-there (may .higher) parent-idle moved-rows
       in
       let u = may .kept .cached .store .uses in
       let m = may .kept .cached .store .needed j in
       let h = used-has in
-      let there : c .chilled .used - needs j + given ≡ usedBy n par works outs (at (set (rowsOf n standings) j finished)) = omega arith in
-      there ∙ ap (λ (l : List ℕ). usedBy n par works outs (at l)) (sym rows-then)
+      let there : c .chilled .used - needs j + given ≡ inProcessBy n par works outs (at (set (rowsOf n standings) j finished)) = omega arith in
+      there ∙ ap (λ (l : List ℕ). inProcessBy n par works outs (at l)) (sym rows-then)
 
   -- one fewer runs, and one more has ended
   pub runs-then :
@@ -572,32 +535,19 @@ module _ {c : Contents} {j : ℕ} (may : MayFinish c j) (long : Lengths c) where
   released =
       let high = may .task .high in
       let own : at (rowsOf n booked) j ≡ at booked j = at-rows n booked j high in
-      ⊎-elim
-      (λ z.
-      let none = root z in
-      ap₂ (λ (v : ℕ) (b : List ℕ). record { left = v; booked = b })
-      (let e : rest ≡ at (rowsOf n booked) j = omega arith in e)
-      (ap (rowsOf n)
-      (ap (λ (t : Bool). cond t taken (set taken (par j) (at taken (par j) + given))) (eq-eqb (par j) 0 z))
-      ∙ rows-set n booked j 0 high)
-      ∙ sym (release-root par outs (rowsOf n booked) j (eq-eqb (par j) 0 z)))
-      (λ d.
       let p = day .parents j in
-      let keeps = child d in
       let b₂ :
       rowsOf n shared ≡ set (set (rowsOf n booked) j 0) (par j) (at (set (rowsOf n booked) j 0) (par j) + outs j) =
       ap (rowsOf n)
-      (ap (λ (t : Bool). cond t taken (set taken (par j) (at taken (par j) + given))) (ne-eqb (par j) 0 d))
+      (ap (λ (t : Bool). cond t taken (set taken (par j) (at taken (par j) + given))) (ne-eqb (par j) 0 (may .higher)))
       ∙ rows-set n taken (par j) (at taken (par j) + given) p
       ∙ ap₂ (λ (l : List ℕ) (v : ℕ). set l (par j) v) (rows-set n booked j 0 high)
-      (ap₂ (λ (a b : ℕ). a + b)
-      (sym (at-rows n taken (par j) p) ∙ ap (λ (l : List ℕ). at l (par j)) (rows-set n booked j 0 high))
-      keeps)
+      (ap (λ (a : ℕ). a + given)
+      (sym (at-rows n taken (par j) p) ∙ ap (λ (l : List ℕ). at l (par j)) (rows-set n booked j 0 high)))
       in
       ap₂ (λ (v : ℕ) (b : List ℕ). record { left = v; booked = b })
       (let e : rest ≡ at (rowsOf n booked) j - outs j = omega arith in e) b₂
-      ∙ sym (release-child par outs (rowsOf n booked) j (ne-eqb (par j) 0 d)))
-      (same-or-not (par j) 0)
+      ∙ sym (release-child par outs (rowsOf n booked) j (ne-eqb (par j) 0 (may .higher)))
 
   -- and so the climb is that of the rules
   same-goal : climb n par needs (at then) (chain n par (par j)) (shareOf n rest shared) ≡ dispatchedFrom c j
@@ -617,7 +567,7 @@ module _ {c : Contents} {j : ℕ} (may : MayFinish c j) (long : Lengths c) where
       Carried (c .size) (at (c .parents)) (at (set (c .standings) j finished))
       (climb (c .size) (at (c .parents)) (at (c .chilled .needs)) (at (set (c .standings) j finished))
       (chain (c .size) (at (c .parents)) (at (c .parents) j))
-      (shareOf (c .size) (restOf (c .chilled .booked) j (at (c .parents) j) (at (c .chilled .outs) j))
+      (shareOf (c .size) (restOf (c .chilled .booked) j (at (c .chilled .outs) j))
       (sharedWith (c .chilled .booked) j (at (c .parents) j) (at (c .chilled .outs) j))))
       (sharedWith (c .chilled .booked) j (at (c .parents) j) (at (c .chilled .outs) j)) booked′ figures′ offers left) where
     pub booked-zero : ZeroPast (c .size) booked′
@@ -686,5 +636,5 @@ module _ {c : Contents} {j : ℕ} (may : MayFinish c j) (long : Lengths c) where
           good =
               subst (λ (k : Books). Good n par rank needs outs (c .chilled .bound) k) (sym books-then)
               (sharing-good n par rank tree needs outs (day .roomy) (c .chilled .bound) (books c) (day .good) j (may .task)
-              runs-there);
+              runs-there (may .higher));
         }

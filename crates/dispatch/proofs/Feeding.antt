@@ -41,18 +41,12 @@ waitsForFewer parent c = withProgress (c .standings) (fewer (c .unended) parent)
 pub fewer-written :
     (w : List ℕ) (parent : ℕ) {w₁ : List ℕ} {unended : ℕ}
     → MayFeed parent (contents w)
-    → (parent ≡ 0 → ⊥)
     → unended ≡ at (contents w .unended) parent
     → w₁ ≡ set w (row * parent + unendedColumn) (unended - 1)
     → contents w₁ ≡ waitsForFewer parent (contents w)
 unfolding withCell storeWithCell withProgress
-fewer-written w parent may higher read e =
-    let c = contents w in
+fewer-written w parent may read e =
     cell-written w refl (may .long) unendedColumn (omega arith) (ap (λ (v : ℕ). v - 1) read) parent (may .parent-in) e
-    ∙ ap
-    (λ (b : Bool).
-    withProgress (c .standings) (cond b (c .unended) (set (c .unended) parent (at (c .unended) parent - 1))) (c .active) (c .ended) c)
-    (sym (ne-eqb parent 0 higher))
 
 -- whether the parent becomes ready, by the two tests
 module _ (parent : ℕ) (c : Contents) where
@@ -82,22 +76,7 @@ unchanged test place off =
     (λ d. ap (λ (b : Bool). cond b false (test e)) (ne-eqb e place d)) (same-or-not e place))
 
 module _ {parent : ℕ} {c : Contents} (may : MayFeed parent c) where
-  -- nobody
-  pub fed-nobody : parent ≡ 0 → Fed parent c c
-  unfolding withReady withProgress
-  fed-nobody z =
-      record {
-        same =
-            ap
-            (λ (b : Bool).
-            withReady (c .ready) (c .filled)
-            (withProgress (c .standings) (cond b (c .unended) (set (c .unended) parent (at (c .unended) parent - 1))) (c .active) (c .ended) c))
-            (sym (eq-eqb parent 0 z));
-        nobody = λ _ _ m. m;
-        marks = λ d. absurd (d z);
-      }
-
-  module _ (higher : parent ≡ 0 → ⊥) {c₁ : Contents} (waits : c₁ ≡ waitsForFewer parent c) where
+  module _ {c₁ : Contents} (waits : c₁ ≡ waitsForFewer parent c) where
     -- its ready set is that of c
     same-set : (test : ℕ → Bool) → Marks test c → Marks test c₁
     unfolding withProgress
@@ -115,7 +94,7 @@ module _ {parent : ℕ} {c : Contents} (may : MayFeed parent c) where
     pub may-insert : {place : ℕ} → place ≡ at (c₁ .places) parent → MayChange place false c₁
     unfolding withProgress
     may-insert e =
-        let u = may .unfed higher in
+        let u = may .unfed in
         let p = u .place-in in
         let q = e ∙ place-is in
         record {
@@ -134,9 +113,8 @@ module _ {parent : ℕ} {c : Contents} (may : MayFeed parent c) where
           same =
               subst (λ (d : Contents). d ≡ withReady (d .ready) (d .filled) (waitsForFewer parent c)) (sym waits)
               (λ _. waitsForFewer parent c);
-          nobody = λ z. absurd (higher z);
           marks =
-              λ _ test m off.
+              λ test m off.
               subst (λ (t : ℕ → Bool). Marks t c₁) (sym (ap (changed test (at (c .places) parent)) not-yet ∙ unchanged test (at (c .places) parent) off))
               (same-set test m);
         }
@@ -149,9 +127,8 @@ module _ {parent : ℕ} {c : Contents} (may : MayFeed parent c) where
           let here = read ∙ place-is in
           record {
             same = did .same ∙ ap (withReady (c₂ .ready) (c₂ .filled)) waits;
-            nobody = λ z. absurd (higher z);
             marks =
-                λ _ test m off.
+                λ test m off.
                 subst (λ (b : Bool). Marks (changed test (at (c .places) parent) b) c₂) (sym ready-now)
                 (subst (λ (q : ℕ). Marks (changed test q true) c₂) here
                 (did .marks test (same-set test m) (ap test here ∙ off)));

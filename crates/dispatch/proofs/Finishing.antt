@@ -5,9 +5,8 @@ use Rattle.rules.specs.Lists.{at}
 use Rattle.words.specs.Layout.{words, chilled}
 use Rattle.words.specs.Contents.{Contents, withReady}
 use Rattle.words.proofs.Contents.{Lengths}
-use Rattle.store.specs.Store.{withStore, withHoldings, keptOut, released, MayRelease, freed}
+use Rattle.store.specs.Store.{withStore, withHoldings, released, MayRelease, freed}
 use Rattle.store.proofs.Rows.{zero-set}
-use Rattle.store.proofs.Entries.{fewer-zero}
 use Rattle.dispatch.specs.Climb.{MayClimb, DidClimb}
 use Rattle.dispatch.specs.Ended.{withProgress, ended, Fed}
 use Rattle.dispatch.specs.Finished.{MayFinish, Finished}
@@ -50,6 +49,7 @@ module _ {c : Contents} {j : ℕ} (may : MayFinish c j) (long : Lengths c) {c₂
         at-task = record { long = may .kept .cached .long; offset = refl; task-in = task-in may long };
         parent-in = parent-in may long;
         out-held = out-held may long;
+        higher = may .higher;
         parent-fits = parent-fits may long;
         used-has = used-has may long;
         used-fits = used-fits may long;
@@ -57,7 +57,7 @@ module _ {c : Contents} {j : ℕ} (may : MayFinish c j) (long : Lengths c) {c₂
 
   -- its trays are taken
   module _ {c₃ : Contents} (releases : c₃ ≡ withStore (released (at (c₂ .parents) j) j (c₂ .chilled)) c₂) {units : ℕ}
-      (takes : units ≡ at (c₂ .chilled .booked) j - keptOut (at (c₂ .parents) j) (at (c₂ .chilled .outs) j)) where
+      (takes : units ≡ at (c₂ .chilled .booked) j - at (c₂ .chilled .outs) j) where
     abbrev takenPlan : Contents
     takenPlan = withStore (released (at (c .parents) j) j (c .chilled)) fedPlan
 
@@ -65,23 +65,23 @@ module _ {c : Contents} {j : ℕ} (may : MayFinish c j) (long : Lengths c) {c₂
     unfolding withReady withProgress ended
     taken-is = releases ∙ ap (λ (d : Contents). withStore (released (at (d .parents) j) j (d .chilled)) d) (fed .same)
 
-    units-are : units ≡ restOf (c .chilled .booked) j (at (c .parents) j) (at (c .chilled .outs) j)
+    units-are : units ≡ restOf (c .chilled .booked) j (at (c .chilled .outs) j)
     unfolding withReady withProgress ended
     units-are =
         takes
-        ∙ ap (λ (d : Contents). at (d .chilled .booked) j - keptOut (at (d .parents) j) (at (d .chilled .outs) j)) (fed .same)
+        ∙ ap (λ (d : Contents). at (d .chilled .booked) j - at (d .chilled .outs) j) (fed .same)
 
     pub may-climb : MayClimb chilled j units c₃
     unfolding withReady withProgress ended withStore withHoldings released
     may-climb =
         subst (λ (v : ℕ). MayClimb chilled j v c₃) (sym units-are)
-        (subst (MayClimb chilled j (restOf (c .chilled .booked) j (at (c .parents) j) (at (c .chilled .outs) j))) (sym taken-is)
+        (subst (MayClimb chilled j (restOf (c .chilled .booked) j (at (c .chilled .outs) j))) (sym taken-is)
         (record { long = may .kept .cached .long; offset = refl; carrying = carrying may long }))
 
     -- they have gone up
     module _ {c₄ : Contents} {offers left : ℕ} (did : DidClimb j units c₃ c₄ offers left) where
       climbs :
-          DidClimb j (restOf (c .chilled .booked) j (at (c .parents) j) (at (c .chilled .outs) j)) takenPlan c₄ offers left
+          DidClimb j (restOf (c .chilled .booked) j (at (c .chilled .outs) j)) takenPlan c₄ offers left
       climbs =
           subst (λ (v : ℕ). DidClimb j v takenPlan c₄ offers left) units-are
           (subst (λ (d : Contents). DidClimb j units d c₄ offers left) taken-is did)
@@ -101,7 +101,7 @@ module _ {c : Contents} {j : ℕ} (may : MayFinish c j) (long : Lengths c) {c₂
         leftPlan =
             withStore
             (withHoldings (c .chilled .total - left)
-            (c .chilled .used - at (c .chilled .needs) j + keptOut (at (c .parents) j) (at (c .chilled .outs) j)) (c₄ .chilled .booked)
+            (c .chilled .used - at (c .chilled .needs) j + at (c .chilled .outs) j) (c₄ .chilled .booked)
             (c₄ .chilled .figures) (c .chilled))
             fedPlan
 
@@ -130,8 +130,8 @@ module _ {c : Contents} {j : ℕ} (may : MayFinish c j) (long : Lengths c) {c₂
                           placed = may .kept .cached .placed;
                           standings-zero = then-zero may long;
                           unended-zero =
-                              fewer-zero (c .size) (c .unended) (at (c .parents) j) (may .kept .invariant .parents j)
-                              (may .kept .cached .unended-zero);
+                              zero-set (c .size) (c .unended) (at (c .parents) j) (at (c .unended) (at (c .parents) j) - 1)
+                              (may .kept .invariant .parents j) (may .kept .cached .unended-zero);
                           store =
                               record {
                                 needed = may .kept .cached .store .needed;

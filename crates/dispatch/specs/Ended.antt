@@ -10,7 +10,7 @@ use Rattle.rules.specs.Standing.{activated, finished}
 use Rattle.words.specs.Layout.{words, rows, entries}
 use Rattle.words.specs.Contents.{Contents, withReady}
 use Rattle.words.specs.Marks.{Marks, changed}
-use Rattle.store.specs.Store.{fewer}
+use Rattle.store.specs.Store.{withStore, fewer, heldAlone}
 
 -- the plan with other standings, with other counts of tasks that run and have ended, and of children that have not ended
 unfoldable pub withProgress : (standings unended : List ℕ) (active ended : ℕ) → Contents → Contents
@@ -63,15 +63,17 @@ pub record Unfed (parent : ℕ) (c : Contents) : Type 0 where
 pub record MayFeed (parent : ℕ) (c : Contents) : Type 0 where
   pub long : c .extent ≡ words
   pub parent-in : parent < rows
-  pub unfed : (parent ≡ 0 → ⊥) → Unfed parent c
+  pub unfed : Unfed parent c
 
--- one child fewer, where there is a parent, and a parent in the ready set where it becomes ready
+-- one child fewer, and a parent in the ready set where it becomes ready
 pub record Fed (parent : ℕ) (c c′ : Contents) : Type 0 where
   pub same : c′ ≡ withReady (c′ .ready) (c′ .filled) (withProgress (c .standings) (fewer (c .unended) parent) (c .active) (c .ended) c)
-  pub nobody : parent ≡ 0 → (test : ℕ → Bool) → Marks test c → Marks test c′
   pub marks :
-      (parent ≡ 0 → ⊥)
-      → (test : ℕ → Bool)
+      (test : ℕ → Bool)
       → Marks test c
       → test (at (c .places) parent) ≡ false
       → Marks (changed test (at (c .places) parent) (becomesReady parent c)) c′
+
+-- the root is an ended task: its out remains booked and in use, and nothing else is
+unfoldable pub rootEnded : ℕ → Contents → Contents
+rootEnded j c = withStore (heldAlone j (at (c .chilled .outs) j) (c .chilled)) (ended j c)

@@ -1,4 +1,4 @@
--- What ending a task asks and leaves.
+-- What ending a task that has a parent asks and leaves.
 use mathlib.Core.Path.{_≡_}
 use Prim.Native.Nat.{ℕ}
 use lib.ListN.{length, set}
@@ -10,11 +10,12 @@ use Rattle.words.specs.Contents.{Contents}
 use Rattle.store.specs.Rows.{books}
 use Rattle.store.specs.Kept.{Kept, SamePlan}
 
--- task j runs
+-- task j runs, and has a parent
 pub record MayFinish (c : Contents) (j : ℕ) : Type 0 where
   pub kept : Kept c
   pub task : Task (c .size) j
   pub runs : at (c .standings) j ≡ running
+  pub higher : at (c .parents) j ≡ 0 → ⊥
 
 -- sharing out of the rules
 abbrev pub dispatchedFrom : Contents → ℕ → Climbed

@@ -2,12 +2,13 @@
 ghost use mathlib.Core.Path.{_≡_};
 ghost use Rattle.words.specs.Contents.{contents};
 ghost use Rattle.dispatch.specs.Climb.{MayClimb, DidClimb};
-ghost use Rattle.dispatch.specs.Ended.{MayEnd, ended, MayFeed, Fed};
+ghost use Rattle.dispatch.specs.Ended.{MayEnd, ended, MayFeed, Fed, rootEnded};
 ghost use Rattle.dispatch.specs.Finished.{MayFinish, Finished};
 use cells::cell;
 use cells::set_cell;
 use ready::insert;
 use store::free;
+use store::hold_alone;
 use store::pass;
 use store::release;
 use store::rest;
@@ -52,9 +53,6 @@ fn feed(plan: &mut [u32; Plan::WORDS], parent: usize)
     requires { ⌜ MayFeed parent (contents (now plan)) ⌝ }
     ensures { λ _. ⌜ Fed parent (contents (now (plan .entry))) (contents (now (plan .exit))) ⌝ }
 {
-    if parent == 0 {
-        return;
-    }
     let unended = cell(plan, parent, Plan::UNENDED) - 1;
     set_cell(plan, parent, Plan::UNENDED, unended);
     if unended == 0 {
@@ -77,8 +75,9 @@ fn end(plan: &mut [u32; Plan::WORDS], task: usize)
     set_cell(plan, Plan::HEAD, Plan::ENDED, ended + 1);
 }
 
-// "When step j ends, its booked trays, call them R, are taken from it. .. What is left of R is free.
-// The answer carries the number of offers made."
+// "When step j ends, its booked trays, call them R, are taken from it. If it has a parent, the
+// parent is given j's out, and R falls by it. .. What is left of R is free. The answer carries the
+// number of offers made."
 pub fn finish(plan: &mut [u32; Plan::WORDS], task: usize) -> usize
     requires { ⌜ MayFinish (contents (now plan)) task ⌝ }
     ensures { λ r. ⌜ Finished (contents (now (plan .entry))) task (contents (now (plan .exit))) r ⌝ }
@@ -90,4 +89,15 @@ pub fn finish(plan: &mut [u32; Plan::WORDS], task: usize) -> usize
     let passed = climb(plan, Plan::CHILLED, task, units);
     free(plan, Plan::CHILLED, passed.left);
     passed.offers
+}
+
+// "When the root ends, its out remains booked and in use": what else it held is free, and nobody is
+// above it to be offered anything.
+pub fn end_root(plan: &mut [u32; Plan::WORDS], task: usize)
+    requires { ⌜ MayEnd task (contents (now plan)) ⌝ }
+    ensures { λ _. ⌜ contents (now (plan .exit)) ≡ rootEnded task (contents (now (plan .entry))) ⌝ }
+{
+    end(plan, task);
+    let out = cell(plan, task, Plan::CHILLED + Plan::OUT);
+    hold_alone(plan, Plan::CHILLED, task, out);
 }

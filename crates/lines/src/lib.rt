@@ -3,7 +3,7 @@
 mod tail;
 
 ghost use lib.ListN.{take};
-ghost use Rattle.rules.specs.Text.{beginLine, doneLine, refusedLine};
+ghost use Rattle.rules.specs.Text.{beginLine, doneLine, fetchLine, refusedLine};
 ghost use Rattle.lines.specs.Line.{Line};
 
 // No line has more bytes.
@@ -45,6 +45,15 @@ pub fn done_line(
     let next = put::text(buffer, next, b" offers=");
     let next = put::decimal(buffer, next, offers as u64);
     tail::figures(buffer, next, booked, used, full, starts, count)
+}
+
+// The line of an accepted FETCH.
+pub fn fetch_line(buffer: &mut [u8], booked: u32) -> usize
+    ensures { λ r. ⌜ Line (fetchLine booked) 0 (now (buffer .entry)) (now (buffer .exit)) r ⌝ }
+{
+    let next = put::text(buffer, 0, b"fetch booked=");
+    let next = put::decimal(buffer, next, booked as u64);
+    put::byte(buffer, next, b'\n')
 }
 
 // The line of a refusal: its number, and the byte offset of the command.

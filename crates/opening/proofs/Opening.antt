@@ -7,7 +7,7 @@ use Prim.Native.Nat.{ℕ, suc, _+_, _*_, _^_, _≤_, _<_}
 use native.Mathlib.Omega.{arith}
 use lib.Dec.{leb}
 use lib.ListN.{length, take, set, List·getD-eq-default}
-use borrow.Author.Tests.{leb-true, le-leb, eq-eqb, ne-eqb}
+use borrow.Author.Tests.{leb-true, le-leb}
 use Rattle.rules.specs.Limits.{maxTasks, maxProcessors, maxBound}
 use Rattle.rules.specs.Lists.{at}
 use Rattle.rules.specs.Phase
@@ -24,7 +24,7 @@ use Rattle.words.proofs.Contents.{wrote-head}
 use Rattle.store.specs.Rows.{ZeroPast}
 use Rattle.store.specs.AtRest.{AtRest}
 use Rattle.answer.specs.Meaning.{meaning}
-use Rattle.answer.specs.Sound.{Unused, Sound}
+use Rattle.answer.specs.Sound.{Unused, DayPast, Sound}
 use Rattle.opening.specs.Cleared.{Emptied}
 
 -- contents in which nothing is written, but for old orders
@@ -45,11 +45,7 @@ pub record NothingPast (n : ℕ) (c : Contents) : Type 0 where
   pub parents : ZeroPast n (c .parents)
   pub works : ZeroPast n (c .chilled .works)
   pub outs : ZeroPast n (c .chilled .outs)
-  pub unended : ZeroPast n (c .unended)
-  pub standings : ZeroPast n (c .standings)
-  pub needs : ZeroPast n (c .chilled .needs)
-  pub booked : ZeroPast n (c .chilled .booked)
-  pub figures : ZeroPast n (c .chilled .figures)
+  pub day : DayPast n c
 
 module _ {n : ℕ} {w w′ : List ℕ} (small : n ≤ maxTasks) (long : length w ≡ words) (e : Emptied n w w′) where
   -- a column that has nothing past the tasks
@@ -90,11 +86,11 @@ module _ {n : ℕ} {w w′ : List ℕ} (small : n ≤ maxTasks) (long : length w
         placed = head-zero 8 (omega arith);
         rest =
             record {
-              unended = column-zero 3 (omega arith) (past .unended);
-              standings = column-zero 4 (omega arith) (past .standings);
-              needs = column-zero 7 (omega arith) (past .needs);
-              booked = column-zero 8 (omega arith) (past .booked);
-              figures = column-zero 9 (omega arith) (past .figures);
+              unended = column-zero 3 (omega arith) (past .day .unended);
+              standings = column-zero 4 (omega arith) (past .day .standings);
+              needs = column-zero 7 (omega arith) (past .day .needs);
+              booked = column-zero 8 (omega arith) (past .day .booked);
+              figures = column-zero 9 (omega arith) (past .day .figures);
               ready = ready-zero;
               filled = e .ready filledWord (omega arith) (omega arith);
               next = head-zero 9 (omega arith);
@@ -196,18 +192,18 @@ module _ (c : Contents) (blank : Blank c) (n processors bound : ℕ) where
       })
 
 module _ (c : Contents) (n processors bound : ℕ) where
-  -- out of turn while a day runs, and in turn otherwise
-  pub open-late : c .phase ≡ Phase.running → ground (meaning c) (rules.plan n processors bound) ≡ 3
+  -- out of turn while trays of a plan lie in the cold room, and in turn otherwise
+  pub open-late : Phase.holdsTrays (c .phase) ≡ true → ground (meaning c) (rules.plan n processors bound) ≡ 3
   unfolding inTurn
-  open-late e = ground-turn (meaning c) (rules.plan n processors bound) (ap not (eq-eqb (c .phase) Phase.running e))
+  open-late e = ground-turn (meaning c) (rules.plan n processors bound) (ap not e)
 
-  open-turn : (c .phase ≡ Phase.running → ⊥) → inTurn (meaning c) (rules.plan n processors bound) ≡ true
+  open-turn : Phase.holdsTrays (c .phase) ≡ false → inTurn (meaning c) (rules.plan n processors bound) ≡ true
   unfolding inTurn
-  open-turn d = ap not (ne-eqb (c .phase) Phase.running d)
+  open-turn e = ap not e
 
   -- the number of tasks is outside its limits
   pub open-tasks :
-      (c .phase ≡ Phase.running → ⊥)
+      Phase.holdsTrays (c .phase) ≡ false
       → within n maxTasks ≡ false
       → ground (meaning c) (rules.plan n processors bound) ≡ 4
   unfolding inLimits
@@ -217,7 +213,7 @@ module _ (c : Contents) (n processors bound : ℕ) where
 
   -- the number of processors is outside its limits
   pub open-processors :
-      (c .phase ≡ Phase.running → ⊥)
+      Phase.holdsTrays (c .phase) ≡ false
       → within processors maxProcessors ≡ false
       → ground (meaning c) (rules.plan n processors bound) ≡ 4
   unfolding inLimits
@@ -228,7 +224,7 @@ module _ (c : Contents) (n processors bound : ℕ) where
 
   -- and no ground is left
   pub open-free :
-      (c .phase ≡ Phase.running → ⊥)
+      Phase.holdsTrays (c .phase) ≡ false
       → within n maxTasks ≡ true
       → within processors maxProcessors ≡ true
       → bound < 2 ^ 32

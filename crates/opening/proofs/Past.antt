@@ -1,77 +1,27 @@
 -- Nothing stands in the words past the tasks of a plan, in any phase.
-use mathlib.Core.Path.{_≡_}
 use mathlib.Core.Logic.{⊎-elim}
-use mathlib.Core.List.{List}
-use Prim.Native.Nat.{ℕ, suc, _≤_, _<_}
+use Prim.Native.Nat.{_≤_, _<_}
 use native.Mathlib.Omega.{arith}
-use lib.Dec.{eqb}
-use borrow.Author.Tests.{ne-eqb}
-use Rattle.rules.specs.Sums.{only}
-use Rattle.rules.specs.Lists.{at}
-use Rattle.rules.specs.Need.{need, children}
 use Rattle.rules.specs.Phase
 use Rattle.rules.specs.Reachable.{Reachable}
 use Rattle.rules.proofs.Tests.{le-or-lt}
-use Rattle.rules.proofs.Sums.{sum-zero}
 use Rattle.words.specs.Contents.{Contents}
-use Rattle.store.specs.Rows.{ZeroPast}
 use Rattle.answer.specs.Meaning.{meaning}
-use Rattle.answer.specs.Sound.{Unused, Sound}
-use Rattle.answer.proofs.Meant.{parents-small}
+use Rattle.answer.specs.Sound.{DayPast, Sound}
+use Rattle.answer.proofs.Past.{unused-past, running-past}
 use Rattle.opening.proofs.Opening.{NothingPast}
 
--- a number past the tasks is the parent of nobody
-no-children : (n : ℕ) (par out : ℕ → ℕ) (a : ℕ) → ((i : ℕ) → par i ≤ n) → n < a → children n par out a ≡ 0
-unfolding children
-no-children n par out a within h =
-    sum-zero (λ c. only (eqb (par c) a) (out c)) n
-    (λ c _. let p = within c in rw (ne-eqb (par c) a (λ e. omega arith)))
-
 module _ (c : Contents) (sound : Sound c) (reached : Reachable (meaning c)) where
-  given-small : c .given ≤ suc (c .size)
-  given-small =
-      ⊎-elim
-      (λ (h : Phase.orders ≤ c .phase). let g = sound .given .whole h in omega arith)
-      (λ (h : c .phase < Phase.orders).
-      ⊎-elim
-      (λ (s : Phase.steps ≤ c .phase). let g = sound .given .in-steps (omega arith) in omega (arith, g))
-      (λ (s : c .phase < Phase.steps). let g = sound .given .unopened (omega arith) in omega arith)
-      (le-or-lt Phase.steps (c .phase)))
-      (le-or-lt Phase.orders (c .phase))
-
-  unused-past : (l : List ℕ) → Unused (c .given) l → ZeroPast (c .size) l
-  unused-past l unused a h = unused .later a (let g = given-small in omega arith)
-
-  pub nothing-past : NothingPast (c .size) c
-  unfolding need
-  nothing-past =
+  -- nothing of a day: before it, while it runs, and once all have ended
+  day-past : DayPast (c .size) c
+  day-past =
       ⊎-elim
       (λ (h : Phase.running ≤ c .phase).
-      (let k = sound .day h .cached in
-      record {
-        parents = unused-past (c .parents) (sound .parents);
-        works = unused-past (c .chilled .works) (sound .works);
-        outs = unused-past (c .chilled .outs) (sound .outs);
-        unended = k .unended-zero;
-        standings = k .standings-zero;
-        needs =
-            λ a past.
-            let needed = k .store .needed a in
-            let none =
-            no-children (c .size) (at (c .parents)) (at (c .chilled .outs)) a (parents-small c sound reached) past
-            in
-            let work = unused-past (c .chilled .works) (sound .works) a past in
-            let out = unused-past (c .chilled .outs) (sound .outs) a past in
-            omega arith;
-        booked = k .store .booked-zero;
-        figures = k .store .figures-zero;
-      }))
+      ⊎-elim (λ (l : c .phase ≤ Phase.running). running-past c sound reached (omega arith))
+      (λ (l : Phase.running < c .phase). sound .day h .closed l .past) (le-or-lt (c .phase) Phase.running))
       (λ (h : c .phase < Phase.running).
       (let z = sound .rest (omega arith) in
       record {
-        parents = unused-past (c .parents) (sound .parents);
-        works = unused-past (c .chilled .works) (sound .works);
-        outs = unused-past (c .chilled .outs) (sound .outs);
         unended = λ a _. z .unended a;
         standings = λ a _. z .standings a;
         needs = λ a _. z .needs a;
@@ -79,3 +29,12 @@ module _ (c : Contents) (sound : Sound c) (reached : Reachable (meaning c)) wher
         figures = λ a _. z .figures a;
       }))
       (le-or-lt Phase.running (c .phase))
+
+  pub nothing-past : NothingPast (c .size) c
+  nothing-past =
+      record {
+        parents = unused-past c sound reached (c .parents) (sound .parents);
+        works = unused-past c sound reached (c .chilled .works) (sound .works);
+        outs = unused-past c sound reached (c .chilled .outs) (sound .outs);
+        day = day-past;
+      }

@@ -31,7 +31,7 @@ fn empty(plan: &mut [u32; Plan::WORDS], tasks: usize)
 {
     clear(plan, 0, Plan::ROW * (tasks + 1));
     clear(plan, Plan::ROW * Plan::HEAD, Plan::ACTIVATION);
-    clear(plan, Plan::READY, Plan::WORDS);
+    clear(plan, Plan::READY_SET, Plan::WORDS);
 }
 
 // "PLAN: drop the old plan, open a new one"
@@ -45,7 +45,7 @@ pub fn open(
     requires { ⌜ ValidPlan (now plan) ⌝ }
     ensures { λ r. ⌜ Obeyed (now (plan .entry)) (rules.plan n processors bound) used r (now (plan .exit)) ⌝ }
 {
-    if cell(plan, Plan::HEAD, Plan::PHASE) == Plan::RUNNING {
+    if Plan::holds_trays(cell(plan, Plan::HEAD, Plan::PHASE)) {
         return Answer::refused(3);
     }
     if !is_within(n as usize, Plan::MAX_TASKS) {

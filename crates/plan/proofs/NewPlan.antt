@@ -55,11 +55,7 @@ module _ {w : List ℕ} (new : NewPlan w) where
         parents = past 0;
         works = past 5;
         outs = past 6;
-        unended = past 3;
-        standings = past 4;
-        needs = past 7;
-        booked = past 8;
-        figures = past 9;
+        day = record { unended = past 3; standings = past 4; needs = past 7; booked = past 8; figures = past 9 };
       })
 
   head : (k : ℕ) → at w (headBase + k) ≡ 0

@@ -9,6 +9,7 @@ use codec::Command;
 use codec::Decoded;
 use codec::decode;
 use day::begin::begin;
+use day::fetch::fetch;
 use day::report::report;
 use opening::add_task;
 use opening::open;
@@ -30,6 +31,7 @@ fn obey(plan: &mut [u32; Plan::WORDS], asked: Decoded, starts: &mut [u16]) -> An
             Command::Execution(task) => place(plan, task, used),
             Command::Begin => begin(plan, used, starts),
             Command::Done(task) => report(plan, task, used, starts),
+            Command::Fetch => fetch(plan, used),
         },
     }
 }

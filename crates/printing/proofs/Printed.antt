@@ -5,11 +5,11 @@ use Prim.Native.Nat.{ℕ}
 use native.Mathlib.Omega.{arith}
 use lib.ListN.{take}
 use Rattle.rules.specs.Answer as rules
-use Rattle.rules.specs.Text.{beginLine, doneLine, line, acceptedLine}
+use Rattle.rules.specs.Text.{beginLine, doneLine, fetchLine, line, acceptedLine}
 use Rattle.rules.specs.Question.{booked, inUse, fullness}
 use Rattle.codec.specs.Meaning.{commandOf, decoded}
 use Rattle.codec.specs.declared.Command.{Command}
-use Rattle.codec.specs.declared.Command.the-variants.{Begin, Done}
+use Rattle.codec.specs.declared.Command.the-variants.{Begin, Done, Fetch}
 use Rattle.codec.specs.declared.Decoded.{Decoded}
 use Rattle.codec.specs.declared.Decoded.the-variants.{Refused, Read}
 use Rattle.put.proofs.Pieces.{nothing, whole}
@@ -50,3 +50,12 @@ module _ (a : rules.Answered) {b u f : ℕ} (eb : b ≡ booked (a .state)) (eu :
       → line (commandOf (Done j)) a ≡ doneLine j (a .answer .offers) b u f (take (a .answer .starts) (a .list))
   unfolding line
   of-done j = rw (eb, eu, ef)
+
+-- a line that tells no tasks is no longer for their number
+pub no-tasks : {text buffer buffer′ : List ℕ} {count n : ℕ} → Line text 0 buffer buffer′ n → Line text count buffer buffer′ n
+no-tasks l = record { written = l .written; short = λ _. l .short (omega arith) }
+
+-- the line of FETCH with the booked trays that were answered, which tells no tasks
+pub of-fetch : (a : rules.Answered) {b : ℕ} → b ≡ booked (a .state) → line (commandOf Fetch) a ≡ fetchLine b
+unfolding line
+of-fetch a e = rw e

@@ -10,12 +10,13 @@ use codec::Command;
 use codec::Decoded;
 use lines::begin_line;
 use lines::done_line;
+use lines::fetch_line;
 use question::booked;
 use question::fullness;
 use question::in_use;
 use words::plan::Plan;
 
-// It is put to the front of the buffer: a line of BEGIN or DONE, and nothing for the others. The
+// It is put to the front of the buffer: a line of BEGIN, DONE or FETCH, and nothing for the others. The
 // figures are those of the plan that the command leaves.
 pub(crate) fn accepted_line(
     plan: &[u32; Plan::WORDS],
@@ -63,6 +64,7 @@ pub(crate) fn accepted_line(
                 starts,
                 answer.starts,
             ),
+            Command::Fetch => fetch_line(buffer, booked(plan)),
         },
     }
 }

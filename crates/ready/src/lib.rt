@@ -32,8 +32,8 @@ pub fn insert(plan: &mut [u32; Plan::WORDS], place: usize)
     ensures { λ _. ⌜ Changed place true (contents (now (plan .entry))) (contents (now (plan .exit))) ⌝ }
 {
     let block = place / Plan::BITS;
-    let word = entry(plan, Plan::READY, block);
-    set_entry(plan, Plan::READY, block, word + bit(place % Plan::BITS));
+    let word = entry(plan, Plan::READY_SET, block);
+    set_entry(plan, Plan::READY_SET, block, word + bit(place % Plan::BITS));
     if word == 0 {
         let filled = entry(plan, Plan::FILLED, 0);
         set_entry(plan, Plan::FILLED, 0, filled + bit(block));
@@ -46,9 +46,9 @@ pub fn remove(plan: &mut [u32; Plan::WORDS], place: usize)
     ensures { λ _. ⌜ Changed place false (contents (now (plan .entry))) (contents (now (plan .exit))) ⌝ }
 {
     let block = place / Plan::BITS;
-    let word = entry(plan, Plan::READY, block);
+    let word = entry(plan, Plan::READY_SET, block);
     let rest = word - bit(place % Plan::BITS);
-    set_entry(plan, Plan::READY, block, rest);
+    set_entry(plan, Plan::READY_SET, block, rest);
     if rest == 0 {
         let filled = entry(plan, Plan::FILLED, 0);
         set_entry(plan, Plan::FILLED, 0, filled - bit(block));
@@ -65,6 +65,6 @@ pub fn first_ready(plan: &[u32; Plan::WORDS], none: usize) -> usize
         return none;
     }
     let block = lowest(filled);
-    let word = entry(plan, Plan::READY, block);
+    let word = entry(plan, Plan::READY_SET, block);
     Plan::BITS * block + lowest(word)
 }

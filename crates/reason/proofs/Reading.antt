@@ -1,6 +1,6 @@
--- What the words keep of a plan in its day, as the rules ask for it.
+-- What the words keep of a running plan, as the rules ask for it.
 use mathlib.Core.Path.{_≡_, sym, ap, ap₂, _∙_}
-use Prim.Native.Nat.{ℕ, _≤_}
+use Prim.Native.Nat.{ℕ}
 use lib.Dec.{eqb}
 use Rattle.rules.specs.Sums.{Task, lowestTo}
 use Rattle.rules.specs.Lists.{at}
@@ -11,20 +11,20 @@ use Rattle.words.specs.Contents.{Contents}
 use Rattle.store.proofs.Unended.{fed-is}
 use Rattle.answer.specs.Meaning.{meaning}
 use Rattle.answer.specs.Sound.{Sound}
-use Rattle.answer.proofs.Meant.{parents-meant, standings-rows, standings-meant}
+use Rattle.answer.proofs.Meant.{in-running, cached-now, parents-meant, standings-rows, standings-meant}
 
-module _ (c : Contents) (sound : Sound c) (day : Phase.running ≤ c .phase) where
+module _ (c : Contents) (sound : Sound c) (now : c .phase ≡ Phase.running) where
   -- the lowest-numbered child that has not ended
   pub child-kept :
       (i : ℕ) → lowestTo (isUnendedChild (at (c .parents)) (at (c .standings)) i) (c .size) ≡ unendedChild (meaning c) i
   unfolding unendedChild
   child-kept i =
       ap₂ (λ (par st : ℕ → ℕ). lowestTo (isUnendedChild par st i) (c .size)) (sym (parents-meant c sound))
-      (sym (standings-meant c sound day))
+      (sym (standings-meant c sound now))
 
   -- the children of a task that have not ended are counted
   pub fed-kept :
       (i : ℕ) → Task (c .size) i → fed (c .size) (at (meaning c .parents)) (at (meaning c .standings)) i ≡ eqb (at (c .unended) i) 0
   fed-kept i t =
-      rw (parents-meant c sound, standings-rows c sound day)
-      (fed-is (c .size) (at (c .parents)) _ i ∙ ap (λ (v : ℕ). eqb v 0) (sym (sound .day day .cached .counted i t)))
+      rw (parents-meant c sound, standings-rows c sound (in-running c sound now))
+      (fed-is (c .size) (at (c .parents)) _ i ∙ ap (λ (v : ℕ). eqb v 0) (sym (cached-now c sound now .counted i t)))

@@ -23,11 +23,14 @@ use Rattle.booking.proofs.Turn.{next-is-first, misses-it}
 use Rattle.booking.proofs.Booking.{turn, nextTask, lacking}
 use Rattle.answer.specs.Meaning.{meaning}
 use Rattle.answer.specs.Sound.{Sound}
-use Rattle.answer.proofs.Meant.{parents-meant, standings-rows, booked-rows, needs-meant, activation-meant, still-kept}
+use Rattle.answer.proofs.Meant.{in-running, parents-meant, standings-rows, booked-rows, needs-meant, activation-meant, still-kept}
 
-module _ (c : Contents) (reached : Reachable (meaning c)) (sound : Sound c) (day : Phase.running ≤ c .phase) (sizes : Lengths c) where
+module _ (c : Contents) (reached : Reachable (meaning c)) (sound : Sound c) (now : c .phase ≡ Phase.running) (sizes : Lengths c) where
+  day : Phase.running ≤ c .phase
+  day = in-running c sound now
+
   kept : Kept c
-  kept = still-kept c reached sound day
+  kept = still-kept c reached sound now
 
   -- what is booked is within the bound
   pub within-bound : c .chilled .total ≤ c .chilled .bound
@@ -44,7 +47,7 @@ module _ (c : Contents) (reached : Reachable (meaning c)) (sound : Sound c) (day
     pub next-lack : lackIn (meaning c) (meaning c .chilled) (nextTask c) ≡ c .chilled .total + lacking c - c .chilled .bound
     unfolding lackIn misses
     next-lack =
-        rw (needs-meant c sound day, parents-meant c sound, standings-rows c sound day, booked-rows c sound day)
+        rw (needs-meant c sound now, parents-meant c sound, standings-rows c sound day, booked-rows c sound day)
         (ap₂ (λ (b m : ℕ). b + m - c .chilled .bound) (sym (kept .cached .store .totals)) (misses-it (turn kept sizes more)))
 
   -- where a task waits there is a next one

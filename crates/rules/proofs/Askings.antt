@@ -7,7 +7,7 @@ use lib.ListN.{length, drop, length-append, length-drop}
 use lib.Seq.{drop-append-seam}
 use Rattle.rules.specs.Lists.{at}
 use Rattle.rules.specs.State.{State}
-use Rattle.rules.specs.Command.{Command, plan, task, activation, execution, begin, done}
+use Rattle.rules.specs.Command.{Command, plan, task, activation, execution, begin, done, fetch}
 use Rattle.rules.specs.Booking.{Books, free}
 use Rattle.rules.specs.Obey.{withOrders, completed, ahead, begun, proceed, obey}
 use Rattle.rules.specs.Answer.{Asking, Answered, refuse, front, accept, command}
@@ -38,6 +38,7 @@ obey-few s (activation i) h = omega arith
 obey-few s (execution i) h = omega arith
 obey-few s begin h = proceed-few (completed s) _ _ _ _ (completed-formed s h)
 obey-few s (done j) h = proceed-few s _ _ _ _ h
+obey-few s fetch h = omega arith
 
 -- starts that fit leave a list as long as it was
 pub front-long : (l list : List ℕ) → length l ≤ length list → length (front l list) ≡ length list

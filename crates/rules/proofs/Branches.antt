@@ -95,7 +95,7 @@ first-at test (x ∷ l) (suc e) h earlier here =
 
 -- the booked trays of an ended task, with and without a parent
 module _ (par out : ℕ → ℕ) (b : List ℕ) (j : ℕ) where
-  pub release-root : eqb (par j) 0 ≡ true → release par out b j ≡ record { left = at b j; booked = set b j 0 }
+  pub release-root : eqb (par j) 0 ≡ true → release par out b j ≡ record { left = at b j - out j; booked = set b j (out j) }
   unfolding release
   release-root e = rw (e, release)
 

@@ -13,7 +13,7 @@ use lib.ListN.{length, take, drop, length-append, length-drop}
 use lib.Seq.{drop-cons, getD-drop}
 use Rattle.rules.specs.Limits.{maxCount, maxBound}
 use Rattle.rules.specs.Lists.{at, AllBytes}
-use Rattle.rules.specs.Command.{Command, plan, task, activation, execution, begin, done, Form, forms, find, byteOf, operandsOf, widthsOf, littles, numbers, room, bytes, Decoded, refused, read, readBy, table, decode}
+use Rattle.rules.specs.Command.{Command, plan, task, activation, execution, begin, done, fetch, Form, forms, find, byteOf, operandsOf, widthsOf, littles, numbers, room, bytes, Decoded, refused, read, readBy, table, decode}
 use Rattle.rules.proofs.Tests.{decide, le-or-lt}
 use Rattle.rules.proofs.Number.{Fit, numbers-fit, numbers-littles, littles-numbers, length-littles, length-numbers}
 
@@ -113,7 +113,10 @@ all-kept = (
       record { byte = λ x. refl; operands = one-entry },
       (
         record { byte = λ x. refl; operands = one-entry },
-        (record { byte = λ x. refl; operands = no-entry }, (record { byte = λ x. refl; operands = one-entry }, tt)),
+        (
+          record { byte = λ x. refl; operands = no-entry },
+          (record { byte = λ x. refl; operands = one-entry }, (record { byte = λ x. refl; operands = no-entry }, tt)),
+        ),
       ),
     ),
   ),
@@ -177,6 +180,7 @@ line-of (activation i) = record { form = _; there = refl; means = refl }
 line-of (execution i) = record { form = _; there = refl; means = refl }
 line-of begin = record { form = _; there = refl; means = refl }
 line-of (done i) = record { form = _; there = refl; means = refl }
+line-of fetch = record { form = _; there = refl; means = refl }
 
 -- a line reads its operands where they are whole
 line-reads :

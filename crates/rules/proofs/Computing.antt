@@ -2,7 +2,7 @@
 use mathlib.Core.List.{flatMap}
 use Rattle.rules.specs.Sums.{sumTo, everyTo, countTo, lowestTo}
 use Rattle.rules.specs.Lists.{mem, first, largest}
-use Rattle.rules.specs.Need.{children, need, resident}
+use Rattle.rules.specs.Need.{children, need, resident, inProcess, trolley}
 use Rattle.rules.specs.Need
 use Rattle.rules.specs.Peak.{sums, peak, roots, ordered}
 use Rattle.rules.specs.Standing.{count}
@@ -22,6 +22,7 @@ use Rattle.rules.specs.Command.{
   table,
   decode,
 }
+use Rattle.rules.specs.Phase
 use Rattle.rules.specs.Grounds.{inTurn, inLimits, peakOf, ownGround, ground}
 use Rattle.rules.specs.Booking.{
   chain,
@@ -61,6 +62,8 @@ use Rattle.rules.specs.Obey.{
   shared,
   ended,
   phaseAfter,
+  rootOf,
+  unloaded,
   obey,
 }
 use Rattle.rules.specs.Answer.{refuse, front, accept, judge, respond, command}
@@ -68,7 +71,7 @@ use Rattle.rules.specs.Question.{isRunning, booked, inUse, fullnessOf, f
 use Rattle.rules.specs.Why.{firstWaiting, lackIn, unendedChild, why}
 use Rattle.rules.specs.Instance.{tasksTo, commands, written}
 use Rattle.rules.specs.Write.{untouched, atFront, isWhole, writtenLength, write}
-use Rattle.rules.specs.Day.{after, answers, accepted, acceptedOnly, isPlan, isBegin, reported, events, log, opensDay, opensPlan, nextPlan}
+use Rattle.rules.specs.Day.{after, answers, accepted, acceptedOnly, isPlan, isBegin, reported, events, isFetched, log, opensDay, opensPlan, nextPlan}
 use Rattle.rules.specs.Day
 use Rattle.rules.specs.Theorem.{runs, usedBy}
 use Rattle.rules.specs.Text.{
@@ -80,6 +83,7 @@ use Rattle.rules.specs.Text.{
   figures,
   beginLine,
   doneLine,
+  fetchLine,
   line,
   refusedLine,
   acceptedLine,
@@ -98,6 +102,8 @@ unfolding
     children
     need
     resident
+    inProcess
+    trolley
     Need.inUse
     sums
     peak
@@ -118,6 +124,7 @@ unfolding
     readBy
     table
     decode
+    Phase.holdsTrays
     inTurn
     inLimits
     peakOf
@@ -158,6 +165,8 @@ unfolding
     shared
     ended
     phaseAfter
+    rootOf
+    unloaded
     obey
     refuse
     front
@@ -192,6 +201,7 @@ unfolding
     log
     Day.starts
     Day.ends
+    isFetched
     opensDay
     opensPlan
     nextPlan
@@ -207,6 +217,7 @@ unfolding
     figures
     beginLine
     doneLine
+    fetchLine
     line
     refusedLine
     acceptedLine

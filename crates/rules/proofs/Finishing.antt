@@ -1,29 +1,27 @@
--- A task ends: its trays are taken, its parent keeps its out, and the rest is owed to those above it.
+-- A task with a parent ends: its trays are taken, its parent keeps its out, and the rest is owed to those above it.
 use mathlib.Core.Path.{_≡_, refl, sym, ap, _∙_}
 use mathlib.Core.Bool.{true, false, not}
 use mathlib.Core.Logic.{⊎-elim}
 use Prim.Native.Nat.{ℕ, _+_, _-_, _≤_}
 use native.Mathlib.Omega.{arith}
 use lib.Dec.{eqb}
-use borrow.Author.Tests.{eqb-true, eq-eqb, ne-eqb}
+use borrow.Author.Tests.{eq-eqb, ne-eqb}
 use Rattle.rules.specs.Sums.{only, sumTo}
 use Rattle.rules.specs.Booking.{chain, figure}
 use Rattle.rules.specs.Standing.{activated, running, finished}
 use Rattle.rules.specs.Invariant.{Tree, up, Shape, Active, Balance, Balanced, Roomy, arrived, pending}
 use Rattle.rules.proofs.Tests.{decide, same-or-not}
-use Rattle.rules.proofs.Sums.{Task, sum-change, sum-cong, only-true, only-false, only-cong}
-use Rattle.rules.proofs.Tree.{up-nobody, up-self, up-parent, parent-task, figure-change, figure-cong}
+use Rattle.rules.proofs.Sums.{Task, sum-change, only-true, only-false}
+use Rattle.rules.proofs.Tree.{up-self, up-parent, parent-task, figure-change}
 use Rattle.rules.proofs.Children.{children-change}
 use Rattle.rules.proofs.Shape.{Moved, was, behind-still, four-still, not-begun-above}
 use Rattle.rules.proofs.Balance.{settled, running-holds-need}
 
--- the trays of j are taken, its parent, if it has one, keeps its out, and r is left
-pub record Taken (n : ℕ) (par out b b₁ b′ : ℕ → ℕ) (j r kept : ℕ) : Type 0 where
+-- the trays of j are taken, its parent keeps its out, and r is left
+pub record Taken (n : ℕ) (par out b b₁ b′ : ℕ → ℕ) (j r : ℕ) : Type 0 where
   pub taken : Moved n b b₁ j 0
-  pub gave : (i : ℕ) → Task n i → b′ i ≡ b₁ i + only (eqb (par j) i) kept
-  pub root : par j ≡ 0 → kept ≡ 0
-  pub child : (par j ≡ 0 → ⊥) → kept ≡ out j
-  pub rest : r ≡ b j - kept
+  pub gave : (i : ℕ) → Task n i → b′ i ≡ b₁ i + only (eqb (par j) i) (out j)
+  pub rest : r ≡ b j - out j
 
 -- j runs, and ends
 module _ (n : ℕ) (par rank : ℕ → ℕ) (tree : Tree n par rank) (st st′ : ℕ → ℕ) (shape : Shape n par rank st) (j : ℕ)
@@ -53,41 +51,32 @@ module _ (n : ℕ) (par rank : ℕ → ℕ) (tree : Tree n par rank) (st st′ :
       (ap (up n par i) e ∙ up-self n par rank tree i t)
       (λ q. omega arith)
 
-  module _ (need out b b₁ b′ : ℕ → ℕ) (r kept : ℕ) (roomy : Roomy n par need out) (books : Balanced n par need out st b)
-      (ends : Taken n par out b b₁ b′ j r kept) where
+  -- it has a parent
+  module _ (higher : par j ≡ 0 → ⊥) (need out b b₁ b′ : ℕ → ℕ) (r : ℕ) (roomy : Roomy n par need out)
+      (books : Balanced n par need out st b) (ends : Taken n par out b b₁ b′ j r) where
     -- j holds its need, and so its out
-    pub kept-within : kept ≤ b j
-    kept-within =
+    pub out-within : out j ≤ b j
+    out-within =
         let exact = running-holds-need n par rank tree need out st b shape books j task runs in
         let room = roomy j task in
-        ⊎-elim (λ z. let k = ends .root z in omega arith) (λ d. let k = ends .child d in omega arith) (same-or-not (par j) 0)
+        omega arith
 
     -- the parent keeps it, and nobody else is given anything
-    gave-parent : (d : par j ≡ 0 → ⊥) → b′ (par j) ≡ b₁ (par j) + kept
-    gave-parent d =
-        let g = ends .gave (par j) (parent-task n par rank tree j task d) in
-        let one = only-true (eqb (par j) (par j)) kept (eq-eqb (par j) (par j) refl) in
+    gave-parent : b′ (par j) ≡ b₁ (par j) + out j
+    gave-parent =
+        let g = ends .gave (par j) (parent-task n par rank tree j task higher) in
+        let one = only-true (eqb (par j) (par j)) (out j) (eq-eqb (par j) (par j) refl) in
         omega arith
 
     gave-nothing : (i : ℕ) → Task n i → (i ≡ par j → ⊥) → b′ i ≡ b₁ i
     gave-nothing i t d =
         let g = ends .gave i t in
-        let none = only-false (eqb (par j) i) kept (ne-eqb (par j) i (λ e. d (sym e))) in
+        let none = only-false (eqb (par j) i) (out j) (ne-eqb (par j) i (λ e. d (sym e))) in
         omega arith
-
-    -- nobody is the parent of the root
-    gave-nobody : par j ≡ 0 → (i : ℕ) → Task n i → b′ i ≡ b₁ i
-    gave-nobody z i t = gave-nothing i t (λ e. omega arith)
 
     -- what another task holds then: the parent has the out besides
     holds : (i : ℕ) → Task n i → (i ≡ j → ⊥) → b′ i ≡ b i + only (eqb (par j) i) (out j)
-    holds i t d =
-        let old = ends .taken .elsewhere i t d in
-        let new = ends .gave i t in
-        let same =
-        only-cong (eqb (par j) i) kept (out j) (λ e. ends .child (λ z. let q = eqb-true (par j) i e in omega arith))
-        in
-        omega arith
+    holds i t d = let old = ends .taken .elsewhere i t d in let new = ends .gave i t in omega arith
 
     -- the figures before: j's trays count for those at or above it
     pub figure-taken : (a : ℕ) → figure n par b a ≡ figure n par b₁ a + only (up n par a j) (b j)
@@ -96,15 +85,9 @@ module _ (n : ℕ) (par rank : ℕ → ℕ) (tree : Tree n par rank) (st st′ :
         figure-change n par b₁ b j (b j) a task (omega arith) (λ i t d. sym (ends .taken .elsewhere i t d))
 
     -- and after: what the parent keeps counts for those at or above the parent
-    pub figure-kept : (a : ℕ) → figure n par b′ a ≡ figure n par b₁ a + only (up n par a (par j)) kept
+    pub figure-kept : (a : ℕ) → figure n par b′ a ≡ figure n par b₁ a + only (up n par a (par j)) (out j)
     figure-kept a =
-        ⊎-elim
-        (λ z.
-        let same = figure-cong n par b₁ b′ a (gave-nobody z) in
-        let none = only-false (up n par a (par j)) kept (up-nobody n par a (par j) z) in
-        omega arith)
-        (λ d. figure-change n par b₁ b′ (par j) kept a (parent-task n par rank tree j task d) (gave-parent d) gave-nothing)
-        (same-or-not (par j) 0)
+        figure-change n par b₁ b′ (par j) (out j) a (parent-task n par rank tree j task higher) gave-parent gave-nothing
 
     -- all trays are still there, booked or left
     pub finishing-total : sumTo b′ n + r ≡ sumTo b n
@@ -112,12 +95,11 @@ module _ (n : ℕ) (par rank : ℕ → ℕ) (tree : Tree n par rank) (st st′ :
         let none = ends .taken .there in
         let before = sum-change b₁ b n j (b j) task (omega arith) (λ i t d. sym (ends .taken .elsewhere i t d)) in
         let left = ends .rest in
-        let w = kept-within in
-        ⊎-elim (λ z. let after = sum-cong b′ b₁ n (gave-nobody z) in let k = ends .root z in omega arith)
-        (λ d.
-        let after = sum-change b₁ b′ n (par j) kept (parent-task n par rank tree j task d) (gave-parent d) gave-nothing in
-        omega arith)
-        (same-or-not (par j) 0)
+        let w = out-within in
+        let after =
+        sum-change b₁ b′ n (par j) (out j) (parent-task n par rank tree j task higher) gave-parent gave-nothing
+        in
+        omega arith
 
     -- the out of j has arrived at its parent, and is no longer to come
     out-arrived : (i : ℕ) → arrived n par out st′ i ≡ arrived n par out st i + only (eqb (par j) i) (out j)
@@ -146,9 +128,9 @@ module _ (n : ℕ) (par rank : ℕ → ℕ) (tree : Tree n par rank) (st st′ :
         (λ (h : up n par i (par j) ≡ true).
         let left = ends .rest in
         let had = only-true (up n par i j) (b j) (on ∙ h) in
-        let has = only-true (up n par i (par j)) kept h in
+        let has = only-true (up n par i (par j)) (out j) h in
         let owes = only-true (up n par i (par j)) r h in
-        let w = kept-within in
+        let w = out-within in
         omega arith)
         (λ (h : up n par i (par j) ≡ false). let had = only-false (up n par i j) (b j) (on ∙ h) in omega arith)
         (decide (up n par i (par j)))

@@ -13,9 +13,9 @@ use Rattle.rules.specs.Limits.{maxTasks, maxProcessors, maxCount, maxBou
 use Rattle.rules.specs.Lists.{at, mem, every, distinct}
 use Rattle.rules.specs.Phase
 use Rattle.rules.specs.State.{State, none}
-use Rattle.rules.specs.Command.{Command, plan, task, activation, execution, begin, done}
+use Rattle.rules.specs.Command.{Command, plan, task, activation, execution, begin, done, fetch}
 use Rattle.rules.specs.Grounds.{inTurn, inLimits, within, demand, ownGround, ground}
-use Rattle.rules.specs.Obey.{opened, withTask, withOrders, completed, withBooks, proceed, phaseAfter, obey}
+use Rattle.rules.specs.Obey.{opened, withTask, withOrders, completed, withBooks, proceed, phaseAfter, unloaded, obey}
 use Rattle.rules.proofs.Tests.{and-true, same-or-not}
 use Rattle.rules.proofs.Orders.{within-task, every-snoc, distinct-snoc}
 use Rattle.rules.proofs.Completing.{either-order, begin-turn}
@@ -140,7 +140,7 @@ pub after-report : (s : State) (j : ℕ) → Phase.running ≤ phaseAfter s j
 unfolding phaseAfter
 after-report s j = go (eqb (at (s .parents) j) 0)
   where
-    go : (t : Bool) → Phase.running ≤ cond t Phase.over Phase.running
+    go : (t : Bool) → Phase.running ≤ cond t Phase.ready Phase.running
     go true = omega arith
     go false = omega arith
 
@@ -231,7 +231,7 @@ completed-formed s h =
 
 -- an accepted command keeps it
 pub obey-formed : (s : State) (c : Command) → Accepted s c → Formed s → Formed (obey s c .state)
-unfolding obey opened withTask withOrders completed inTurn inLimits ownGround every distinct proceed
+unfolding obey opened withTask withOrders completed unloaded inTurn inLimits ownGround every distinct proceed
 obey-formed s (plan n p bound) a h =
     let limits = and-true (within n maxTasks && within p maxProcessors) (leb bound maxBound) (a .limits) in
     let both = and-true (within n maxTasks) (within p maxProcessors) (limits .0) in
@@ -289,3 +289,6 @@ obey-formed s begin a h =
 obey-formed s (done j) a h =
     let now = eqb-true (s .phase) Phase.running (a .turn) in
     with-books-formed s _ _ _ (h .staffed (λ e. omega arith)) (omega arith) (let after = after-report s j in omega arith) h
+obey-formed s fetch a h =
+    let now = eqb-true (s .phase) Phase.ready (a .turn) in
+    with-books-formed s _ _ _ (h .staffed (λ e. omega arith)) (omega arith) (omega arith) h

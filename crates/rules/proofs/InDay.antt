@@ -1,11 +1,12 @@
--- A plan in its day: what holds after an accepted BEGIN and after each accepted DONE.
+-- A plan in its day: what holds after an accepted BEGIN, after each accepted DONE and after the FETCH.
 use mathlib.Core.Path.{_≡_, refl, sym, _∙_}
+use mathlib.Core.Bool.{Bool, true, false, cond}
 use mathlib.Core.List.{List, _++_, map}
-use Prim.Native.Nat.{ℕ, suc, _≤_}
+use Prim.Native.Nat.{ℕ, suc, _≤_, _<_}
 use native.Mathlib.Omega.{arith}
 use lib.Dec.{eqb, leb}
 use lib.ListN.{length, replicate, length-replicate, getD-replicate}
-use borrow.Author.Tests.{eqb-true, ne-eqb, leb-true}
+use borrow.Author.Tests.{eqb-true, eq-eqb, ne-eqb, leb-true}
 use Rattle.rules.specs.Sums.{only, sumTo}
 use Rattle.rules.specs.Lists.{at}
 use Rattle.rules.specs.Need.{need}
@@ -17,15 +18,16 @@ use Rattle.rules.specs.Command.{begin}
 use Rattle.rules.specs.Grounds.{demand, peakOf, ownGround}
 use Rattle.rules.specs.Booking.{Books, total}
 use Rattle.rules.specs.Obey.{withOrders, completed, withBooks, booksOf, ahead, begun, proceed, fresh}
-use Rattle.rules.specs.Day.{Event, started}
+use Rattle.rules.specs.Day.{Event, started, isFetched}
 use Rattle.rules.specs.Theorem.{OrdersHold}
 use Rattle.rules.specs.Invariant.{Valid, rankIn, Tree, Roomy, arrived, Stocked, Good}
 use Rattle.rules.proofs.Sums.{Task, sum-zero, count-none, only-false}
 use Rattle.rules.proofs.Orders.{each-once}
 use Rattle.rules.proofs.Ranks.{tree-of}
 use Rattle.rules.proofs.Children.{children-zero}
-use Rattle.rules.proofs.Course.{Settled, Coursed, coursed}
-use Rattle.rules.proofs.Log.{Logged, InOrder}
+use Rattle.rules.proofs.Trolley.{remains}
+use Rattle.rules.proofs.Settling.{Settled, Coursed, coursed}
+use Rattle.rules.proofs.Log.{Logged, InOrder, starts-unfetched}
 use Rattle.rules.proofs.Completing.{begin-turn}
 use Rattle.rules.proofs.Formed.{Formed, Accepted, demand-none, with-books-formed, completed-formed}
 
@@ -39,27 +41,58 @@ pub record Planned (s : State) : Type 0 where
   pub staffed : 1 ≤ s .processors
   pub fits : peakOf s ≤ s .chilled .bound
 
--- the root has not ended, or all have
-pub data Closing (s : State) : Type 0 where
-  open-day :
-      s .phase ≡ Phase.running
-      → ((r : ℕ) → Task (s .size) r → at (s .parents) r ≡ 0 → at (s .standings) r ≡ finished → ⊥)
-      → Closing s
-  closed : s .phase ≡ Phase.over → ((i : ℕ) → Task (s .size) i → at (s .standings) i ≡ finished) → Closing s
-
--- the phase is then one of the day
-in-its-day : {s : State} → Closing s → Phase.orders ≤ s .phase
-in-its-day (open-day e _) = omega arith
-in-its-day (closed e _) = omega arith
-
-pub record InDay (s : State) (happened : List Event) : Type 0 where
-  pub planned : Planned s
+-- the root has not ended
+pub record Going (s : State) : Type 0 where
+  pub phased : s .phase ≡ Phase.running
   pub settled :
       Settled (s .size) (at (s .parents)) (rankIn (s .activation)) (needs s) (at (s .chilled .outs)) (s .chilled .bound)
       (s .processors) (booksOf s)
+  pub unended : (r : ℕ) → Task (s .size) r → at (s .parents) r ≡ 0 → at (s .standings) r ≡ finished → ⊥
+
+-- what remains booked in a store once the root has ended
+pub record Remaining (s : State) (store : Store) (fetched : Bool) : Type 0 where
+  pub booked :
+      (i : ℕ) → Task (s .size) i → at (store .booked) i ≡ remains (at (s .parents)) (at (store .outs)) fetched i
+  pub within : total (s .size) (at (store .booked)) ≤ store .bound
+
+-- all have ended
+pub record Closed (s : State) (fetched : Bool) : Type 0 where
+  pub phased : s .phase ≡ cond fetched Phase.over Phase.ready
+  pub all : (i : ℕ) → Task (s .size) i → at (s .standings) i ≡ finished
+  pub stock : Remaining s (s .chilled) fetched
+
+-- how far a day has come
+pub data Course (s : State) : Type 0 where
+  goes : Going s → Course s
+  closed : (fetched : Bool) → Closed s fetched → Course s
+
+pub record InDay (s : State) (happened : List Event) : Type 0 where
+  pub planned : Planned s
+  pub course : Course s
   pub logged : Logged (s .size) (at (s .standings)) happened
   pub order : InOrder (s .size) (at (s .parents)) happened
-  pub closing : Closing s
+  pub fetch : isFetched happened ≡ eqb (s .phase) Phase.over
+
+-- a plan whose tasks have all ended is past running
+pub past-running : {s : State} (gone : Bool) → Closed s gone → Phase.running < s .phase
+past-running true c = let p = c .phased in omega arith
+past-running false c = let p = c .phased in omega arith
+
+-- in the running phase the root has not ended
+pub still-going : (s : State) → Course s → s .phase ≡ Phase.running → Going s
+still-going s (goes g) runs = g
+still-going s (closed gone c) runs = let late = past-running gone c in absurd (omega arith)
+
+-- past it all have
+pub all-ended :
+    (s : State) → Course s → Phase.running < s .phase → (i : ℕ) → Task (s .size) i → at (s .standings) i ≡ finished
+all-ended s (goes g) late = let p = g .phased in absurd (omega arith)
+all-ended s (closed gone c) late = c .all
+
+-- there are four standings, in each phase of a day
+pub four-standings : (s : State) → Course s → (i : ℕ) → Task (s .size) i → at (s .standings) i ≤ finished
+four-standings s (goes g) i t = g .settled .good .shape .four i t
+four-standings s (closed gone c) i t = let e = c .all i t in omega arith
 
 -- the needs in a store leave room for the children's outs and the own out
 pub needs-roomy : (s : State) (store : Store) → Roomy (s .size) (at (s .parents)) (needsIn s store) (at (store .outs))
@@ -184,31 +217,41 @@ books-planned s phase st b later p =
     }
 
 -- booking ahead and starting, from books in which what holds of the day is kept
-module _ (s : State) (p : Planned s) (phase : ℕ) (k : Books) (peak offers : ℕ)
+module _ (s : State) (p : Planned s) (k : Books) (peak offers : ℕ)
     (good : Good (s .size) (at (s .parents)) (rankIn (s .activation)) (needs s) (at (s .chilled .outs)) (s .chilled .bound) k)
     (few : count (s .size) (at (k .standings)) running ≤ s .processors) where
-  pub proceeds :
+  proceeds :
       Coursed (s .size) (at (s .parents)) (rankIn (s .activation)) (needs s) (at (s .chilled .outs)) (s .chilled .bound)
-      (s .processors) k (booksOf (proceed s phase k peak offers .state)) (proceed s phase k peak offers .started)
+      (s .processors) k (booksOf (proceed s Phase.running k peak offers .state)) (proceed s Phase.running k peak offers .started)
   unfolding proceed withBooks ahead begun
   proceeds =
       coursed (s .size) (at (s .parents)) (s .activation) (p .valid) (tree s p) (needs s) (at (s .chilled .outs)) (needs-roomy s (s .chilled))
       (s .chilled .bound) (s .processors) (s .execution) (p .formed .execution-inside) (p .formed .execution-once) (p .executed) k
       (ahead s k) good few refl (begun s (ahead s k)) refl
 
+  -- the root has not ended then
   pub proceed-in-day :
       (happened : List Event)
       → Logged (s .size) (at (k .standings)) happened
       → InOrder (s .size) (at (s .parents)) happened
-      → Closing (proceed s phase k peak offers .state)
-      → InDay (proceed s phase k peak offers .state) (happened ++ map started (proceed s phase k peak offers .started))
+      → isFetched happened ≡ false
+      → ((r : ℕ) → Task (s .size) r → at (s .parents) r ≡ 0 → at (k .standings) r ≡ finished → ⊥)
+      → InDay (proceed s Phase.running k peak offers .state) (happened ++ map started (proceed s Phase.running k peak offers .started))
   unfolding proceed withBooks
-  proceed-in-day happened logged order closing =
+  proceed-in-day happened logged order fetch unended =
       let log = proceeds .logged happened logged order in
       record {
-        planned = books-planned s phase _ _ (in-its-day closing) p;
-        settled = proceeds .settled;
+        planned = books-planned s Phase.running _ _ (omega arith) p;
+        course =
+            goes
+            (record {
+              phased = refl;
+              settled = proceeds .settled;
+              unended =
+                  λ r t z e. unended r t z (eqb-true _ finished (sym (proceeds .ends r t) ∙ eq-eqb _ finished e));
+            });
         logged = log .0;
         order = log .1;
-        closing = closing;
+        fetch =
+            starts-unfetched (begun s (ahead s k)) happened ∙ fetch;
       }

@@ -1,6 +1,6 @@
 -- The commands of a plan that is written: they lead from a plan that may be dropped to one that has been given all of it.
 use mathlib.Core.Path.{_≡_, refl, sym, ap, subst, _∙_}
-use mathlib.Core.Bool.{true, not, cond, _&&_}
+use mathlib.Core.Bool.{true, false, not, cond, _&&_}
 use mathlib.Core.Logic.{⊎-elim}
 use mathlib.Core.List.{List, [], _∷_, _++_, map}
 use Prim.Native.Nat.{ℕ, zero, suc, _+_, _≤_, _<_}
@@ -132,7 +132,7 @@ module _ (m : Instance) (g : Proper m) where
   -- all of them, from any plan that PLAN may drop
   opening-leads :
       (s : State)
-      → (s .phase ≡ Phase.running → ⊥)
+      → Phase.holdsTrays (s .phase) ≡ false
       → Leads s (openingOf m ∷ []) (partial m 0)
   unfolding inTurn inLimits ownGround obey widthsOf find forms byteOf operandsOf
   opening-leads s idle =
@@ -140,12 +140,12 @@ module _ (m : Instance) (g : Proper m) where
       let staffed = g .staffed .high in
       let bounded = g .bounded in
       obeyed-first (openingOf m) (omega arith, (omega arith, (omega arith, tt)))
-      (ground-own s (openingOf m) (rw (ne-eqb (s .phase) Phase.running idle))
+      (ground-own s (openingOf m) (rw idle)
       (rw (task-within maxTasks (m .size) (g .tasks), task-within maxProcessors (m .processors) (g .staffed))
       (le-leb (m .bound) maxBound (g .bounded))))
       (rw opens (stays (partial m 0)))
 
-  pub commands-lead : (s : State) → (s .phase ≡ Phase.running → ⊥) → Leads s (commands m) (unbegun m)
+  pub commands-lead : (s : State) → Phase.holdsTrays (s .phase) ≡ false → Leads s (commands m) (unbegun m)
   unfolding commands
   commands-lead s idle =
       opening-leads s idle

@@ -16,6 +16,7 @@ use Rattle.rules.specs.Text.{
   figures,
   beginLine,
   doneLine,
+  fetchLine,
   refusedLine,
 }
 
@@ -87,3 +88,7 @@ pub refusedLine-short : (k offset : ℕ) → Wide 8 k → Wide 64 offset → len
 unfolding refusedLine ascii
 refusedLine-short k offset h h′ =
     simp length-append (omega (arith, decimal-short 2 k (omega arith), decimal-short 19 offset (omega arith)))
+
+pub fetchLine-short : (total : ℕ) → Wide 32 total → length (fetchLine total) ≤ longestLine
+unfolding fetchLine ascii
+fetchLine-short total h = simp length-append (omega (arith, decimal-short 9 total (omega arith)))

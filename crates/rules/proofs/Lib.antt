@@ -28,6 +28,7 @@ pub mod Finishing
 pub mod Usage
 pub mod Progress
 pub mod Roots
+pub mod Trolley
 -- the parts of a command, over lists
 pub mod Entries
 pub mod Ahead
@@ -39,10 +40,12 @@ pub mod Judging
 pub mod Log
 pub mod Completing
 pub mod Formed
-pub mod Course
+pub mod Settling
 pub mod InDay
 pub mod Opening
+pub mod Closing
 pub mod Reporting
+pub mod Fetching
 pub mod Questions
 pub mod Holds
 pub mod Staying

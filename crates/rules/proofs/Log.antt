@@ -1,4 +1,4 @@
--- Laws of what happens in a day: starts and ends in order, and how they agree with the standings.
+-- Laws of what happens in a day: starts, ends and the fetch in order, and how they agree with the standings.
 use mathlib.Core.Path.{_≡_, refl, sym, ap, ap₂, subst, _∙_}
 use mathlib.Core.Bool.{Bool, true, false, not, _&&_, _||_}
 use mathlib.Core.Logic.{_⊎_, ⊎-elim}
@@ -8,15 +8,17 @@ use native.Mathlib.Omega.{arith}
 use lib.Dec.{eqb, leb}
 use lib.ListN.{length, set, length-set}
 use borrow.Author.Tests.{eq-eqb, ne-eqb, lt-leb}
+use Rattle.rules.specs.Sums.{countTo}
 use Rattle.rules.specs.Lists.{at, mem, every, distinct}
 use Rattle.rules.specs.Grounds.{within}
-use Rattle.rules.specs.Standing.{activated, running, finished}
+use Rattle.rules.specs.Standing.{activated, running, finished, count}
 use Rattle.rules.specs.Booking.{start}
-use Rattle.rules.specs.Day.{Event, started, ended, starts, ends}
+use Rattle.rules.specs.Day.{Event, started, ended, fetched, starts, ends, isFetched}
 use Rattle.rules.specs.Theorem.{runs}
 use Rattle.rules.proofs.Tests.{same-or-not, or-right, or-none, eqb-above}
-use Rattle.rules.proofs.Sums.{Task}
-use Rattle.rules.proofs.Orders.{mem-append, mem-here, mem-later, mem-none, every-snoc, distinct-snoc, task-within}
+use Rattle.rules.proofs.Sums.{Task, count-all}
+use Rattle.rules.proofs.Counts.{count-cong}
+use Rattle.rules.proofs.Orders.{mem-append, mem-here, mem-later, mem-none, every-snoc, distinct-snoc, task-within, sum-members, sum-length}
 use Rattle.rules.proofs.Entries.{at-set, at-other}
 use Rattle.rules.proofs.Starts.{Startable}
 
@@ -26,12 +28,32 @@ unfolding starts
 starts-append [] m = refl
 starts-append (started i ∷ l) m = ap (λ (k : List ℕ). i ∷ k) (starts-append l m)
 starts-append (ended i ∷ l) m = starts-append l m
+starts-append (fetched ∷ l) m = starts-append l m
 
 pub ends-append : (l m : List Event) → ends (l ++ m) ≡ ends l ++ ends m
 unfolding ends
 ends-append [] m = refl
 ends-append (started i ∷ l) m = ends-append l m
 ends-append (ended i ∷ l) m = ap (λ (k : List ℕ). i ∷ k) (ends-append l m)
+ends-append (fetched ∷ l) m = ends-append l m
+
+-- the fetch, in what happens one after the other
+pub fetched-append : (l m : List Event) → isFetched (l ++ m) ≡ (isFetched l || isFetched m)
+unfolding isFetched
+fetched-append [] m = refl
+fetched-append (started i ∷ l) m = fetched-append l m
+fetched-append (ended i ∷ l) m = fetched-append l m
+fetched-append (fetched ∷ l) m = refl
+
+-- starts are no fetch
+pub starts-unfetched : (l : List ℕ) (happened : List Event) → isFetched (happened ++ map started l) ≡ isFetched happened
+unfolding isFetched
+starts-unfetched l happened =
+    fetched-append happened (map started l) ∙ ap (λ (t : Bool). isFetched happened || t) (none l) ∙ or-none (isFetched happened)
+  where
+    none : (l : List ℕ) → isFetched (map started l) ≡ false
+    none [] = refl
+    none (i ∷ l) = none l
 
 -- where an event of a longer list stands: in the list before, or it is the new one
 pub data Where (old : List Event) (new : Event) (earlier : List Event) (x : Event) : Type 0 where
@@ -58,7 +80,8 @@ snoc-where (o ∷ old) new (y ∷ earlier) x later e =
     go h (last p q) = last (let r : y ∷ earlier ≡ o ∷ old = cc in r) q
     go h (before l p) = before l (let r : o ∷ old ≡ y ∷ (earlier ++ x ∷ l) = cc in r)
 
--- each start is the first of its task, and comes after the ends of all that feed it; and who ends was running
+-- each start is the first of its task, and comes after the ends of all that feed it; who ends was running; and the fetch is the first,
+-- after n ends
 pub record InOrder (n : ℕ) (par : ℕ → ℕ) (happened : List Event) : Type 0 where
   pub once :
       (earlier later : List Event) (i : ℕ) → happened ≡ earlier ++ started i ∷ later → mem i (starts earlier) ≡ false
@@ -71,6 +94,10 @@ pub record InOrder (n : ℕ) (par : ℕ → ℕ) (happened : List Event) : Type 
       → mem c (ends earlier) ≡ true
   pub ran :
       (earlier later : List Event) (i : ℕ) → happened ≡ earlier ++ ended i ∷ later → runs earlier i ≡ true
+  pub fetch :
+      (earlier later : List Event)
+      → happened ≡ earlier ++ fetched ∷ later
+      → (isFetched earlier ≡ false) × (length (ends earlier) ≡ n)
 
 module _ (n : ℕ) (par : ℕ → ℕ) where
   pub nothing-in-order : InOrder n par []
@@ -79,6 +106,7 @@ module _ (n : ℕ) (par : ℕ → ℕ) where
         once = λ e l i q. absurd (never e l (started i) q);
         fed = λ e l i q. absurd (never e l (started i) q);
         ran = λ e l i q. absurd (never e l (ended i) q);
+        fetch = λ e l q. absurd (never e l fetched q);
       }
     where
       never : (earlier later : List Event) (x : Event) → [] ≡ earlier ++ x ∷ later → ⊥
@@ -86,19 +114,21 @@ module _ (n : ℕ) (par : ℕ → ℕ) where
       never (w ∷ l) later x q = let z : _≡_ {A = ℕ} 0 1 = cc in omega arith
 
   -- one event more: where it is a start, it is the first of its task and comes after those that feed it; where it is an end, its
-  -- task was running
+  -- task was running; where it is a fetch, there was none, and all have ended
   one-more :
       (old : List Event) (new : Event)
       → InOrder n par old
       → ((i : ℕ) → started i ≡ new → mem i (starts old) ≡ false)
       → ((i : ℕ) → started i ≡ new → (c : ℕ) → Task n c → par c ≡ i → mem c (ends old) ≡ true)
       → ((i : ℕ) → ended i ≡ new → runs old i ≡ true)
+      → (fetched ≡ new → (isFetched old ≡ false) × (length (ends old) ≡ n))
       → InOrder n par (old ++ (new ∷ []))
-  one-more old new h first fed ran =
+  one-more old new h first fed ran fetch =
       record {
         once = λ e l i q. once-there e i (snoc-where old new e (started i) l q);
         fed = λ e l i q. fed-there e i (snoc-where old new e (started i) l q);
         ran = λ e l i q. ran-there e i (snoc-where old new e (ended i) l q);
+        fetch = λ e l q. fetch-there e (snoc-where old new e fetched l q);
       }
     where
       once-there : (e : List Event) (i : ℕ) → Where old new e (started i) → mem i (starts e) ≡ false
@@ -119,15 +149,40 @@ module _ (n : ℕ) (par : ℕ → ℕ) where
       ran-there e i (last p q) = ap (λ (v : List Event). runs v i) p ∙ ran i q
       ran-there e i (before l p) = h .ran e l i p
 
+      fetch-there :
+          (e : List Event) → Where old new e fetched → (isFetched e ≡ false) × (length (ends e) ≡ n)
+      fetch-there e (last p q) = rw p (fetch q)
+      fetch-there e (before l p) = h .fetch e l p
+
   -- the end of a running task
   pub ended-in-order :
       (old : List Event) (j : ℕ) → InOrder n par old → runs old j ≡ true → InOrder n par (old ++ (ended j ∷ []))
   ended-in-order old j h running =
       one-more old (ended j) h (λ i q. absurd (never i q)) (λ i q. absurd (never i q))
-      (λ i q. let same : i ≡ j = cc in rw same running)
+      (λ i q. let same : i ≡ j = cc in rw same running) (λ q. absurd (no-fetch q))
     where
       never : (i : ℕ) → started i ≡ ended j → ⊥
       never i q = let z : _≡_ {A = ℕ} 0 1 = cc in omega arith
+
+      no-fetch : fetched ≡ ended j → ⊥
+      no-fetch q = let z : _≡_ {A = ℕ} 0 1 = cc in omega arith
+
+  -- the fetch, where all have ended
+  pub fetched-in-order :
+      (old : List Event)
+      → InOrder n par old
+      → isFetched old ≡ false
+      → length (ends old) ≡ n
+      → InOrder n par (old ++ (fetched ∷ []))
+  fetched-in-order old h none all =
+      one-more old fetched h (λ i q. absurd (no-start i q)) (λ i q. absurd (no-start i q)) (λ i q. absurd (no-end i q))
+      (λ _. (none, all))
+    where
+      no-start : (i : ℕ) → started i ≡ fetched → ⊥
+      no-start i q = let z : _≡_ {A = ℕ} 0 1 = cc in omega arith
+
+      no-end : (i : ℕ) → ended i ≡ fetched → ⊥
+      no-end i q = let z : _≡_ {A = ℕ} 0 1 = cc in omega arith
 
   -- a start comes once, and after those that feed it
   started-in-order :
@@ -138,10 +193,13 @@ module _ (n : ℕ) (par : ℕ → ℕ) where
       → InOrder n par (old ++ (started x ∷ []))
   started-in-order old x h new ready =
       one-more old (started x) h (λ i q. let same : i ≡ x = cc in rw same new)
-      (λ i q c t r. let same : i ≡ x = cc in ready c t (r ∙ same)) (λ i q. absurd (never i q))
+      (λ i q c t r. let same : i ≡ x = cc in ready c t (r ∙ same)) (λ i q. absurd (never i q)) (λ q. absurd (no-fetch q))
     where
       never : (i : ℕ) → ended i ≡ started x → ⊥
       never i q = let z : _≡_ {A = ℕ} 0 1 = cc in omega arith
+
+      no-fetch : fetched ≡ started x → ⊥
+      no-fetch q = let z : _≡_ {A = ℕ} 0 1 = cc in omega arith
 
 -- what happened agrees with the standings
 pub record Logged (n : ℕ) (st : ℕ → ℕ) (happened : List Event) : Type 0 where
@@ -174,6 +232,24 @@ unfolding runs
 logged-runs n st happened h i t four =
     ap₂ (λ (a b : Bool). a && not b) (h .begun i t) (h .done i t) ∙ between (st i) four
 
+-- the reports are those that have ended, and n where all have
+pub reports :
+    (n : ℕ) (st : ℕ → ℕ) (happened : List Event) → Logged n st happened → length (ends happened) ≡ count n st finished
+unfolding count countTo
+reports n st happened h =
+    sym (sum-length (ends happened))
+    ∙ sum-members (λ _. 1) n (ends happened) (h .inside) (h .apart)
+    ∙ count-cong (λ i. mem i (ends happened)) (λ i. eqb (st i) finished) n (h .done)
+
+pub all-reported :
+    (n : ℕ) (st : ℕ → ℕ) (happened : List Event)
+    → Logged n st happened
+    → ((i : ℕ) → Task n i → st i ≡ finished)
+    → length (ends happened) ≡ n
+unfolding count
+all-reported n st happened h all =
+    reports n st happened h ∙ count-all (λ i. eqb (st i) finished) n (λ i t. eq-eqb (st i) finished (all i t))
+
 -- at first nobody has begun
 pub nothing-logged : (n : ℕ) (st : ℕ → ℕ) → ((i : ℕ) → Task n i → st i ≤ activated) → Logged n st []
 unfolding mem starts ends every distinct
@@ -184,6 +260,25 @@ nothing-logged n st idle =
       begun-inside = refl;
       inside = refl;
       apart = refl;
+    }
+
+-- a fetch starts and ends nobody
+pub fetched-logged :
+    (n : ℕ) (st : ℕ → ℕ) (happened : List Event) → Logged n st happened → Logged n st (happened ++ (fetched ∷ []))
+unfolding starts ends
+fetched-logged n st happened h =
+    let s-is : starts (happened ++ (fetched ∷ [])) ≡ starts happened =
+    starts-append happened (fetched ∷ []) ∙ append-nil (starts happened)
+    in
+    let e-is : ends (happened ++ (fetched ∷ [])) ≡ ends happened =
+    ends-append happened (fetched ∷ []) ∙ append-nil (ends happened)
+    in
+    record {
+      begun = λ i t. ap (mem i) s-is ∙ h .begun i t;
+      done = λ i t. ap (mem i) e-is ∙ h .done i t;
+      begun-inside = ap (every (λ i. within i n)) s-is ∙ h .begun-inside;
+      inside = ap (every (λ i. within i n)) e-is ∙ h .inside;
+      apart = ap distinct e-is ∙ h .apart;
     }
 
 -- standings that differ only in who waits and who is booked

@@ -1,10 +1,12 @@
--- The † table, the table of the grounds and that of other sentences hold, and plan A prints its four lines: all by computation.
+-- The † table, the table of the grounds and that of other sentences hold, and plan A prints its five lines: all by computation.
 use mathlib.Core.Path.{_≡_, refl}
 use mathlib.Core.Bool.{true}
 use mathlib.Core.List.{[], _∷_, _++_}
 use lib.ListN.{take, drop}
 use Rattle.rules.specs.Lists.{every, distinct}
+use Rattle.rules.specs.Standing.{counts}
 use Rattle.rules.specs.Command.{begin}
+use Rattle.rules.specs.Question.{standing}
 use Rattle.rules.specs.Desk.{deskGround, deskAnswer, column, desk}
 use Rattle.rules.specs.Text.{ascii}
 use Rattle.rules.specs.Printer.{print}
@@ -17,6 +19,8 @@ use Rattle.rules.specs.Marked.{
   inOrders,
   tasksA,
   planA,
+  readyA,
+  overA,
   oneOrderA,
   reading,
   short,
@@ -30,6 +34,7 @@ use Rattle.rules.specs.Marked.{
   recordsA,
   rootsOnly,
   surveyed,
+  inRoom,
   sentences,
   same,
   holds,
@@ -44,7 +49,7 @@ marked-holds = refl
 
 -- each small input of the grounds is refused with its number
 pub grounds-hold : holds grounds ≡ true
-unfolding computing ask asks inOrder inOrders tasksA planA reading short told refusal grounds same holds
+unfolding computing ask asks inOrder inOrders tasksA planA readyA reading short told refusal grounds same holds
 grounds-hold = refl
 
 -- each of the other sentences holds in its case
@@ -64,15 +69,21 @@ unfolding
     inOrder
     tasksA
     planA
+    readyA
+    overA
     oneOrderA
     single
     dayA
+    reading
     short
     told
     refusal
     recordsA
     rootsOnly
     surveyed
+    counts
+    standing
+    inRoom
     sentences
     same
     holds
@@ -90,7 +101,8 @@ pub day-A :
     ≡ ascii "begin peak=7 booked=6 used=6 full=857 start 1\n"
     ++ ascii "done 1 offers=0 booked=7 used=7 full=1000 start 2\n"
     ++ ascii "done 2 offers=1 booked=3 used=3 full=428 start 3\n"
-    ++ ascii "done 3 offers=0 booked=0 used=0 full=0 start -\n"
+    ++ ascii "done 3 offers=0 booked=1 used=1 full=142 start -\n"
+    ++ ascii "fetch booked=0\n"
 unfolding computing dayA
 day-A = refl
 

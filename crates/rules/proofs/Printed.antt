@@ -19,6 +19,7 @@ use Rattle.rules.specs.Command.{
   execution,
   begin,
   done,
+  fetch,
   Decoded,
   refused,
   read,
@@ -108,6 +109,7 @@ line-alike (activation i) h = refl
 line-alike (execution i) h = refl
 line-alike begin h = rw (h .started, h .answer, h .state)
 line-alike (done j) h = rw (h .started, h .answer, h .state)
+line-alike fetch h = rw (h .state)
 
 acceptedLine-alike : (d : Decoded) {a a′ : Answered} → Alike a a′ → acceptedLine d a ≡ acceptedLine d a′
 unfolding acceptedLine

@@ -7,7 +7,7 @@ use native.Mathlib.Omega.{arith}
 use lib.Dec.{eqb}
 use borrow.Author.Tests.{ne-eqb, lt-leb}
 use Rattle.rules.specs.Sums.{Task, only}
-use Rattle.rules.specs.Need.{need, inUse}
+use Rattle.rules.specs.Need.{need, inProcess}
 use Rattle.rules.specs.Standing.{running, finished}
 use Rattle.rules.proofs.Tests.{same-or-not}
 use Rattle.rules.proofs.Sums.{sum-cong}
@@ -28,14 +28,14 @@ named st i four =
     (same-or-not (st i) finished))
     (same-or-not (st i) running)
 
--- so as much is in use either way
-pub in-use-named :
+-- so as much is in process either way
+pub in-process-named :
     (n : ℕ) (par work out st : ℕ → ℕ)
     → ((i : ℕ) → Task n i → st i ≤ finished)
     → ((i : ℕ) → Task n i → par i ≤ n)
-    → inUse n par work out (hasEnded st) (runsOrEnded st) ≡ inUse n par work out (hasEnded st) (hasBegun st)
-unfolding inUse
-in-use-named n par work out st four within =
+    → inProcess n par work out (hasEnded st) (runsOrEnded st) ≡ inProcess n par work out (hasEnded st) (hasBegun st)
+unfolding inProcess
+in-process-named n par work out st four within =
     ap₂ (λ (a b : ℕ). a + b)
     (sum-cong (λ i. only (runsOrEnded st i && not (hasEnded st i)) (need n par work out i))
     (λ i. only (hasBegun st i && not (hasEnded st i)) (need n par work out i)) n

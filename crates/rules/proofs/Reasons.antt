@@ -18,7 +18,7 @@ use Rattle.rules.proofs.Tests.{decide, clash, same-or-not, le-or-lt}
 use Rattle.rules.proofs.Sums.{Task}
 use Rattle.rules.proofs.Orders.{within-task, task-within}
 use Rattle.rules.proofs.Ahead.{first-waiting-one}
-use Rattle.rules.proofs.InDay.{InDay}
+use Rattle.rules.proofs.InDay.{InDay, Going, still-going, four-standings}
 use Rattle.rules.proofs.Reaching.{lives}
 use Rattle.rules.proofs.Why.{why-outside, why-nobody, why-ended, why-running, why-waiting, why-unfed, why-no-processor, lack-exact, first-found, child-found, no-child, all-taken}
 
@@ -51,6 +51,9 @@ module _ (s : State) (i : ℕ) where
 -- a task of a plan that runs
 module _ (s : State) {happened : List Event} (day : InDay s happened) (runs : s .phase ≡ Phase.running) (i : ℕ)
     (task : Task (s .size) i) where
+  going : Going s
+  going = still-going s (day .course) runs
+
   not-refused : (k : ℕ) → Says s i (refused k) → ⊥
   not-refused k (inl e) = e .1 runs
   not-refused k (inr e) = e .1 task
@@ -93,9 +96,9 @@ module _ (s : State) {happened : List Event} (day : InDay s happened) (runs : s 
   told-waiting :
       at (s .standings) i ≡ Standing.waiting → ReasonHolds s i (notBooked (firstWaiting s) (lackIn s (s .chilled) (firstWaiting s)))
   told-waiting e =
-      let fw = first-found s day i task e in
+      let fw = first-found s (day .planned) going i task e in
       let says : NotBooked s i (firstWaiting s) (lackIn s (s .chilled) (firstWaiting s)) =
-      record { asked = e; first = fw; exact = lack-exact s day (firstWaiting s) fw }
+      record { asked = e; first = fw; exact = lack-exact s (day .planned) going (firstWaiting s) fw }
       in
       record { says = says; first = only says }
     where
@@ -112,7 +115,7 @@ module _ (s : State) {happened : List Event} (day : InDay s happened) (runs : s 
       at (s .standings) i ≡ Standing.activated
       → fed (s .size) (at (s .parents)) (at (s .standings)) i ≡ false
       → ReasonHolds s i (unfed (unendedChild s i))
-  told-unfed e f = record { says = child-found s day i f; first = only (child-found s day i f) }
+  told-unfed e f = record { says = child-found s (day .planned) going i f; first = only (child-found s (day .planned) going i f) }
     where
       only : {c : ℕ} → Unfed s i c → (other : Reason) → precedence other ≤ precedence (unfed c) → Says s i other → other ≡ unfed c
       only told (refused k) h x = absurd (not-refused k x)
@@ -130,20 +133,20 @@ module _ (s : State) {happened : List Event} (day : InDay s happened) (runs : s 
       at (s .standings) i ≡ Standing.activated
       → fed (s .size) (at (s .parents)) (at (s .standings)) i ≡ true
       → ReasonHolds s i noProcessor
-  told-no-processor e f = record { says = all-taken s day i task e f; first = only }
+  told-no-processor e f = record { says = all-taken s (day .planned) going i task e f; first = only }
     where
       only : (other : Reason) → precedence other ≤ precedence noProcessor → Says s i other → other ≡ noProcessor
       only (refused k) h x = absurd (not-refused k x)
       only ended h x = absurd (omega arith)
       only running h x = absurd (omega arith)
       only (notBooked y lack) h x = absurd (let w = x .asked in omega arith)
-      only (unfed c) h x = absurd (no-child s day i c f x)
+      only (unfed c) h x = absurd (no-child s (day .planned) going i c f x)
       only noProcessor h x = refl
 
   -- one of them is told
   told : ReasonHolds s i (why s i)
   told =
-      let four = day .settled .good .shape .four i task in
+      let four = four-standings s (day .course) i task in
       ⊎-elim (λ e. rw (why-ended s i runs task e) (told-ended e))
       (λ not-ended.
       ⊎-elim (λ e. rw (why-running s i runs task e) (told-running e))

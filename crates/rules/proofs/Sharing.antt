@@ -1,4 +1,4 @@
--- Sharing out what an ended task held keeps what holds of the day.
+-- Sharing out what an ended task with a parent held keeps what holds of the day.
 use mathlib.Core.Path.{_≡_, refl, sym, ap, subst, _∙_}
 use mathlib.Core.Bool.{true, false, _||_}
 use mathlib.Core.Logic.{⊎-elim}
@@ -7,19 +7,19 @@ use Prim.Native.Nat.{ℕ, suc, _+_, _-_, _≤_}
 use native.Mathlib.Omega.{arith}
 use lib.Dec.{eqb}
 use lib.ListN.{length, set, length-set}
-use borrow.Author.Tests.{eqb-true, eqb-false, eq-eqb, ne-eqb}
+use borrow.Author.Tests.{eqb-true, eqb-false, ne-eqb}
 use Rattle.rules.specs.Lists.{at, mem}
 use Rattle.rules.specs.Standing.{waiting, activated, running, finished}
 use Rattle.rules.specs.Booking.{Books, Share, total, chain, spent, gift, pass, release, offer, climb, dispatch}
 use Rattle.rules.specs.Invariant.{Tree, up, Shape, Active, Balance, Balanced, Roomy, Good}
 use Rattle.rules.proofs.Tests.{decide, clash, same-or-not, or-cases, or-right, or-false}
-use Rattle.rules.proofs.Sums.{Task, only-false, only-zero}
+use Rattle.rules.proofs.Sums.{Task, only-false}
 use Rattle.rules.proofs.Tree.{up-self, up-step, chain-none, chain-step, parent-task, not-above-itself}
 use Rattle.rules.proofs.Shape.{Moved, not-begun-above}
 use Rattle.rules.proofs.Balance.{cleared}
 use Rattle.rules.proofs.Climbing.{nothing-left, at-waiting, offer-balance, offer-total}
 use Rattle.rules.proofs.Finishing.{Taken, finishing-shape, finishing}
-use Rattle.rules.proofs.Branches.{climb-stop, climb-offer, release-root, release-child}
+use Rattle.rules.proofs.Branches.{climb-stop, climb-offer, release-child}
 use Rattle.rules.proofs.Entries.{at-other, moved-by-set, given-by-set, grown-by-set}
 
 -- all trays of a store while they are shared out: booked, or left
@@ -93,7 +93,7 @@ module _ (n : ℕ) (par rank : ℕ → ℕ) (tree : Tree n par rank) (st : ℕ �
 
 -- one store, in which the trays of j are taken, and its parent keeps its out
 module _ (n : ℕ) (par rank : ℕ → ℕ) (tree : Tree n par rank) (st st′ : ℕ → ℕ) (shape : Shape n par rank st) (j : ℕ)
-    (task : Task n j) (runs : st j ≡ running) (moved : Moved n st st′ j finished) (need out : ℕ → ℕ)
+    (task : Task n j) (runs : st j ≡ running) (moved : Moved n st st′ j finished) (higher : par j ≡ 0 → ⊥) (need out : ℕ → ℕ)
     (roomy : Roomy n par need out) (b : List ℕ) (sized : length b ≡ suc n) (books : Balanced n par need out st (at b)) where
   taken : Moved n (at b) (at (set b j 0)) j 0
   taken = moved-by-set n b j 0 sized task
@@ -104,44 +104,15 @@ module _ (n : ℕ) (par rank : ℕ → ℕ) (tree : Tree n par rank) (st st′ :
   released :
       Owing n par need out st′ (chain n par (par j)) (release par out b j) × (held n (release par out b j) ≡ total n (at b))
   unfolding total
-  released = ⊎-elim root child (same-or-not (par j) 0)
-    where
-      root :
-          par j ≡ 0
-          → Owing n par need out st′ (chain n par (par j)) (release par out b j)
-          × (held n (release par out b j) ≡ total n (at b))
-      root z =
-          let ends : Taken n par out (at b) (at (set b j 0)) (at (set b j 0)) j (at b j) 0 =
-          record {
-            taken = taken;
-            gave = λ i _. let none = only-zero (eqb (par j) i) in omega arith;
-            root = λ _. refl;
-            child = λ d. absurd (d z);
-            rest = omega arith;
-          }
-          in
-          let owed = finishing n par rank tree st st′ shape j task runs moved need out (at b) _ _ _ _ roomy books ends in
-          rw (release-root par out b j (eq-eqb (par j) 0 z)) (record { sized = sized-taken; books = owed .0 }, owed .1)
-
-      child :
-          (par j ≡ 0 → ⊥)
-          → Owing n par need out st′ (chain n par (par j)) (release par out b j)
-          × (held n (release par out b j) ≡ total n (at b))
-      child d =
-          let u = parent-task n par rank tree j task d in
-          let given : ℕ = at (set b j 0) (par j) + out j in
-          let ends : Taken n par out (at b) (at (set b j 0)) (at (set (set b j 0) (par j) given)) j (at b j - out j) (out j) =
-          record {
-            taken = taken;
-            gave = λ i _. grown-by-set n (set b j 0) (par j) (out j) sized-taken u i;
-            root = λ z. absurd (d z);
-            child = λ _. refl;
-            rest = refl;
-          }
-          in
-          let owed = finishing n par rank tree st st′ shape j task runs moved need out (at b) _ _ _ _ roomy books ends in
-          rw (release-child par out b j (ne-eqb (par j) 0 d))
-          (record { sized = length-set (set b j 0) (par j) given ∙ sized-taken; books = owed .0 }, owed .1)
+  released =
+      let u = parent-task n par rank tree j task higher in
+      let given : ℕ = at (set b j 0) (par j) + out j in
+      let ends : Taken n par out (at b) (at (set b j 0)) (at (set (set b j 0) (par j) given)) j (at b j - out j) =
+      record { taken = taken; gave = λ i _. grown-by-set n (set b j 0) (par j) (out j) sized-taken u i; rest = refl }
+      in
+      let owed = finishing n par rank tree st st′ shape j task runs moved higher need out (at b) _ _ _ roomy books ends in
+      rw (release-child par out b j (ne-eqb (par j) 0 higher))
+      (record { sized = length-set (set b j 0) (par j) given ∙ sized-taken; books = owed .0 }, owed .1)
 
 module _ (n : ℕ) (par rank : ℕ → ℕ) (tree : Tree n par rank) (need out : ℕ → ℕ) (roomy : Roomy n par need out)
     (st : ℕ → ℕ) (shape : Shape n par rank st) where
@@ -201,7 +172,7 @@ module _ (n : ℕ) (par rank : ℕ → ℕ) (tree : Tree n par rank) (need out :
 
 module _ (n : ℕ) (par rank : ℕ → ℕ) (tree : Tree n par rank) (need out : ℕ → ℕ) (roomy : Roomy n par need out)
     (bound : ℕ) (k : Books) (good : Good n par rank need out bound k) (j : ℕ) (task : Task n j)
-    (runs : at (k .standings) j ≡ running) where
+    (runs : at (k .standings) j ≡ running) (higher : par j ≡ 0 → ⊥) where
   moved : Moved n (at (k .standings)) (at (set (k .standings) j finished)) j finished
   moved = moved-by-set n (k .standings) j finished (good .sized) task
 
@@ -230,7 +201,7 @@ module _ (n : ℕ) (par rank : ℕ → ℕ) (tree : Tree n par rank) (need out :
   unfolding dispatch
   sharing-good =
       let release =
-      released n par rank tree (at (k .standings)) _ (good .shape) j task runs moved need out roomy (k .booked)
+      released n par rank tree (at (k .standings)) _ (good .shape) j task runs moved higher need out roomy (k .booked)
       (good .stock .sized) (good .stock .books)
       in
       let shared =

@@ -10,9 +10,9 @@ use borrow.Author.Tests.{eqb-true}
 use Rattle.rules.specs.Limits.{maxTasks, maxProcessors, maxBound}
 use Rattle.rules.specs.Phase
 use Rattle.rules.specs.State.{State, none}
-use Rattle.rules.specs.Command.{Command, plan, task, activation, execution, begin, done}
+use Rattle.rules.specs.Command.{Command, plan, task, activation, execution, begin, done, fetch}
 use Rattle.rules.specs.Grounds.{inTurn, inLimits, within}
-use Rattle.rules.specs.Obey.{opened, withTask, withOrders, completed, withBooks, proceed, obey}
+use Rattle.rules.specs.Obey.{opened, withTask, withOrders, completed, withBooks, unloaded, proceed, obey}
 use Rattle.rules.specs.Reachable.{Reachable}
 use Rattle.rules.proofs.Tests.{and-true}
 use Rattle.rules.proofs.Orders.{within-task}
@@ -52,7 +52,7 @@ day-staged s phase st b before after h =
     }
 
 obey-staged : (s : State) (c : Command) → Accepted s c → Staged s → Staged (obey s c .state)
-unfolding obey opened withTask withOrders completed inTurn inLimits proceed
+unfolding obey opened withTask withOrders completed unloaded inTurn inLimits proceed
 obey-staged s (plan n p bound) a h =
     let limits = and-true (within n maxTasks && within p maxProcessors) (leb bound maxBound) (a .limits) in
     let tasks = within-task maxTasks n (and-true (within n maxTasks) (within p maxProcessors) (limits .0) .0) in
@@ -74,6 +74,9 @@ obey-staged s begin a h =
 obey-staged s (done j) a h =
     let now = eqb-true (s .phase) Phase.running (a .turn) in
     day-staged s _ _ _ (omega arith) (after-report s j) h
+obey-staged s fetch a h =
+    let now = eqb-true (s .phase) Phase.ready (a .turn) in
+    day-staged s _ _ _ (omega arith) (omega arith) h
 
 pub staged : {s : State} → Reachable s → Staged s
 staged = by-commands Staged none-staged obey-staged

@@ -15,7 +15,7 @@ use Rattle.rules.specs.Command.{Command, Decoded, refused, read, decode}
 use Rattle.rules.specs.Grounds.{ground}
 use Rattle.rules.specs.Obey.{obey}
 use Rattle.rules.specs.Answer.{Asking, Answered, refuse, front, accept, judge, respond, command}
-use Rattle.rules.specs.Day.{started, ended, accepted, reported, events}
+use Rattle.rules.specs.Day.{started, accepted, reported, events}
 use Rattle.rules.proofs.Tests.{decide}
 use Rattle.rules.proofs.Bytes.{Counts, decode-counts}
 use Rattle.rules.proofs.Formed.{Accepted, no-ground}
@@ -34,7 +34,7 @@ pub record Obeyed (s : State) (a : Asking) (c : Command) (used : ℕ) : Type 0 w
   pub listed : leastStarts ≤ length (a .list)
   pub answered : command s a ≡ accept (obey s c) used (a .list)
   pub after : command s a .state ≡ obey s c .state
-  pub happens : events s a ≡ map ended (reported (read c used)) ++ map started (obey s c .started)
+  pub happens : events s a ≡ reported (read c used) ++ map started (obey s c .started)
 
 pub data Step (s : State) (a : Asking) : Type 0 where
   is-refused : Refused s a → Step s a
@@ -74,12 +74,12 @@ accepting s a c used long d g e =
           ap
           (λ (t : Bool).
           cond t
-          (map ended (reported (decode (a .stream) (a .place))) ++ map started (take (command s a .answer .starts) (command s a .list)))
+          (reported (decode (a .stream) (a .place)) ++ map started (take (command s a .answer .starts) (command s a .list)))
           [])
           yes-accepted
-          ∙ ap (λ (x : Decoded). map ended (reported x) ++ map started (take (command s a .answer .starts) (command s a .list))) d
-          ∙ ap (λ (r : Answered). map ended (reported (read c used)) ++ map started (take (r .answer .starts) (r .list))) e
-          ∙ ap (λ (l : List ℕ). map ended (reported (read c used)) ++ map started l)
+          ∙ ap (λ (x : Decoded). reported x ++ map started (take (command s a .answer .starts) (command s a .list))) d
+          ∙ ap (λ (r : Answered). reported (read c used) ++ map started (take (r .answer .starts) (r .list))) e
+          ∙ ap (λ (l : List ℕ). reported (read c used) ++ map started l)
           (take-append-seam (obey s c .started) (drop (length (obey s c .started)) (a .list)));
     })
 

@@ -306,8 +306,8 @@ written cs f h =
     ∙ ap (prepend cs) (ended (obeyAll none cs) stream (0 + length stream) (length stream) (omega arith))
     ∙ rw (zero-add (length stream), append-nil cs)
 
--- plan A's stream of 57 bytes is accepted whole; with its last byte missing the command at 54 is refused, with 1
-pub run-A : run dayA .place ∷ run dayA .number ∷ [] ≡ 57 ∷ 0 ∷ []
+-- plan A's stream of 58 bytes is accepted whole; cut in its last report, the command at 54 is refused, with 1
+pub run-A : run dayA .place ∷ run dayA .number ∷ [] ≡ 58 ∷ 0 ∷ []
 unfolding computing dayA run runFrom readIn prepend stopped
 run-A = refl
 

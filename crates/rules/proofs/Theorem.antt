@@ -2,20 +2,19 @@
 use mathlib.Core.Path.{_≡_, refl, sym, ap, subst, subst₂, _∙_}
 use mathlib.Core.Bool.{Bool, true, false, _&&_}
 use mathlib.Core.List.{List, [], _∷_, _++_, map, append-nil, append-assoc}
-use Prim.Native.Nat.{ℕ}
+use Prim.Native.Nat.{ℕ, _≤_, _<_}
 use native.Mathlib.Omega.{arith}
 use lib.Dec.{eqb}
 use borrow.Author.Tests.{eqb-true}
 use Rattle.rules.specs.Phase
 use Rattle.rules.specs.State.{State, none}
-use Rattle.rules.specs.Command.{Command, plan, task, activation, execution, begin, done, byteOf, operandsOf, read, decode}
+use Rattle.rules.specs.Command.{Command, plan, task, activation, execution, begin, done, fetch, byteOf, operandsOf, read, decode}
 use Rattle.rules.specs.Grounds.{inTurn}
-use Rattle.rules.specs.Obey.{completed, proceed, obey}
+use Rattle.rules.specs.Obey.{completed, unloaded, proceed, obey}
 use Rattle.rules.specs.Answer.{Asking, command}
 use Rattle.rules.specs.Day.{
   Event,
   started,
-  ended,
   after,
   log,
   events,
@@ -30,9 +29,10 @@ use Rattle.rules.specs.Day.{
 use Rattle.rules.specs.Theorem.{EveryDay, EveryDayHolds, Theorem}
 use Rattle.rules.proofs.Tests.{clash, and-true, or-false}
 use Rattle.rules.proofs.Formed.{Formed, Accepted, none-formed, obey-formed}
-use Rattle.rules.proofs.InDay.{Closing, open-day, closed, orders-hold}
+use Rattle.rules.proofs.InDay.{Course, goes, closed, past-running, orders-hold}
 use Rattle.rules.proofs.Opening.{begin-in-day}
 use Rattle.rules.proofs.Reporting.{done-in-day}
+use Rattle.rules.proofs.Fetching.{fetch-in-day}
 use Rattle.rules.proofs.Holds.{day-holds}
 use Rattle.rules.proofs.Staying.{DayOf, completes, books-stay}
 use Rattle.rules.proofs.Steps.{Step, is-refused, is-obeyed, step}
@@ -53,30 +53,35 @@ after-formed [] s h = h
 after-formed (a ∷ l) s h = after-formed l (command s a .state) (command-formed s a h)
 
 -- the phase of a day
-day-phase : (s : State) → Closing s → (k : ℕ) → eqb (s .phase) k ≡ true → (k ≡ Phase.running → ⊥) → (k ≡ Phase.over → ⊥) → ⊥
-day-phase s (open-day p h) k e r o = r (sym (eqb-true (s .phase) k e) ∙ p)
-day-phase s (closed p h) k e r o = o (sym (eqb-true (s .phase) k e) ∙ p)
+day-phase : (s : State) → Course s → Phase.running ≤ s .phase
+day-phase s (goes g) = let e = g .phased in omega arith
+day-phase s (closed gone c) = let late = past-running gone c in omega arith
 
--- in a day only DONE is obeyed, as long as no plan is opened
+-- no command of another phase is in turn then
+out-of-turn : (s : State) → Course s → (k : ℕ) → eqb (s .phase) k ≡ true → k < Phase.running → ⊥
+out-of-turn s c k turn early = let e = eqb-true (s .phase) k turn in let d = day-phase s c in omega arith
+
+-- in a day only DONE and FETCH are obeyed, as long as no plan is opened
 obeyed-in-day :
     (found s : State) (happened : List Event) (c : Command) (used : ℕ)
     → DayOf found s happened
     → Accepted s c
     → isPlan (read c used) ≡ false
-    → DayOf found (obey s c .state) (happened ++ (map ended (reported (read c used)) ++ map started (obey s c .started)))
-unfolding inTurn byteOf operandsOf isPlan reported obey proceed
+    → DayOf found (obey s c .state) (happened ++ (reported (read c used) ++ map started (obey s c .started)))
+unfolding inTurn byteOf operandsOf isPlan reported obey unloaded proceed
 obeyed-in-day found s happened (plan n p bound) used day a e = absurd (clash refl e)
 obeyed-in-day found s happened (task parent work out) used day a e =
-    absurd (day-phase s (day .day .closing) Phase.steps (a .turn) (λ q. omega arith) (λ q. omega arith))
+    absurd (out-of-turn s (day .day .course) Phase.steps (a .turn) (omega arith))
 obeyed-in-day found s happened (activation i) used day a e =
-    absurd (day-phase s (day .day .closing) Phase.orders (and-true _ _ (a .turn) .0) (λ q. omega arith) (λ q. omega arith))
+    absurd (out-of-turn s (day .day .course) Phase.orders (and-true _ _ (a .turn) .0) (omega arith))
 obeyed-in-day found s happened (execution i) used day a e =
-    absurd (day-phase s (day .day .closing) Phase.orders (and-true _ _ (a .turn) .0) (λ q. omega arith) (λ q. omega arith))
+    absurd (out-of-turn s (day .day .course) Phase.orders (and-true _ _ (a .turn) .0) (omega arith))
 obeyed-in-day found s happened begin used day a e =
-    absurd
-    (day-phase s (day .day .closing) Phase.orders (and-true _ _ (and-true _ _ (a .turn) .0) .0) (λ q. omega arith) (λ q. omega arith))
+    absurd (out-of-turn s (day .day .course) Phase.orders (and-true _ _ (and-true _ _ (a .turn) .0) .0) (omega arith))
 obeyed-in-day found s happened (done j) used day a e =
     record { day = done-in-day s happened (day .day) j a; stays = books-stay found s _ _ _ (day .stays) }
+obeyed-in-day found s happened fetch used day a e =
+    record { day = fetch-in-day s happened (day .day) a; stays = books-stay found s _ _ _ (day .stays) }
 
 -- one asking of a day
 asked-in-day :
@@ -120,7 +125,7 @@ begun-by :
     → Formed s
     → Accepted s c
     → isBegin (read c used) ≡ true
-    → DayOf s (obey s c .state) (map ended (reported (read c used)) ++ map started (obey s c .started))
+    → DayOf s (obey s c .state) (reported (read c used) ++ map started (obey s c .started))
 unfolding byteOf operandsOf isBegin reported obey proceed
 begun-by s (plan n p bound) used h a e = absurd (clash e refl)
 begun-by s (task parent work out) used h a e = absurd (clash e refl)
@@ -128,6 +133,7 @@ begun-by s (activation i) used h a e = absurd (clash e refl)
 begun-by s (execution i) used h a e = absurd (clash e refl)
 begun-by s begin used h a e = record { day = begin-in-day s h a; stays = books-stay s (completed s) _ _ _ (completes s) }
 begun-by s (done j) used h a e = absurd (clash e refl)
+begun-by s fetch used h a e = absurd (clash e refl)
 
 opened-day : (s : State) (a : Asking) → Formed s → opensDay s a ≡ true → DayOf s (command s a .state) (events s a)
 unfolding accepted opensDay

@@ -1,4 +1,4 @@
--- Trays in use never exceed trays booked, task by task.
+-- The needs of running tasks and the outs of ended ones whose parent has not begun never exceed trays booked, task by task.
 use mathlib.Core.Path.{_≡_, refl}
 use mathlib.Core.Bool.{Bool, true, false, not, _&&_}
 use mathlib.Core.Logic.{⊎-elim}
@@ -7,7 +7,7 @@ use native.Mathlib.Omega.{arith}
 use lib.Dec.{eqb, leb}
 use borrow.Author.Tests.{eq-eqb, ne-eqb, le-leb, lt-leb}
 use Rattle.rules.specs.Sums.{only}
-use Rattle.rules.specs.Need.{need, inUse, children}
+use Rattle.rules.specs.Need.{need, inProcess, children}
 use Rattle.rules.specs.Booking.{total}
 use Rattle.rules.specs.Standing.{waiting, activated, running, finished}
 use Rattle.rules.specs.Invariant.{Tree, Shape, Balanced, arrived}
@@ -60,10 +60,10 @@ module _ (n : ℕ) (par rank : ℕ → ℕ) (tree : Tree n par rank) (work out s
       (same-or-not (st i) finished))
       (le-or-lt (st i) activated)
 
-  -- in use, as the starts and ends say, is at most what is booked
-  pub in-use-within : inUse n par work out (hasEnded st) (hasBegun st) ≤ total n b
-  unfolding inUse total charge arrived
-  in-use-within =
+  -- all of them are at most what is booked
+  pub in-process-within : inProcess n par work out (hasEnded st) (hasBegun st) ≤ total n b
+  unfolding inProcess total charge arrived
+  in-process-within =
       let resides = resident-by-parent n par out (hasEnded st) (hasBegun st) (tree .within) in
       let parts =
       sum-add (λ i. only (hasBegun st i && not (hasEnded st i)) (need n par work out i))

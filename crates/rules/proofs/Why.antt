@@ -20,7 +20,6 @@ use Rattle.rules.specs.Booking.{Books, isUnendedChild, fed, misses, allo
 use Rattle.rules.specs.Grounds.{within}
 use Rattle.rules.specs.Obey.{booksOf, withBound, ahead}
 use Rattle.rules.specs.Question.{isRunning}
-use Rattle.rules.specs.Day.{Event}
 use Rattle.rules.specs.Invariant.{Valid, rankIn, FirstWaiting}
 use Rattle.rules.specs.Why.{refused, ended, running, notBooked, unfed, noProcessor, has, firstWaiting, lackIn, unendedChild, why}
 use Rattle.rules.specs.Reasons.{LackIsExact, Unfed}
@@ -32,7 +31,7 @@ use Rattle.rules.proofs.Ranks.{stands}
 use Rattle.rules.proofs.Branches.{activate-pass, activate-book, activate-stop, passes-all, first-at}
 use Rattle.rules.proofs.Entries.{at-set, at-other}
 use Rattle.rules.proofs.Waiting.{first-waiting, found-first}
-use Rattle.rules.proofs.InDay.{InDay, tree}
+use Rattle.rules.proofs.InDay.{Planned, Going, tree}
 
 -- one equation a branch, by the phase, the number and the standing
 module _ (s : State) (i : ℕ) where
@@ -189,8 +188,8 @@ within-then asked bound h = le-leb asked (bound + (asked - bound)) (omega arith)
 above-still : (asked bound fewer : ℕ) → fewer < asked - bound → leb asked (bound + fewer) ≡ false
 above-still asked bound fewer h = lt-leb asked (bound + fewer) (omega arith)
 
--- a plan in its day
-module _ (s : State) {happened : List Event} (day : InDay s happened) where
+-- a plan whose day goes on
+module _ (s : State) (planned : Planned s) (going : Going s) where
   -- the first waiting task lacks so many places just
   pub lack-exact :
       (x : ℕ)
@@ -198,15 +197,15 @@ module _ (s : State) {happened : List Event} (day : InDay s happened) where
       → LackIsExact s x (lackIn s (s .chilled) x)
   unfolding lackIn ahead withBound allows misses
   lack-exact x fw =
-      let short = leb-false _ (s .chilled .bound) (day .settled .halted x fw) in
+      let short = leb-false _ (s .chilled .bound) (going .settled .halted x fw) in
       record {
         some = omega arith;
         booked =
-            allowed-booked (s .size) (at (s .parents)) (needs s) _ (s .activation) (day .planned .valid) (booksOf s) x fw
-            (day .settled .good .sized) (within-then _ (s .chilled .bound) short);
+            allowed-booked (s .size) (at (s .parents)) (needs s) _ (s .activation) (planned .valid) (booksOf s) x fw
+            (going .settled .good .sized) (within-then _ (s .chilled .bound) short);
         waits =
             λ fewer h.
-            denied-waits (s .size) (at (s .parents)) (needs s) _ (s .activation) (day .planned .valid) (booksOf s) x fw
+            denied-waits (s .size) (at (s .parents)) (needs s) _ (s .activation) (planned .valid) (booksOf s) x fw
             (above-still _ (s .chilled .bound) fewer h);
       }
 
@@ -218,11 +217,11 @@ module _ (s : State) {happened : List Event} (day : InDay s happened) where
       → FirstWaiting (s .size) (rankIn (s .activation)) (at (s .standings)) (firstWaiting s)
   unfolding firstWaiting
   first-found i t w =
-      let valid = day .planned .valid in
+      let valid = planned .valid in
       ⊎-elim
       (λ found.
-      let fw = found-first (s .size) (at (s .parents)) (s .activation) valid (tree s (day .planned)) (at (s .standings))
-      (day .settled .good .shape) found
+      let fw = found-first (s .size) (at (s .parents)) (s .activation) valid (tree s planned) (at (s .standings))
+      (going .settled .good .shape) found
       in
       rw (first-is (s .size) (at (s .parents)) (s .activation) valid (at (s .standings)) (found .x) fw) fw)
       (λ none. absurd (none i (stands (s .size) (at (s .parents)) (s .activation) valid i t) w))
@@ -265,9 +264,9 @@ module _ (s : State) {happened : List Event} (day : InDay s happened) where
       → count (s .size) (at (s .standings)) Standing.running ≡ s .processors
   unfolding ready
   all-taken i t a e =
-      let most = day .settled .staffed in
+      let most = going .settled .staffed in
       ⊎-elim
       (λ (h : s .processors ≤ count (s .size) (at (s .standings)) Standing.running). omega arith)
       (λ (h : count (s .size) (at (s .standings)) Standing.running < s .processors).
-      absurd (clash (and-both _ _ (eq-eqb _ activated a) e) (day .settled .busy h i t)))
+      absurd (clash (and-both _ _ (eq-eqb _ activated a) e) (going .settled .busy h i t)))
       (le-or-lt (s .processors) (count (s .size) (at (s .standings)) Standing.running))

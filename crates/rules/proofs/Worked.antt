@@ -6,15 +6,16 @@ use Prim.Native.Nat.{ℕ, _<_}
 use native.Mathlib.Omega.{arith}
 use lib.ListN.{length, take, replicate}
 use Rattle.rules.specs.Sums.{countTo}
+use Rattle.rules.specs.Phase
 use Rattle.rules.specs.State.{none}
-use Rattle.rules.specs.Command.{Command, plan, task, activation, begin, done, bytes}
+use Rattle.rules.specs.Command.{Command, plan, task, activation, begin, done, fetch, bytes}
 use Rattle.rules.specs.Answer.{Asking}
 use Rattle.rules.specs.Question
 use Rattle.rules.specs.Why
 use Rattle.rules.specs.Why.{why}
 use Rattle.rules.specs.Instance.{instanceOf, written}
 use Rattle.rules.specs.Write.{write}
-use Rattle.rules.specs.Day.{started, ended, after, answers, acceptedOnly, log, opensDay, nextPlan}
+use Rattle.rules.specs.Day.{started, ended, fetched, ends, after, answers, acceptedOnly, log, opensDay, nextPlan}
 use Rattle.rules.specs.Theorem.{runs, DayHolds, EveryDay}
 use Rattle.rules.specs.Marked.{ask, asks, inOrder, tasksA, planA, oneOrderA, dayA, planC, reading, short}
 use Rattle.rules.proofs.Computing.{computing}
@@ -36,9 +37,13 @@ morning =
     ∷ ask (done 1)
     ∷ []
 
--- the whole day, with reports that come twice
+-- the day as far as its last report, with reports that come twice
+unfoldable pub untilReady : List Asking
+untilReady = morning ++ (ask (done 1) ∷ ask (done 2) ∷ ask (done 3) ∷ ask (done 3) ∷ [])
+
+-- the whole day: a next plan before the trolley is fetched, and a fetch that comes twice
 unfoldable pub whole : List Asking
-whole = morning ++ (ask (done 1) ∷ ask (done 2) ∷ ask (done 3) ∷ ask (done 3) ∷ [])
+whole = untilReady ++ (ask (plan 3 2 7) ∷ ask fetch ∷ ask fetch ∷ [])
 
 -- plan A with one processor, and places for all its tasks at once
 unfoldable pub alone : List Command
@@ -50,43 +55,43 @@ unfolding computing asks tasksA planA inOrder ask
 opens = refl
 
 no-next : nextPlan (after none (asks (planA 7))) (ask begin ∷ whole) ≡ false
-unfolding computing asks tasksA planA inOrder ask reading short morning whole
+unfolding computing asks tasksA planA inOrder ask reading short morning untilReady whole
 no-next = refl
 
 -- each asking is answered by its number
 pub worked-numbers :
     map (λ a. a .answer .number) (answers (after none (asks (planA 7))) (ask begin ∷ whole))
-    ≡ 0 ∷ 10 ∷ 6 ∷ 1 ∷ 2 ∷ 1 ∷ 3 ∷ 0 ∷ 6 ∷ 0 ∷ 0 ∷ 3 ∷ []
-unfolding computing asks tasksA planA inOrder ask reading short morning whole
+    ≡ 0 ∷ 10 ∷ 6 ∷ 1 ∷ 2 ∷ 1 ∷ 3 ∷ 0 ∷ 6 ∷ 0 ∷ 0 ∷ 3 ∷ 3 ∷ 0 ∷ 3 ∷ []
+unfolding computing asks tasksA planA inOrder ask reading short morning untilReady whole
 worked-numbers = refl
 
 -- what happens in the day, in order
 pub worked-log :
     log (after none (asks (planA 7))) (ask begin ∷ whole)
-    ≡ started 1 ∷ ended 1 ∷ started 2 ∷ ended 2 ∷ started 3 ∷ ended 3 ∷ []
-unfolding computing asks tasksA planA inOrder ask reading short morning whole
+    ≡ started 1 ∷ ended 1 ∷ started 2 ∷ ended 2 ∷ started 3 ∷ ended 3 ∷ fetched ∷ []
+unfolding computing asks tasksA planA inOrder ask reading short morning untilReady whole
 worked-log = refl
 
--- the four that are accepted
+-- the five that are accepted
 pub worked-accepted :
     acceptedOnly (after none (asks (planA 7))) (ask begin ∷ whole)
-    ≡ ask begin ∷ ask (done 1) ∷ ask (done 2) ∷ ask (done 3) ∷ []
-unfolding computing asks tasksA planA inOrder ask reading short morning whole
+    ≡ ask begin ∷ ask (done 1) ∷ ask (done 2) ∷ ask (done 3) ∷ ask fetch ∷ []
+unfolding computing asks tasksA planA inOrder ask reading short morning untilReady whole
 worked-accepted = refl
 
 -- all that is promised of a day holds of it
 pub worked-holds :
     DayHolds (after none (asks (planA 7) ++ ask begin ∷ whole))
-    (started 1 ∷ ended 1 ∷ started 2 ∷ ended 2 ∷ started 3 ∷ ended 3 ∷ [])
+    (started 1 ∷ ended 1 ∷ started 2 ∷ ended 2 ∷ started 3 ∷ ended 3 ∷ fetched ∷ [])
 worked-holds = rw worked-log at (every-day-holds (asks (planA 7)) (ask begin) whole opens no-next)
 
 -- once it is over a next plan may be opened: it ends the day, and its own BEGIN opens another
 pub worked-next : nextPlan (after none (asks (planA 7))) ((ask begin ∷ whole) ++ asks planC) ≡ true
-unfolding computing asks tasksA planA planC inOrder ask reading short morning whole
+unfolding computing asks tasksA planA planC inOrder ask reading short morning untilReady whole
 worked-next = refl
 
 pub worked-second : opensDay (after none ((asks (planA 7) ++ ask begin ∷ whole) ++ asks planC)) (ask begin) ≡ true
-unfolding computing asks tasksA planA planC inOrder ask reading short morning whole
+unfolding computing asks tasksA planA planC inOrder ask reading short morning untilReady whole
 worked-second = refl
 
 -- why no other task starts: in plan A, once task 1 runs, task 2 is next and lacks 5 of the 6 places that it misses
@@ -108,9 +113,14 @@ pub worked-other :
 unfolding computing asks alone inOrder ask
 worked-other = refl
 
--- once the day is over nothing is told
-pub worked-over :
+-- once all have ended nothing is told: in ready, and in over
+pub worked-ready :
     map (why (after none (asks (alone ++ begin ∷ done 1 ∷ done 2 ∷ done 3 ∷ [])))) (0 ∷ 1 ∷ []) ≡ Why.refused 3 ∷ Why.refused 3 ∷ []
+unfolding computing asks alone inOrder ask
+worked-ready = refl
+
+pub worked-over :
+    map (why (after none (asks (alone ++ begin ∷ done 1 ∷ done 2 ∷ done 3 ∷ fetch ∷ [])))) (0 ∷ 1 ∷ []) ≡ Why.refused 3 ∷ Why.refused 3 ∷ []
 unfolding computing asks alone inOrder ask
 worked-over = refl
 
@@ -119,17 +129,23 @@ pub worked-written : written (instanceOf (after none (asks (planA 7)))) ≡ take
 unfolding computing asks tasksA planA dayA inOrder ask
 worked-written = refl
 
--- while its day runs, and once it is over, into a list with a byte more than is needed
+-- while its day runs, while its trolley stands, and once it is over, into a list with a byte more than is needed
 pub worked-running :
     write (after none (asks (planA 7 ++ begin ∷ done 1 ∷ []))) (replicate 48 99)
     ≡ record { number = 0; count = 47; list = take 47 dayA ++ (99 ∷ []) }
 unfolding computing asks tasksA planA dayA inOrder ask
 worked-running = refl
 
+pub worked-loaded :
+    write (after none (asks (planA 7) ++ ask begin ∷ untilReady)) (replicate 48 99)
+    ≡ record { number = 0; count = 47; list = take 47 dayA ++ (99 ∷ []) }
+unfolding computing asks tasksA planA dayA inOrder ask reading short morning untilReady
+worked-loaded = refl
+
 pub worked-ended :
     write (after none (asks (planA 7) ++ ask begin ∷ whole)) (replicate 48 99)
     ≡ record { number = 0; count = 47; list = take 47 dayA ++ (99 ∷ []) }
-unfolding computing asks tasksA planA dayA inOrder ask reading short morning whole
+unfolding computing asks tasksA planA dayA inOrder ask reading short morning untilReady whole
 worked-ended = refl
 
 -- a byte fewer is too short, and with an entry of an order missing, or no plan, there is nothing to write
@@ -172,6 +188,14 @@ Spare = EveryDay (λ _ s happened. countTo (runs happened) (s .size) < s .proces
 abbrev pub Tight : Type 0
 Tight = EveryDay (λ _ s _. Question.inUse s ≡ Question.booked s)
 
+-- wrong: "once all have ended nothing is booked"
+abbrev pub Empty : Type 0
+Empty = EveryDay (λ _ s happened. length (ends happened) ≡ s .size → Question.booked s ≡ 0)
+
+-- wrong: "once all have ended the day is over"
+abbrev pub Done : Type 0
+Done = EveryDay (λ _ s happened. length (ends happened) ≡ s .size → s .phase ≡ Phase.over)
+
 -- wrong: "the execution order stays as BEGIN found it"
 abbrev pub AsFound : Type 0
 AsFound = EveryDay (λ found s _. s .execution ≡ found .execution)
@@ -195,6 +219,20 @@ pub not-tight : Tight → ⊥
 unfolding computing asks planC inOrder ask
 not-tight h =
     let one : _≡_ {A = ℕ} 5 6 = h (asks planC) (ask begin) (ask (done 1) ∷ []) refl refl in
+    omega arith
+
+-- after the last report the trolley stands loaded with one tray
+pub not-empty : Empty → ⊥
+unfolding computing asks tasksA planA inOrder ask reading short morning untilReady
+not-empty h =
+    let loaded : _≡_ {A = ℕ} 1 0 = h (asks (planA 7)) (ask begin) untilReady refl refl refl in
+    omega arith
+
+-- and the phase is ready
+pub not-done : Done → ⊥
+unfolding computing asks tasksA planA inOrder ask reading short morning untilReady
+not-done h =
+    let loaded : _≡_ {A = ℕ} Phase.ready Phase.over = h (asks (planA 7)) (ask begin) untilReady refl refl refl in
     omega arith
 
 -- without 04 BEGIN finds none, and uses the activation order

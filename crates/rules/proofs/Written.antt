@@ -84,9 +84,9 @@ written-read :
     (m : Instance)
     → Proper m
     → run (written m) ≡ record { number = 0; place = length (written m); commands = commands m; state = unbegun m }
-unfolding written
+unfolding written Phase.holdsTrays
 written-read m g =
-    let leads = commands-lead m g none (λ e. omega arith) in
+    let leads = commands-lead m g none refl in
     rw (← leads .obeyed) (streams.written (commands m) (leads .fitting) (leads .accepted))
 
 -- so the bytes tell the plan

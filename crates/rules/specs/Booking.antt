@@ -116,11 +116,11 @@ pass n par need i s =
     }
 
 -- "When step j ends, its booked trays, call them R, are taken from it. If it has a parent, the parent is given j's out, and R falls
--- by it." In a day the out is never more than R (`Finishing.kept-within`)
+-- by it." "When the root ends, its out remains booked." In a day the out is never more than R (`Finishing.out-within`)
 unfoldable pub release : (par out : ℕ → ℕ) → List ℕ → ℕ → Share
 release par out b j =
     elim (eqb (par j) 0) [
-      | true ↦ record { left = at b j; booked = set b j 0 }
+      | true ↦ record { left = at b j - out j; booked = set b j (out j) }
       | false ↦
           record { left = at b j - out j; booked = set (set b j 0) (par j) (at (set b j 0) (par j) + out j) }
     ]

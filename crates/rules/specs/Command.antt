@@ -18,8 +18,10 @@ pub data Command : Type 0 where
   begin : Command
   -- this task has ended
   done : ℕ → Command
+  -- the trolley is fetched
+  fetch : Command
 
--- the bytes by which a day is told: PLAN, BEGIN and DONE
+-- the bytes by which a day is told: PLAN, BEGIN, DONE and FETCH
 abbrev pub planByte : ℕ
 planByte = 1
 
@@ -28,6 +30,9 @@ beginByte = 5
 
 abbrev pub doneByte : ℕ
 doneByte = 6
+
+abbrev pub fetchByte : ℕ
+fetchByte = 7
 
 -- a line of the table of commands: the byte, the widths of the operands in bytes, and the meaning by the operands
 pub record Form : Type 0 where
@@ -44,6 +49,7 @@ forms =
     ∷ record { byte = 4; widths = 2 ∷ []; means = λ x. execution (at x 0) }
     ∷ record { byte = 5; widths = []; means = λ x. begin }
     ∷ record { byte = 6; widths = 2 ∷ []; means = λ x. done (at x 0) }
+    ∷ record { byte = 7; widths = []; means = λ x. fetch }
     ∷ []
 
 -- the line with a byte, where there is one
@@ -59,6 +65,7 @@ byteOf (activation i) = 3
 byteOf (execution i) = 4
 byteOf begin = 5
 byteOf (done i) = 6
+byteOf fetch = 7
 
 unfoldable pub operandsOf : Command → List ℕ
 operandsOf (plan n p bound) = n ∷ p ∷ bound ∷ []
@@ -67,6 +74,7 @@ operandsOf (activation i) = i ∷ []
 operandsOf (execution i) = i ∷ []
 operandsOf begin = []
 operandsOf (done i) = i ∷ []
+operandsOf fetch = []
 
 -- the widths of its operands, by its line
 unfoldable pub widthsOf : Command → List ℕ
@@ -114,7 +122,7 @@ whole given width c = cond (ltb (length given) width) (refused 1) (read c (1 + w
 unfoldable pub readBy : Form → List ℕ → Decoded
 readBy f given = whole given (room (f .widths)) (f .means (numbers (f .widths) given))
 
--- the byte picks operand width and meaning; "the byte is none of 01 to 06" (2)
+-- the byte picks operand width and meaning; "the byte is none of 01 to 06" (2), and 07 "leaves the unknown ones"
 unfoldable pub table : ℕ → List ℕ → Decoded
 table byte given = elim (find forms byte) [ none ↦ refused 2 | some f ↦ readBy f given ]
 

@@ -1,12 +1,12 @@
 -- "A day. Demand 3 takes any list of commands to a plan in phase empty, each asked of any reader on any bytes (cut short or none
 -- left included), with any start list."
-use mathlib.Core.Bool.{Bool, false, cond, _&&_, _||_}
+use mathlib.Core.Bool.{Bool, true, false, cond, _&&_, _||_}
 use mathlib.Core.List.{List, [], _∷_, _++_, map}
 use Prim.Native.Nat.{ℕ}
 use lib.Dec.{eqb}
 use lib.ListN.{take}
 use Rattle.rules.specs.State.{State}
-use Rattle.rules.specs.Command.{planByte, beginByte, doneByte, byteOf, operandsOf, Decoded, refused, read, decode}
+use Rattle.rules.specs.Command.{planByte, beginByte, doneByte, fetchByte, byteOf, operandsOf, Decoded, refused, read, decode}
 use Rattle.rules.specs.Answer.{Asking, Answered, command}
 
 -- "Each finds the plan as the one before left it": the plan after a list of askings
@@ -31,7 +31,7 @@ unfoldable pub acceptedOnly : State → List Asking → List Asking
 acceptedOnly s [] = []
 acceptedOnly s (a ∷ later) = cond (accepted s a) (a ∷ []) [] ++ acceptedOnly (command s a .state) later
 
--- PLAN and BEGIN, which bound a day, and the task that DONE names
+-- PLAN and BEGIN, which bound a day
 unfoldable pub isPlan : Decoded → Bool
 isPlan (refused k) = false
 isPlan (read c used) = eqb (byteOf c) planByte
@@ -40,21 +40,25 @@ unfoldable pub isBegin : Decoded → Bool
 isBegin (refused k) = false
 isBegin (read c used) = eqb (byteOf c) beginByte
 
-unfoldable pub reported : Decoded → List ℕ
-reported (refused k) = []
-reported (read c used) = cond (eqb (byteOf c) doneByte) (operandsOf c) []
-
 -- "In it a step starts where an accepted command writes it among its starts, ends with the accepted DONE for it (before that
 -- command's starts), and runs in between"
 pub data Event : Type 0 where
   started : ℕ → Event
   ended : ℕ → Event
+  -- the trolley is fetched
+  fetched : Event
+
+-- what a command reports: DONE the end of its task, and FETCH the fetch
+unfoldable pub reported : Decoded → List Event
+reported (refused k) = []
+reported (read c used) =
+    cond (eqb (byteOf c) doneByte) (map ended (operandsOf c)) (cond (eqb (byteOf c) fetchByte) (fetched ∷ []) [])
 
 -- what happens with one asking, as its bytes, its answer and its start list say
 abbrev pub happens : Asking → Answered → List Event
 happens a r =
     cond (accepts r)
-    (map ended (reported (decode (a .stream) (a .place))) ++ map started (take (r .answer .starts) (r .list))) []
+    (reported (decode (a .stream) (a .place)) ++ map started (take (r .answer .starts) (r .list))) []
 
 unfoldable pub events : State → Asking → List Event
 events s a = happens a (command s a)
@@ -69,11 +73,20 @@ unfoldable pub starts : List Event → List ℕ
 starts [] = []
 starts (started i ∷ later) = i ∷ starts later
 starts (ended i ∷ later) = starts later
+starts (fetched ∷ later) = starts later
 
 unfoldable pub ends : List Event → List ℕ
 ends [] = []
 ends (started i ∷ later) = ends later
 ends (ended i ∷ later) = i ∷ ends later
+ends (fetched ∷ later) = ends later
+
+-- the trolley was fetched
+unfoldable pub isFetched : List Event → Bool
+isFetched [] = false
+isFetched (started i ∷ later) = isFetched later
+isFetched (ended i ∷ later) = isFetched later
+isFetched (fetched ∷ later) = true
 
 -- "A day is an accepted BEGIN and all commands after it, until a next plan is opened or the list ends."
 abbrev pub beginsDay : Asking → Answered → Bool

@@ -10,7 +10,7 @@ use Rattle.rules.specs.Peak
 use Rattle.rules.specs.Phase
 use Rattle.rules.specs.Standing
 use Rattle.rules.specs.State.{State}
-use Rattle.rules.specs.Command.{Command, plan, task, activation, execution, begin, done}
+use Rattle.rules.specs.Command.{Command, plan, task, activation, execution, begin, done, fetch}
 
 -- "no 04 at all"
 abbrev pub noExecution : State → Bool
@@ -18,9 +18,9 @@ noExecution s = eqb (length (s .execution)) 0
 
 -- "PLAN is in turn in every phase but running .. STEP is in turn in steps .. 03 and 04 are in turn in orders, in any mix, n of
 -- each at most. BEGIN is in turn in orders once both orders have n entries .. DONE is in turn only in running"; "BEGIN with a full
--- activation order and no 04 at all shall now be in turn"
+-- activation order and no 04 at all shall now be in turn"; "PLAN is not in turn in ready", and FETCH only there
 unfoldable pub inTurn : State → Command → Bool
-inTurn s (plan n p bound) = not (eqb (s .phase) Phase.running)
+inTurn s (plan n p bound) = not (Phase.holdsTrays (s .phase))
 inTurn s (task parent work out) = eqb (s .phase) Phase.steps
 inTurn s (activation i) = eqb (s .phase) Phase.orders && ltb (length (s .activation)) (s .size)
 inTurn s (execution i) = eqb (s .phase) Phase.orders && ltb (length (s .execution)) (s .size)
@@ -29,6 +29,7 @@ inTurn s begin =
     && eqb (length (s .activation)) (s .size)
     && (eqb (length (s .execution)) (s .size) || noExecution s)
 inTurn s (done i) = eqb (s .phase) Phase.running
+inTurn s fetch = eqb (s .phase) Phase.ready
 
 -- a number from 1 to a limit
 abbrev pub within : ℕ → ℕ → Bool
@@ -43,6 +44,7 @@ inLimits s (activation i) = within i (s .size)
 inLimits s (execution i) = within i (s .size)
 inLimits s begin = true
 inLimits s (done i) = within i (s .size)
+inLimits s fetch = true
 
 -- the peak of the plan's activation order
 unfoldable pub peakOf : State → ℕ
@@ -67,6 +69,7 @@ ownGround s begin =
     (demand (Peak.ordered (at (s .parents)) (s .activation)) 8 (demand (leb (peakOf s) (s .chilled .bound)) 9 0))
 -- 6 "DONE for a step that isn't running"
 ownGround s (done i) = demand (eqb (at (s .standings) i) Standing.running) 6 0
+ownGround s fetch = 0
 
 unfoldable pub ground : State → Command → ℕ
 ground s c = demand (inTurn s c) 3 (demand (inLimits s c) 4 (ownGround s c))

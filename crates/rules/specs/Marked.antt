@@ -6,10 +6,10 @@ use Prim.Native.Nat.{ℕ}
 use lib.Dec.{eqb}
 use lib.ListN.{take, replicate}
 use Rattle.rules.specs.Lists.{at}
-use Rattle.rules.specs.State.{none, needs}
-use Rattle.rules.specs.Command.{Command, plan, task, activation, execution, begin, done, bytes}
+use Rattle.rules.specs.State.{State, none, needs}
+use Rattle.rules.specs.Command.{Command, plan, task, activation, execution, begin, done, fetch, bytes}
 use Rattle.rules.specs.Answer.{Asking, Answered, command}
-use Rattle.rules.specs.Question.{booked, inUse, fullnessOf, fullness}
+use Rattle.rules.specs.Question.{booked, inUse, fullnessOf, fullness, standing}
 use Rattle.rules.specs.Desk.{StepRecord, desk}
 use Rattle.rules.specs.Text.{ascii}
 use Rattle.rules.specs.Printer.{print}
@@ -51,7 +51,7 @@ tasksA bound = plan 3 2 bound ∷ task 3 5 1 ∷ task 3 5 1 ∷ task 0 0 1 ∷ [
 unfoldable pub planA : ℕ → List Command
 planA bound = tasksA bound ++ inOrder (1 ∷ 2 ∷ 3 ∷ [])
 
--- the bytes of plan A and of its day, in the order of the paper: "then 03 and then 04 for steps 1, 2, 3"
+-- the bytes of plan A and of its day, in the order of the paper: "then 03 and then 04 for steps 1, 2, 3"; and the fetch
 unfoldable pub dayA : List ℕ
 dayA =
     1 ∷ 3 ∷ 0 ∷ 2 ∷ 7 ∷ 0 ∷ 0 ∷ 0
@@ -64,7 +64,15 @@ dayA =
     ∷ 6 ∷ 1 ∷ 0
     ∷ 6 ∷ 2 ∷ 0
     ∷ 6 ∷ 3 ∷ 0
+    ∷ 7
     ∷ []
+
+-- plan A once its trolley stands loaded, and once it is fetched
+unfoldable pub readyA : List Command
+readyA = planA 7 ++ (begin ∷ done 1 ∷ done 2 ∷ done 3 ∷ [])
+
+unfoldable pub overA : List Command
+overA = readyA ++ (fetch ∷ [])
 
 -- plan A without an execution order
 unfoldable pub oneOrderA : ℕ → List ℕ → List Command
@@ -133,11 +141,19 @@ marked =
           ∷ startedBy (dayC (begin ∷ done 1 ∷ done 2 ∷ []) (done 3));
       stated = 5 ∷ 4 ∷ [];
     }
-    -- DONE 4: B = 0
+    -- DONE 4: "plan C ends with B = 3"
     ∷ record {
       given =
           dayC (begin ∷ done 1 ∷ done 2 ∷ done 3 ∷ []) (done 4) .answer .number
           ∷ booked (dayC (begin ∷ done 1 ∷ done 2 ∷ done 3 ∷ []) (done 4) .state)
+          ∷ [];
+      stated = 0 ∷ 3 ∷ [];
+    }
+    -- FETCH: B = 0
+    ∷ record {
+      given =
+          dayC (begin ∷ done 1 ∷ done 2 ∷ done 3 ∷ done 4 ∷ []) fetch .answer .number
+          ∷ booked (dayC (begin ∷ done 1 ∷ done 2 ∷ done 3 ∷ done 4 ∷ []) fetch .state)
           ∷ [];
       stated = 0 ∷ 0 ∷ [];
     }
@@ -175,6 +191,10 @@ grounds =
     ∷ record { given = told [] (reading (9 ∷ []) 0); stated = refusal 2 }
     -- 3 `05` as first command
     ∷ record { given = told [] (reading (5 ∷ []) 0); stated = refusal 3 }
+    -- "3 for FETCH outside ready and for DONE or PLAN in ready": `07` in orders, `06 03 00` and PLAN in ready
+    ∷ record { given = told (asks (planA 7)) (reading (7 ∷ []) 0); stated = refusal 3 }
+    ∷ record { given = told (asks readyA) (reading (6 ∷ 3 ∷ 0 ∷ []) 0); stated = refusal 3 }
+    ∷ record { given = told (asks readyA) (ask (plan 3 2 7)); stated = refusal 3 }
     -- 4 `01 00 00 02 07 00 00 00`
     ∷ record { given = told [] (reading (1 ∷ 0 ∷ 0 ∷ 2 ∷ 7 ∷ 0 ∷ 0 ∷ 0 ∷ []) 0); stated = refusal 4 }
     -- 5 `03 01 00 03 01 00` in plan A, the second command of the stream
@@ -224,6 +244,10 @@ rootsOnly = replicate 3 (record { parent = 0; work = 5; out = 1 })
 unfoldable pub surveyed : List StepRecord → List ℕ → List ℕ
 surveyed records order = desk records order .number ∷ desk records order .peak ∷ []
 
+-- the phase of a plan, what lies in the cold room, and the standing
+unfoldable pub inRoom : State → List ℕ
+inRoom s = s .phase ∷ booked s ∷ inUse s ∷ fullness s ∷ standing s
+
 -- sentences of the paper that have no case of their own there
 unfoldable pub sentences : List Row
 sentences =
@@ -271,6 +295,28 @@ sentences =
     -- one step: no entry of 04 will do as well as one
     ∷ record { given = told (asks (plan 1 1 0 ∷ task 0 0 0 ∷ activation 1 ∷ [])) (ask begin); stated = 0 ∷ 1 ∷ 1 ∷ 0 ∷ 0 ∷ [] }
     ∷ record { given = told (asks single) (ask begin); stated = 0 ∷ 1 ∷ 1 ∷ 0 ∷ 0 ∷ [] }
+    -- "When the root ends, its out remains booked and in use, and the phase is a new one, ready": the phase, booked trays, trays in use
+    -- and fullness, and the standing, which is "the same .. as over"
+    ∷ record { given = inRoom (after none (asks readyA)); stated = 5 ∷ 1 ∷ 1 ∷ 142 ∷ 0 ∷ 0 ∷ 0 ∷ 3 ∷ [] }
+    -- FETCH "frees it and leads to over"
+    ∷ record { given = inRoom (after none (asks overA)); stated = 4 ∷ 0 ∷ 0 ∷ 0 ∷ 0 ∷ 0 ∷ 0 ∷ 3 ∷ [] }
+    -- it uses one byte, and every other count is 0
+    ∷ record { given = told (asks readyA) (ask fetch); stated = 0 ∷ 1 ∷ 0 ∷ 0 ∷ 0 ∷ [] }
+    -- in ready as elsewhere 10 comes first, a command that is cut is 1 and an unknown byte 2, and 3 comes ahead of 4
+    ∷ record { given = told (asks readyA) (short (bytes fetch)); stated = refusal 10 }
+    ∷ record { given = told (asks readyA) (reading (1 ∷ 3 ∷ 0 ∷ []) 0); stated = refusal 1 }
+    ∷ record { given = told (asks readyA) (reading (8 ∷ []) 0); stated = refusal 2 }
+    ∷ record { given = told (asks readyA) (ask (plan 0 2 7)); stated = refusal 3 }
+    -- "3 for FETCH outside ready": in empty, steps, running and over
+    ∷ record { given = told [] (ask fetch); stated = refusal 3 }
+    ∷ record { given = told (asks (plan 3 2 7 ∷ [])) (ask fetch); stated = refusal 3 }
+    ∷ record { given = told (asks (planA 7 ++ (begin ∷ done 1 ∷ done 2 ∷ []))) (ask fetch); stated = refusal 3 }
+    ∷ record { given = told (asks overA) (ask fetch); stated = refusal 3 }
+    -- in over PLAN is in turn
+    ∷ record { given = told (asks overA) (ask (plan 3 2 7)); stated = 0 ∷ 8 ∷ 0 ∷ 0 ∷ 0 ∷ [] }
+    -- a root without an out goes to ready too, and is fetched
+    ∷ record { given = inRoom (after none (asks (single ++ (begin ∷ done 1 ∷ [])))); stated = 5 ∷ 0 ∷ 0 ∷ 0 ∷ 0 ∷ 0 ∷ 0 ∷ 1 ∷ [] }
+    ∷ record { given = told (asks (single ++ (begin ∷ done 1 ∷ []))) (ask fetch); stated = 0 ∷ 1 ∷ 0 ∷ 0 ∷ 0 ∷ [] }
     ∷ []
 
 -- the two lists of a row are the same

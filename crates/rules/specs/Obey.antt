@@ -4,11 +4,11 @@ use mathlib.Core.List.{List, [], _∷_, _++_}
 use Prim.Native.Nat.{ℕ, suc}
 use lib.Dec.{eqb}
 use lib.ListN.{length, set, replicate}
-use Rattle.rules.specs.Lists.{at}
+use Rattle.rules.specs.Lists.{at, first}
 use Rattle.rules.specs.Phase
 use Rattle.rules.specs.Standing
 use Rattle.rules.specs.State.{State, needs}
-use Rattle.rules.specs.Command.{Command, plan, task, activation, execution, begin, done}
+use Rattle.rules.specs.Command.{Command, plan, task, activation, execution, begin, done, fetch}
 use Rattle.rules.specs.Grounds.{noExecution, peakOf}
 use Rattle.rules.specs.Booking.{Books, Climbed, activate, starts, start, free, dispatch}
 
@@ -150,9 +150,17 @@ shared s j =
 unfoldable pub ended : State → ℕ → Books
 ended s j = record { standings = endedStandings s j; booked = shared s j .share .booked }
 
--- "when the root ends the phase is over"
+-- when the root ends "the phase is a new one, ready"
 unfoldable pub phaseAfter : State → ℕ → ℕ
-phaseAfter s j = cond (eqb (at (s .parents) j) 0) Phase.over Phase.running
+phaseAfter s j = cond (eqb (at (s .parents) j) 0) Phase.ready Phase.running
+
+-- the root: the step without a parent
+unfoldable pub rootOf : State → ℕ
+rootOf s = first (λ i. eqb (at (s .parents) i) 0) (s .activation)
+
+-- the plan once its trolley is fetched: FETCH "frees it", the out of the root, "and leads to over"
+unfoldable pub unloaded : State → State
+unloaded s = withBooks s Phase.over (s .standings) (set (s .chilled .booked) (rootOf s) 0)
 
 -- a command that starts nothing
 abbrev pub plain : State → Outcome
@@ -166,3 +174,4 @@ obey s (activation i) = plain (withOrders s (s .activation ++ (i ∷ [])) (s .ex
 obey s (execution i) = plain (withOrders s (s .activation) (s .execution ++ (i ∷ [])))
 obey s begin = proceed (completed s) Phase.running (fresh (s .size)) (peakOf s) 0
 obey s (done j) = proceed s (phaseAfter s j) (ended s j) 0 (length (shared s j .offered))
+obey s fetch = plain (unloaded s)

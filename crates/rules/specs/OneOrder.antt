@@ -39,7 +39,7 @@ unfoldable pub beginBefore : State → List ℕ → Answered
 beginBefore s list =
     cond (eqb (groundBefore s) 0) (accept (outcomeBefore s) (length (bytes begin)) list) (refuse (groundBefore s) s list)
 
--- all else was answered as it is now
+-- BEGIN as it was before request 03, and all else as it is now
 unfoldable pub commandBefore : State → Asking → Answered
 commandBefore s a =
     cond (isBegin (decode (a .stream) (a .place)) && leb leastStarts (length (a .list))) (beginBefore s (a .list)) (command s a)

@@ -1,5 +1,5 @@
 -- The day printer, turn by turn. "The program reads commands from standard input and prints one line per accepted BEGIN or DONE, and
--- on a refusal `refused K at O` (number, byte offset of the command counted from 0), then stops."
+-- on a refusal `refused K at O` (number, byte offset of the command counted from 0), then stops"; "FETCH prints `fetch booked=0`".
 use mathlib.Core.Path.{_≡_}
 use mathlib.Core.Bool.{Bool, true, false, cond}
 use mathlib.Core.List.{List, [], _∷_, _++_}
@@ -34,7 +34,7 @@ pub record Turn : Type 0 where
 unfoldable pub idle : ℕ → State → List ℕ → Turn
 idle verdict s list = record { verdict = verdict; used = 0; text = []; state = s; list = list }
 
--- "one line per accepted BEGIN or DONE, and on a refusal `refused K at O`"
+-- "one line per accepted BEGIN or DONE", and FETCH, "and on a refusal `refused K at O`"
 unfoldable pub said : Decoded → ℕ → Answered → List ℕ
 said d offset a = cond (eqb (a .answer .number) 0) (acceptedLine d a) (refusedLine (a .answer .number) offset)
 
@@ -158,7 +158,7 @@ printFrom (suc turns) s stream place =
 unfoldable pub print : List ℕ → List ℕ
 print stream = printFrom (length stream) none stream 0
 
--- what is printed of askings, each where it stands in the input: "one line per accepted BEGIN or DONE, and on a refusal `refused K at O`"
+-- what is printed of askings, each where it stands in the input
 unfoldable pub saidOf : State → List Asking → List ℕ
 saidOf s [] = []
 saidOf s (a ∷ later) =

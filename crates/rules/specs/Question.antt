@@ -1,5 +1,5 @@
 -- What may be asked of a plan at any time.
-use mathlib.Core.Bool.{Bool, cond, _||_}
+use mathlib.Core.Bool.{Bool, false, cond, _||_}
 use mathlib.Core.List.{List, [], _∷_}
 use Prim.Native.Nat.{ℕ, _*_, _/_}
 use lib.Dec.{eqb, leb}
@@ -15,26 +15,28 @@ use Rattle.rules.specs.Booking.{total}
 unfoldable pub isRunning : State → Bool
 isRunning s = eqb (s .phase) Phase.running
 
--- "Booked trays, trays in use and fullness can be asked of the plan at any time, and are 0 outside running."
+-- "Booked trays, trays in use and fullness can be asked of the plan at any time, and are 0 outside running"; they "are answered in
+-- ready as in running"
 unfoldable pub booked : State → ℕ
-booked s = only (isRunning s) (total (s .size) (at (s .chilled .booked)))
+booked s = only (Phase.holdsTrays (s .phase)) (total (s .size) (at (s .chilled .booked)))
 
+-- where it is answered, the trolley is not fetched yet
 unfoldable pub inUse : State → ℕ
 inUse s =
-    only (isRunning s)
+    only (Phase.holdsTrays (s .phase))
     (Need.inUse (s .size) (at (s .parents)) (at (s .chilled .works)) (at (s .chilled .outs))
     (λ i. eqb (at (s .standings) i) Standing.finished)
-    (λ i. eqb (at (s .standings) i) Standing.running || eqb (at (s .standings) i) Standing.finished))
+    (λ i. eqb (at (s .standings) i) Standing.running || eqb (at (s .standings) i) Standing.finished) false)
 
 -- "Fullness of b in M, both 32-bit: 0 if M is 0; 1,000 if b is at least M; else 1,000 times b divided by M, rounded down"
 unfoldable pub fullnessOf : ℕ → ℕ → ℕ
 fullnessOf b bound = cond (eqb bound 0) 0 (cond (leb bound b) 1000 (1000 * b / bound))
 
 unfoldable pub fullness : State → ℕ
-fullness s = only (isRunning s) (fullnessOf (booked s) (s .chilled .bound))
+fullness s = only (Phase.holdsTrays (s .phase)) (fullnessOf (booked s) (s .chilled .bound))
 
--- "four counts, waiting, booked, running, ended; four zeros outside running and over"
+-- "four counts, waiting, booked, running, ended; four zeros outside running and over"; "ready shows the same standing as over"
 unfoldable pub standing : State → List ℕ
 standing s =
-    cond (isRunning s || eqb (s .phase) Phase.over) (Standing.counts (s .size) (at (s .standings)))
+    cond (Phase.holdsTrays (s .phase) || eqb (s .phase) Phase.over) (Standing.counts (s .size) (at (s .standings)))
     (0 ∷ 0 ∷ 0 ∷ 0 ∷ [])

@@ -7,7 +7,7 @@ use Prim.Native.String
 use Prim.Native.String.{String}
 use lib.Dec.{ltb}
 use lib.ListN.{take}
-use Rattle.rules.specs.Command.{Command, plan, task, activation, execution, begin, done, Decoded, refused, read}
+use Rattle.rules.specs.Command.{Command, plan, task, activation, execution, begin, done, fetch, Decoded, refused, read}
 use Rattle.rules.specs.Answer.{Answered}
 use Rattle.rules.specs.Question.{booked, inUse, fullness}
 
@@ -58,6 +58,10 @@ unfoldable pub doneLine : ℕ → ℕ → ℕ → ℕ → ℕ → List ℕ → L
 doneLine j offers total used full started =
     ascii "done " ++ decimal j ++ ascii " offers=" ++ decimal offers ++ figures total used full started
 
+-- "FETCH prints `fetch booked=0`"
+unfoldable pub fetchLine : ℕ → List ℕ
+fetchLine total = ascii "fetch booked=" ++ decimal total ++ ascii "\n"
+
 -- "on a refusal `refused K at O` (number, byte offset of the command counted from 0)"
 unfoldable pub refusedLine : ℕ → ℕ → List ℕ
 refusedLine k offset = ascii "refused " ++ decimal k ++ ascii " at " ++ decimal offset ++ ascii "\n"
@@ -74,6 +78,7 @@ line begin a =
 line (done j) a =
     doneLine j (a .answer .offers) (booked (a .state)) (inUse (a .state)) (fullness (a .state))
     (take (a .answer .starts) (a .list))
+line fetch a = fetchLine (booked (a .state))
 
 -- the line of what was decoded and accepted
 unfoldable pub acceptedLine : Decoded → Answered → List ℕ

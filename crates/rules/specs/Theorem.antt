@@ -2,7 +2,7 @@
 use mathlib.Core.Path.{_≡_}
 use mathlib.Core.Bool.{Bool, true, false, not, _&&_}
 use mathlib.Core.Logic.{_↔_}
-use mathlib.Core.List.{List, _∷_, _++_}
+use mathlib.Core.List.{List, [], _∷_, _++_}
 use Prim.Native.Nat.{ℕ, _≤_, _<_}
 use lib.ListN.{length, drop}
 use Rattle.rules.specs.Limits.{leastStarts}
@@ -13,26 +13,28 @@ use Rattle.rules.specs.Peak.{EachOnce, ordered}
 use Rattle.rules.specs.Phase
 use Rattle.rules.specs.Standing
 use Rattle.rules.specs.State.{Store, State, none, needsIn}
+use Rattle.rules.specs.Command
+use Rattle.rules.specs.Grounds.{ground}
 use Rattle.rules.specs.Booking.{total}
 use Rattle.rules.specs.Obey.{completed}
 use Rattle.rules.specs.Answer.{Asking, refuse, command}
 use Rattle.rules.specs.Question
-use Rattle.rules.specs.Day.{Event, started, ended, starts, ends, log, after, accepted, acceptedOnly, opensDay, nextPlan}
+use Rattle.rules.specs.Day.{Event, started, ended, fetched, starts, ends, isFetched, log, after, accepted, acceptedOnly, opensDay, nextPlan}
 
 -- a task has started and not ended, by what happened
 unfoldable pub runs : List Event → ℕ → Bool
 runs happened i = mem i (starts happened) && not (mem i (ends happened))
 
--- trays in use in a store, "reckoned from the starts and ends alone"
+-- trays in use in a store, "reckoned from the starts, the ends and the fetch"
 unfoldable pub usedBy : State → Store → List Event → ℕ
 usedBy s store happened =
     Need.inUse (s .size) (at (s .parents)) (at (store .works)) (at (store .outs))
     (λ i. mem i (ends happened))
-    (λ i. mem i (starts happened))
+    (λ i. mem i (starts happened)) (isFetched happened)
 
 -- what is promised of one store in a day: `booked` and `inUse` are what the plan answers for it
 pub record StoreHolds (s : State) (happened : List Event) (store : Store) (booked inUse : ℕ) : Type 0 where
-  -- trays in use are what the starts and ends give, and trays booked "the sum of all booked trays"
+  -- trays in use are what the starts, the ends and the fetch give, and trays booked "the sum of all booked trays"
   pub used : inUse ≡ usedBy s store happened
   pub summed : booked ≡ total (s .size) (at (store .booked))
   -- "trays in use never exceed trays booked, nor booked trays the cold room's places"
@@ -40,8 +42,16 @@ pub record StoreHolds (s : State) (happened : List Event) (store : Store) (booke
   pub within : booked ≤ store .bound
   -- each that runs holds exactly its need
   pub exact : (i : ℕ) → Task (s .size) i → runs happened i ≡ true → at (store .booked) i ≡ needsIn s store i
+  -- "When the root ends, its out remains booked and in use": nothing else is, and once it is fetched nothing at all
+  pub remains :
+      s .phase ≡ Phase.ready
+      → (r : ℕ)
+      → Task (s .size) r
+      → at (s .parents) r ≡ 0
+      → (booked ≡ at (store .outs) r) × (inUse ≡ at (store .outs) r)
+  pub unloaded : s .phase ≡ Phase.over → (booked ≡ 0) × (inUse ≡ 0)
 
--- what is promised of a day: s is the plan as it stands, and `happened` the day's starts and ends so far, in order. The day's
+-- what is promised of a day: s is the plan as it stands, and `happened` the day's starts, ends and fetch so far, in order. The day's
 -- reports that were accepted are its ends
 pub record DayHolds (s : State) (happened : List Event) : Type 0 where
   -- what starts and what ends is a step of the plan
@@ -71,12 +81,22 @@ pub record DayHolds (s : State) (happened : List Event) : Type 0 where
       → (i : ℕ)
       → Task (s .size) i
       → (mem i (starts happened) ≡ true) × (mem i (ends happened) ≡ true)
-  -- the phase is running until then, and over from then on
+  -- at most one fetch, and not before the n-th report
+  pub fetch :
+      (earlier later : List Event)
+      → happened ≡ earlier ++ fetched ∷ later
+      → (isFetched earlier ≡ false) × (length (ends earlier) ≡ s .size)
+  -- FETCH is taken in ready, and only there
+  pub fetching : (ground s Command.fetch ≡ 0) ↔ (s .phase ≡ Phase.ready)
+  -- the phase is running until the n-th report, ready from then to the fetch, and over from then on
   pub running : (s .phase ≡ Phase.running) ↔ (length (ends happened) < s .size)
-  pub over : (s .phase ≡ Phase.over) ↔ (length (ends happened) ≡ s .size)
+  pub ready : (s .phase ≡ Phase.ready) ↔ ((length (ends happened) ≡ s .size) × (isFetched happened ≡ false))
+  pub over : (s .phase ≡ Phase.over) ↔ (isFetched happened ≡ true)
   -- what the plan answers for running and for ended steps is what the starts and ends give
   pub countRunning : at (Question.standing s) Standing.running ≡ countTo (runs happened) (s .size)
   pub countEnded : at (Question.standing s) Standing.finished ≡ length (ends happened)
+  -- "ready shows the same standing as over": all have ended
+  pub allEnded : length (ends happened) ≡ s .size → Question.standing s ≡ 0 ∷ 0 ∷ 0 ∷ s .size ∷ []
   -- no more tasks run than there are processors
   pub staffed : countTo (runs happened) (s .size) ≤ s .processors
   -- all that is promised of a store holds of the cold room

@@ -21,14 +21,14 @@ use Rattle.rules.proofs.Shape.{Moved}
 use Rattle.rules.proofs.Ranks.{tree-of}
 use Rattle.rules.proofs.Entries.{at-other, moved-by-set}
 use Rattle.rules.proofs.Starts.{Startable, fed-children, ready-parts, start-count, start-good, start-kind}
-use Rattle.rules.proofs.Usage.{in-use-within}
+use Rattle.rules.proofs.Usage.{in-process-within}
 use Rattle.words.specs.Layout.{row, rows, words, standing, chilled}
 use Rattle.words.specs.Contents.{Contents, contents, withCell, storeWithCell, withHead, storeWithHead, withReady}
 use Rattle.words.specs.Marks.{Marks, changed, Changed}
 use Rattle.words.proofs.Contents.{contents-cell, contents-head}
 use Rattle.ready.proofs.Marks.{marks-kept}
 use Rattle.store.specs.Rows.{rowsOf, books, activationOf, executionOf}
-use Rattle.store.specs.Cached.{isReadyAt, usedBy}
+use Rattle.store.specs.Cached.{isReadyAt, inProcessBy}
 use Rattle.store.specs.Kept.{Kept, SamePlan}
 use Rattle.store.specs.Store.{AtTask, withStore, withHoldings, loaded}
 use Rattle.store.proofs.Rows.{rows-set, zero-set}
@@ -140,7 +140,7 @@ module _ {place : ℕ} {c : Contents} (may : MayRun place c) where
 
   -- what is in use
   used-after :
-      usedBy (c .size) (at (c .parents)) (at (c .chilled .works)) (at (c .chilled .outs)) (at after)
+      inProcessBy (c .size) (at (c .parents)) (at (c .chilled .works)) (at (c .chilled .outs)) (at after)
       ≡ c .chilled .used + (at (c .chilled .works) x + at (c .chilled .outs) x)
   used-after =
       used-started (c .size) (at (c .parents)) (at (c .chilled .works)) (at (c .chilled .outs))
@@ -154,7 +154,7 @@ module _ {place : ℕ} {c : Contents} (may : MayRun place c) where
       fun-ext (may .kept .cached .store .needed)
       in
       let used =
-      in-use-within (c .size) (at (c .parents)) (rankIn (activationOf c))
+      in-process-within (c .size) (at (c .parents)) (rankIn (activationOf c))
       (tree-of (c .size) (at (c .parents)) (activationOf c) (inv .valid) (λ i _. inv .parents i)) (at (c .chilled .works))
       (at (c .chilled .outs)) (at after) (at (books c .booked)) (good-after .shape)
       (subst

@@ -54,19 +54,9 @@ grown-length l q v =
 
 -- one child fewer
 pub fewer-at :
-    (l : List ℕ) (q i : ℕ)
-    → q < length l
-    → 1 ≤ i
-    → (q ≡ i → 1 ≤ at l i)
-    → at (fewer l q) i + only (eqb q i) 1 ≡ at l i
-fewer-at l q i h low some =
+    (l : List ℕ) (q i : ℕ) → q < length l → (q ≡ i → 1 ≤ at l i) → at (fewer l q) i + only (eqb q i) 1 ≡ at l i
+fewer-at l q i h some =
     ⊎-elim
-    (λ z.
-    ap (λ (b : Bool). at (cond b l (set l q (at l q - 1))) i + only (eqb q i) 1) (eq-eqb q 0 z)
-    ∙ (let none = only-false (eqb q i) 1 (ne-eqb q i (λ e. omega arith)) in omega arith))
-    (λ d.
-    ap (λ (b : Bool). at (cond b l (set l q (at l q - 1))) i + only (eqb q i) 1) (ne-eqb q 0 d)
-    ∙ ⊎-elim
     (λ e.
     let one = only-true (eqb q i) 1 (eq-eqb q i e) in
     let s : at (set l q (at l q - 1)) i ≡ at l q - 1 =
@@ -79,8 +69,7 @@ fewer-at l q i h low some =
     let none = only-false (eqb q i) 1 (ne-eqb q i v) in
     let s = getD-set-other l q i (at l q - 1) 0 (λ e. v (sym e)) in
     omega arith)
-    (same-or-not q i))
-    (same-or-not q 0)
+    (same-or-not q i)
 
 pub grown-zero : (n : ℕ) (l : List ℕ) (q v : ℕ) → q ≤ n → ZeroPast n l → ZeroPast n (grown l q v)
 grown-zero n l q v h zero = by-test (eqb q 0)
@@ -88,10 +77,3 @@ grown-zero n l q v h zero = by-test (eqb q 0)
     by-test : (b : Bool) → ZeroPast n (cond b l (set l q (at l q + v)))
     by-test true = zero
     by-test false = zero-set n l q (at l q + v) h zero
-
-pub fewer-zero : (n : ℕ) (l : List ℕ) (q : ℕ) → q ≤ n → ZeroPast n l → ZeroPast n (fewer l q)
-fewer-zero n l q h zero = by-test (eqb q 0)
-  where
-    by-test : (b : Bool) → ZeroPast n (cond b l (set l q (at l q - 1)))
-    by-test true = zero
-    by-test false = zero-set n l q (at l q - 1) h zero

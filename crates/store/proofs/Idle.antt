@@ -7,12 +7,12 @@ use native.Mathlib.Omega.{arith}
 use lib.Dec.{eqb, leb}
 use borrow.Author.Tests.{ne-eqb, lt-leb}
 use Rattle.rules.specs.Sums.{Task, only, countTo}
-use Rattle.rules.specs.Need.{need, inUse}
+use Rattle.rules.specs.Need.{need, inProcess}
 use Rattle.rules.specs.Standing.{activated, running, finished, count}
 use Rattle.rules.proofs.Sums.{sum-cong}
 use Rattle.rules.proofs.Peaks.{resident-cong}
 use Rattle.rules.proofs.Usage.{hasEnded, hasBegun}
-use Rattle.store.specs.Cached.{usedBy}
+use Rattle.store.specs.Cached.{inProcessBy}
 
 abbrev pub Idle : (n : ℕ) (st st′ : ℕ → ℕ) → Type 0
 Idle n st st′ = (i : ℕ) → Task n i → (st′ i ≡ st i) ⊎ ((st i ≤ activated) × (st′ i ≤ activated))
@@ -42,8 +42,8 @@ module _ (n : ℕ) (st st′ : ℕ → ℕ) (idle : Idle n st st′) where
   pub used-same :
       (par work out : ℕ → ℕ)
       → ((i : ℕ) → Task n i → par i ≤ n)
-      → usedBy n par work out st′ ≡ usedBy n par work out st
-  unfolding inUse
+      → inProcessBy n par work out st′ ≡ inProcessBy n par work out st
+  unfolding inProcess
   used-same par work out within =
       ap₂ (λ (a b : ℕ). a + b)
       (sum-cong (λ i. only (hasBegun st′ i && not (hasEnded st′ i)) (need n par work out i))

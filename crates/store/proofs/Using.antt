@@ -7,14 +7,14 @@ use native.Mathlib.Omega.{arith}
 use lib.Dec.{eqb, leb}
 use borrow.Author.Tests.{eq-eqb, ne-eqb, le-leb, lt-leb}
 use Rattle.rules.specs.Sums.{Task, only, sumTo}
-use Rattle.rules.specs.Need.{need, inUse, children}
+use Rattle.rules.specs.Need.{need, inProcess, children}
 use Rattle.rules.specs.Standing.{activated, running, finished}
 use Rattle.rules.proofs.Tests.{same-or-not, eqb-sym}
-use Rattle.rules.proofs.Sums.{sum-cong, term-le, sum-add, sum-change, sum-single, sum-zero, only-true, only-false, only-add, only-zero}
+use Rattle.rules.proofs.Sums.{sum-cong, term-le, sum-add, sum-change, sum-single, only-true, only-false, only-add, only-zero}
 use Rattle.rules.proofs.Children.{children-cong, children-change, resident-by-parent}
 use Rattle.rules.proofs.Shape.{Moved}
 use Rattle.rules.proofs.Usage.{hasEnded, hasBegun}
-use Rattle.store.specs.Cached.{usedBy}
+use Rattle.store.specs.Cached.{inProcessBy}
 
 -- what is in use on account of task i: its need while it runs, or the outs of its ended children until it starts
 unfoldable pub charge : (n : ℕ) (par work out st : ℕ → ℕ) → ℕ → ℕ
@@ -23,8 +23,8 @@ charge n par work out st i =
     + only (not (hasBegun st i)) (children n par (λ c. only (hasEnded st c) (out c)) i)
 
 module _ (n : ℕ) (par work out : ℕ → ℕ) (within : (i : ℕ) → Task n i → par i ≤ n) where
-  pub used-is : (st : ℕ → ℕ) → usedBy n par work out st ≡ sumTo (charge n par work out st) n
-  unfolding inUse charge
+  pub used-is : (st : ℕ → ℕ) → inProcessBy n par work out st ≡ sumTo (charge n par work out st) n
+  unfolding inProcess charge
   used-is st =
       let resides = resident-by-parent n par out (hasEnded st) (hasBegun st) within in
       let parts =
@@ -34,7 +34,7 @@ module _ (n : ℕ) (par work out : ℕ → ℕ) (within : (i : ℕ) → Task n i
       omega arith
 
   -- a running task's need is in use
-  pub used-holds : (st : ℕ → ℕ) (j : ℕ) → Task n j → st j ≡ running → need n par work out j ≤ usedBy n par work out st
+  pub used-holds : (st : ℕ → ℕ) (j : ℕ) → Task n j → st j ≡ running → need n par work out j ≤ inProcessBy n par work out st
   unfolding charge
   used-holds st j t runs =
       let begun : hasBegun st j ≡ true = le-leb running (st j) (omega arith) in
@@ -54,7 +54,7 @@ module _ (n : ℕ) (par work out : ℕ → ℕ) (within : (i : ℕ) → Task n i
       → st x ≡ activated
       → ((c : ℕ) → Task n c → par c ≡ x → st c ≡ finished)
       → Moved n st st′ x running
-      → usedBy n par work out st′ ≡ usedBy n par work out st + (work x + out x)
+      → inProcessBy n par work out st′ ≡ inProcessBy n par work out st + (work x + out x)
   unfolding charge need
   used-started st st′ x t booked fed moved =
       let same-ended : (c : ℕ) → Task n c → hasEnded st′ c ≡ hasEnded st c =
@@ -101,17 +101,17 @@ module _ (n : ℕ) (par work out : ℕ → ℕ) (within : (i : ℕ) → Task n i
       in
       used-is st′ ∙ sum ∙ ap (λ (v : ℕ). v + (work x + out x)) (sym (used-is st))
 
-  -- a running task ends, whose parent has not begun
+  -- a running task with a parent ends, and the parent has not begun
   pub used-ended :
       (st st′ : ℕ → ℕ) (j : ℕ)
       → Task n j
       → st j ≡ running
+      → (par j ≡ 0 → ⊥)
       → ((i : ℕ) → Task n i → par j ≡ i → st i ≤ activated)
       → Moved n st st′ j finished
-      → usedBy n par work out st′ + need n par work out j
-      ≡ usedBy n par work out st + only (not (eqb (par j) 0)) (out j)
+      → inProcessBy n par work out st′ + need n par work out j ≡ inProcessBy n par work out st + out j
   unfolding charge
-  used-ended st st′ j t runs idle moved =
+  used-ended st st′ j t runs higher idle moved =
       let new = moved .there in
       let mid : ℕ → ℕ = λ i. charge n par work out st i + only (eqb (par j) i) (out j) in
       let arrives : (i : ℕ) → children n par (λ c. only (hasEnded st′ c) (out c)) i ≡ children n par (λ c. only (hasEnded st c) (out c)) i + only (eqb (par j) i) (out j) =
@@ -164,19 +164,11 @@ module _ (n : ℕ) (par work out : ℕ → ℕ) (within : (i : ℕ) → Task n i
       omega arith)
       in
       let parts = sum-add (charge n par work out st) (λ i. only (eqb (par j) i) (out j)) n in
-      let one : sumTo (λ i. only (eqb (par j) i) (out j)) n ≡ only (not (eqb (par j) 0)) (out j) =
-      ⊎-elim
-      (λ z.
-      sum-zero (λ i. only (eqb (par j) i) (out j)) n
-      (λ i u. only-false (eqb (par j) i) (out j) (ne-eqb (par j) i (λ e. omega arith)))
-      ∙ sym (ap (λ (b : Bool). only (not b) (out j)) (eq-eqb (par j) 0 z)))
-      (λ d.
-      let w = within j t in
+      let one : sumTo (λ i. only (eqb (par j) i) (out j)) n ≡ out j =
+      (let w = within j t in
       sum-cong (λ i. only (eqb (par j) i) (out j)) (λ i. only (eqb i (par j)) (out j)) n
       (λ i _. ap (λ (b : Bool). only b (out j)) (eqb-sym (par j) i))
-      ∙ sum-single (λ _. out j) n (par j) (omega arith)
-      ∙ sym (ap (λ (b : Bool). only (not b) (out j)) (ne-eqb (par j) 0 d)))
-      (same-or-not (par j) 0)
+      ∙ sum-single (λ _. out j) n (par j) (omega arith))
       in
       let before = used-is st in
       let after = used-is st′ in

@@ -8,7 +8,7 @@ use lib.Dec.{eqb, leb, ltb}
 use lib.ListN.{length}
 use Rattle.rules.specs.Sums.{Task, only, sumTo, countTo}
 use Rattle.rules.specs.Lists.{at, mem, every, distinct}
-use Rattle.rules.specs.Need.{need, inUse}
+use Rattle.rules.specs.Need.{need, inProcess}
 use Rattle.rules.specs.Grounds.{within}
 use Rattle.rules.specs.Standing.{waiting, running, finished, count}
 use Rattle.rules.specs.Booking.{Books, chain, figure, total, isUnendedChild, ready}
@@ -59,16 +59,16 @@ pub record Placed (n : ℕ) (execution : List ℕ) (place : ℕ → ℕ) : Type 
   pub whole : length execution ≡ n
   pub placed : (e : ℕ) → e < n → place (at execution e) ≡ e
 
--- what is in use, by the standings
-abbrev pub usedBy : (n : ℕ) (par work out st : ℕ → ℕ) → ℕ
-usedBy n par work out st = inUse n par work out (λ i. eqb (st i) finished) (λ i. leb running (st i))
+-- what is in use by the standings, as long as the root has not ended
+abbrev pub inProcessBy : (n : ℕ) (par work out st : ℕ → ℕ) → ℕ
+inProcessBy n par work out st = inProcess n par work out (λ i. eqb (st i) finished) (λ i. leb running (st i))
 
--- all that is kept of a store
+-- all that is kept of a store while the root has not ended
 pub record StoreCached (n : ℕ) (par : ℕ → ℕ) (k : Books) (s : StoreContents) : Type 0 where
   pub needed : (i : ℕ) → at (s .needs) i ≡ need n par (at (s .works)) (at (s .outs)) i
   pub figured : Figured n par k (s .figures)
   pub totals : s .total ≡ total n (at (k .booked))
-  pub uses : s .used ≡ usedBy n par (at (s .works)) (at (s .outs)) (at (k .standings))
+  pub uses : s .used ≡ inProcessBy n par (at (s .works)) (at (s .outs)) (at (k .standings))
   pub booked-zero : ZeroPast n (s .booked)
   pub figures-zero : ZeroPast n (s .figures)
 

@@ -1,11 +1,10 @@
 -- What the functions of one store leave of it.
 use mathlib.Core.Path.{_≡_}
-use mathlib.Core.Bool.{not, cond}
+use mathlib.Core.Bool.{cond}
 use mathlib.Core.List.{List}
 use Prim.Native.Nat.{ℕ, _+_, _-_, _*_, _^_, _≤_, _<_}
 use lib.Dec.{eqb}
 use lib.ListN.{set}
-use Rattle.rules.specs.Sums.{only}
 use Rattle.rules.specs.Lists.{at}
 use Rattle.words.specs.Layout.{words, row, rows, chilled}
 use Rattle.words.specs.Contents.{StoreContents, Contents}
@@ -54,9 +53,9 @@ withHoldings total used booked figures s =
 abbrev pub grown : List ℕ → ℕ → ℕ → List ℕ
 grown l i more = cond (eqb i 0) l (set l i (at l i + more))
 
--- one fewer, where there is a task to have it
+-- one fewer
 abbrev pub fewer : List ℕ → ℕ → List ℕ
-fewer l i = cond (eqb i 0) l (set l i (at l i - 1))
+fewer l i = set l i (at l i - 1)
 
 -- a task x of a store, by the offset of the store
 pub record AtTask (store x : ℕ) (c : Contents) : Type 0 where
@@ -105,31 +104,30 @@ pub record MayPass (store x r : ℕ) (c : Contents) : Type 0 where
 unfoldable pub rested : (x r : ℕ) → StoreContents → StoreContents
 rested x r s = withHoldings (s .total) (s .used) (s .booked) (set (s .figures) x (at (s .figures) x - r)) s
 
--- what the parent keeps of an ended task: its out, where there is a parent
-abbrev pub keptOut : ℕ → ℕ → ℕ
-keptOut parent out = only (not (eqb parent 0)) out
-
 -- "its booked trays, call them R, are taken from it. If it has a parent, the parent is given j's out": what is in use falls by its need
 -- and rises by its out
 unfoldable pub released : (parent x : ℕ) → StoreContents → StoreContents
 released parent x s =
-    withHoldings (s .total) (s .used - at (s .needs) x + keptOut parent (at (s .outs) x))
-    (grown (set (s .booked) x 0) parent (keptOut parent (at (s .outs) x))) (set (s .figures) x 0) s
+    withHoldings (s .total) (s .used - at (s .needs) x + at (s .outs) x)
+    (grown (set (s .booked) x 0) parent (at (s .outs) x)) (set (s .figures) x 0) s
 
 pub record MayRelease (store x : ℕ) (c : Contents) : Type 0 where
   pub at-task : AtTask store x c
   pub parent-in : at (c .parents) x < rows
-  pub out-held : keptOut (at (c .parents) x) (at (c .chilled .outs) x) ≤ at (c .chilled .booked) x
-  pub parent-fits :
-      (at (c .parents) x ≡ 0 → ⊥)
-      → at (set (c .chilled .booked) x 0) (at (c .parents) x) + at (c .chilled .outs) x < 2 ^ 32
+  pub out-held : at (c .chilled .outs) x ≤ at (c .chilled .booked) x
+  pub higher : at (c .parents) x ≡ 0 → ⊥
+  pub parent-fits : at (set (c .chilled .booked) x 0) (at (c .parents) x) + at (c .chilled .outs) x < 2 ^ 32
   pub used-has : at (c .chilled .needs) x ≤ c .chilled .used
   pub used-fits :
-      c .chilled .used - at (c .chilled .needs) x + keptOut (at (c .parents) x) (at (c .chilled .outs) x) < 2 ^ 32
+      c .chilled .used - at (c .chilled .needs) x + at (c .chilled .outs) x < 2 ^ 32
 
 -- "What is left of R is free."
 unfoldable pub freed : ℕ → StoreContents → StoreContents
 freed left s = withHoldings (s .total - left) (s .used) (s .booked) (s .figures) s
+
+-- what task x holds is all that is booked and in use
+unfoldable pub heldAlone : (x units : ℕ) → StoreContents → StoreContents
+heldAlone x units s = withHoldings units units (set (s .booked) x units) (s .figures) s
 
 -- an entry of a column grows, where there is a task to have it
 pub record MayGrow (task column more : ℕ) (w : List ℕ) : Type 0 where

@@ -108,23 +108,16 @@ pub fn rest(plan: &mut [u32; Plan::WORDS], store: usize, task: usize, left: u32)
     set_cell(plan, task, store + Plan::FIGURE, figure - left);
 }
 
-// "If it has a parent, the parent is given j's out": what it is given.
-fn kept_by(parent: usize, out: u32) -> u32
-    ensures { λ r. ⌜ r ≡ stores.keptOut parent out ⌝ }
-{
-    if parent == 0 { 0 } else { out }
-}
-
 // "When step j ends, its booked trays, call them R, are taken from it. If it has a parent, the
 // parent is given j's out, and R falls by it": what is left of R.
 pub fn release(plan: &mut [u32; Plan::WORDS], store: usize, task: usize) -> u32
     requires { ⌜ stores.MayRelease store task (contents (now plan)) ⌝ }
     ensures { λ r. ⌜ (contents (now (plan .exit)) ≡ stores.withStore (stores.released (at (contents (now (plan .entry)) .parents) task) task (contents (now (plan .entry)) .chilled)) (contents (now (plan .entry))))
-        × (r ≡ at (contents (now (plan .entry)) .chilled .booked) task - stores.keptOut (at (contents (now (plan .entry)) .parents) task) (at (contents (now (plan .entry)) .chilled .outs) task)) ⌝ }
+        × (r ≡ at (contents (now (plan .entry)) .chilled .booked) task - at (contents (now (plan .entry)) .chilled .outs) task) ⌝ }
 {
     let parent = cell(plan, task, Plan::PARENT) as usize;
     let held = cell(plan, task, store + Plan::BOOKED);
-    let out = kept_by(parent, cell(plan, task, store + Plan::OUT));
+    let out = cell(plan, task, store + Plan::OUT);
     let need = cell(plan, task, store + Plan::NEED);
     let used = cell(plan, Plan::HEAD, store + Plan::USED);
     set_cell(plan, Plan::HEAD, store + Plan::USED, used - need + out);
@@ -132,6 +125,17 @@ pub fn release(plan: &mut [u32; Plan::WORDS], store: usize, task: usize) -> u32
     set_cell(plan, task, store + Plan::FIGURE, 0);
     grow(plan, parent, store + Plan::BOOKED, out);
     held - out
+}
+
+// "When the root ends, its out remains booked and in use", and FETCH "frees it": what one task holds
+// is all that is booked, and all that is in use.
+pub fn hold_alone(plan: &mut [u32; Plan::WORDS], store: usize, task: usize, units: u32)
+    requires { ⌜ stores.AtTask store task (contents (now plan)) ⌝ }
+    ensures { λ _. ⌜ contents (now (plan .exit)) ≡ stores.withStore (stores.heldAlone task units (contents (now (plan .entry)) .chilled)) (contents (now (plan .entry))) ⌝ }
+{
+    set_cell(plan, task, store + Plan::BOOKED, units);
+    set_cell(plan, Plan::HEAD, store + Plan::TOTAL, units);
+    set_cell(plan, Plan::HEAD, store + Plan::USED, units);
 }
 
 // "What is left of R is free."

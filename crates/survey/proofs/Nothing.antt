@@ -8,14 +8,14 @@ use lib.Dec.{eqb, leb, ltb}
 use borrow.Author.Tests.{eq-eqb, ne-eqb, lt-leb}
 use Rattle.rules.specs.Sums.{only, countTo}
 use Rattle.rules.specs.Lists.{at}
-use Rattle.rules.specs.Need.{need, resident, inUse}
+use Rattle.rules.specs.Need.{need, resident, inProcess}
 use Rattle.rules.specs.Standing.{waiting, activated, running, finished, count}
 use Rattle.rules.specs.Booking.{figure, total, ready}
 use Rattle.rules.proofs.Tests.{and-none}
 use Rattle.rules.proofs.Sums.{sum-cong, sum-zero, count-none}
 use Rattle.rules.proofs.Usage.{hasEnded, hasBegun}
 use Rattle.words.specs.Digits.{digits}
-use Rattle.store.specs.Cached.{partialFigure, unendedChildren, isReadyAt, usedBy}
+use Rattle.store.specs.Cached.{partialFigure, unendedChildren, isReadyAt, inProcessBy}
 
 -- a set with no place in it
 pub digits-none : (f : ℕ → Bool) (count : ℕ) → ((k : ℕ) → f k ≡ false) → digits f count ≡ 0
@@ -54,8 +54,8 @@ module _ (n : ℕ) (st : List ℕ) (none : (a : ℕ) → at st a ≡ 0) where
       and-true-right true = refl
       and-true-right false = refl
 
-  pub no-use : (par work out : ℕ → ℕ) → usedBy n par work out (at st) ≡ 0
-  unfolding inUse resident
+  pub no-use : (par work out : ℕ → ℕ) → inProcessBy n par work out (at st) ≡ 0
+  unfolding inProcess resident
   no-use par work out =
       let idle : (i : ℕ) → leb running (at st i) ≡ false = λ i. let z = none i in lt-leb running (at st i) (omega arith) in
       let open-yet : (i : ℕ) → eqb (at st i) finished ≡ false

@@ -1,8 +1,11 @@
 -- What the passes that add up a store ask and leave. A store is given by its offset in a row.
 use mathlib.Core.Path.{_≡_}
+use mathlib.Core.Bool.{not}
 use mathlib.Core.List.{List}
 use Prim.Native.Nat.{ℕ, _+_, _≤_, _<_}
+use lib.Dec.{eqb}
 use lib.ListN.{take, replicate}
+use Rattle.rules.specs.Sums.{only}
 use Rattle.rules.specs.Lists.{at}
 use Rattle.rules.specs.Need.{children}
 use Rattle.rules.specs.Invariant.{Valid}
@@ -21,6 +24,10 @@ InRow store = store + storeColumns ≤ row
 pub record AtRow (store i : ℕ) : Type 0 where
   pub offset : InRow store
   pub task-in : i < rows
+
+-- what the parent of a task that has run keeps of it: its out, where there is a parent
+abbrev pub keptOut : ℕ → ℕ → ℕ
+keptOut parent out = only (not (eqb parent 0)) out
 
 -- each entry has the outs of the children
 abbrev pub Fed : (n : ℕ) (par out : ℕ → ℕ) (fed : List ℕ) → Type 0

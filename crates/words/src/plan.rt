@@ -1,6 +1,7 @@
 // The plan type: limits, where everything lies, and the empty plan.
 ghost use mathlib.Core.Path.{_≡_};
 ghost use lib.ListN.{replicate};
+ghost use Rattle.rules.specs.Phase;
 ghost use Rattle.words.specs.Layout.{words};
 
 // A plan is one array of words. A task is a row of sixteen words; row 0 is nobody's, and the row
@@ -41,6 +42,8 @@ impl Plan {
     pub const RUNNING: u32 = 3;
 
     pub const OVER: u32 = 4;
+
+    pub const READY: u32 = 5;
 
     // standings: waiting, booked, running and ended
     pub const WAITING: u32 = 0;
@@ -111,16 +114,26 @@ impl Plan {
 
     pub const EXECUTION: usize = Plan::ACTIVATION + Plan::MAX_TASKS;
 
-    pub const READY: usize = Plan::EXECUTION + Plan::MAX_TASKS;
+    pub const READY_SET: usize = Plan::EXECUTION + Plan::MAX_TASKS;
 
     // bits of a word, and words of the ready set
     pub const BITS: usize = 32;
 
     pub const BLOCKS: usize = Plan::MAX_TASKS / Plan::BITS;
 
-    pub const FILLED: usize = Plan::READY + Plan::BLOCKS;
+    pub const FILLED: usize = Plan::READY_SET + Plan::BLOCKS;
 
     pub const WORDS: usize = Plan::FILLED + 1;
+
+    // Whether trays of a plan in that phase may lie in the cold room: from BEGIN to FETCH.
+    pub fn holds_trays(phase: u32) -> bool
+        ensures { λ r. ⌜ r ≡ Phase.holdsTrays phase ⌝ }
+    {
+        if phase == Plan::RUNNING {
+            return true;
+        }
+        phase == Plan::READY
+    }
 
     // The empty plan.
     pub fn new() -> Self

@@ -19,8 +19,9 @@ what a line says as soon as the line has come.
 One thing a line; # starts a comment. Steps are numbered from 1 in each plan;
 a step may say its number. Parent - (or 0) is the last step. Execution lines may
 be left out altogether: then the activation order is used for both. With some of
-its steps missing, begin is refused 3. Where the line ends with ... it may go on,
-and each number is a command. The lines:
+its steps missing, begin is refused 3. After the last step is done its trays stay
+in the cold room until fetch, and a next plan is refused 3 before it. Where the
+line ends with ... it may go on, and each number is a command. The lines:
 ";
 
 const WRITTEN: &str = "

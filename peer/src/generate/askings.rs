@@ -50,7 +50,7 @@ impl Asking {
 }
 
 /// The askings of one seed, for one plan that begins empty. Most lists go on
-/// to the end of a day, some stop anywhere.
+/// to the end of a day and its FETCH, some stop anywhere.
 pub fn askings(seed: u64) -> Vec<Asking> {
     let mut asker = Asker::new(seed);
     for _ in 0..asker.random.pick(&[0, 0, 1, 1, 2, 3]) {
@@ -108,11 +108,18 @@ impl Asker {
         }
     }
 
-    /// Sends a whole plan and, where BEGIN is accepted, reports until the day
-    /// is over. A refused BEGIN may come again, with the execution order whole.
+    /// Sends a whole plan and, where BEGIN is accepted, reports until the last
+    /// task has ended; mostly FETCH follows. A refused BEGIN may come again, with
+    /// the execution order whole.
     fn send(&mut self, draft: &Draft) {
         let n = draft.records.len().max(1) as u16;
-        for command in draft.commands(&mut self.random) {
+        let commands = draft.commands(&mut self.random);
+        if self.plan.phase() == Phase::Ready {
+            // The old plan has not been fetched, and this one comes too early.
+            self.ask(&commands[0], n);
+            self.ask(&encode(Command::Fetch), n);
+        }
+        for command in commands {
             self.ask(&command, n);
         }
         if self.plan.phase() == Phase::Orders && self.random.chance(50) {
@@ -122,6 +129,9 @@ impl Asker {
         while self.plan.phase() == Phase::Running {
             let task = habit.take(&mut self.random, &mut self.running);
             self.ask(&encode(Command::Done(task)), n);
+        }
+        if self.plan.phase() == Phase::Ready && self.random.chance(85) {
+            self.ask(&encode(Command::Fetch), n);
         }
         self.pester(&encode(Command::Begin), n);
     }

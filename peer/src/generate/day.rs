@@ -1,4 +1,4 @@
-//! A day: a plan, its BEGIN and the reports that follow.
+//! A day: a plan, its BEGIN, the reports that follow, and FETCH.
 
 use super::draft::Draft;
 use super::random::Random;
@@ -31,8 +31,9 @@ impl Habit {
     }
 }
 
-/// The commands of a whole day. To know which tasks run it drives a plan of
-/// its own; where that refuses BEGIN, a few blind reports follow.
+/// The commands of a whole day, FETCH the last. To know which tasks run it
+/// drives a plan of its own; where that refuses BEGIN, a few blind reports
+/// follow.
 pub(crate) fn commands(random: &mut Random, draft: &Draft) -> Vec<Vec<u8>> {
     let mut plan = Plan::new();
     let mut starts = [0; Plan::STARTS];
@@ -49,7 +50,9 @@ pub(crate) fn commands(random: &mut Random, draft: &Draft) -> Vec<Vec<u8>> {
         running.extend(&starts[..answer.starts]);
         commands.push(command);
     }
-    if plan.phase() != Phase::Over {
+    if plan.phase() == Phase::Ready {
+        commands.push(encode(Command::Fetch));
+    } else {
         commands.extend((1..=3).map(|task| encode(Command::Done(task))));
     }
     commands

@@ -33,7 +33,7 @@ impl Draft {
             .map(|parent| Record {
                 parent,
                 work: counts.count(random),
-                out: counts.count(random),
+                out: out(random, counts, parent),
             })
             .collect();
         let activation = orders::activation(random, &records);
@@ -77,6 +77,16 @@ impl Draft {
             }
         };
         std::iter::from_fn(either_left).map(encode).collect()
+    }
+}
+
+/// An out count. The root's, which stands until it is fetched, is now and then
+/// unlike all other counts of its plan.
+fn out(random: &mut Random, counts: Counts, parent: u16) -> u16 {
+    if parent == 0 && random.chance(25) {
+        random.pick(&[0, 0, 1, 60_000, 65_535])
+    } else {
+        counts.count(random)
     }
 }
 

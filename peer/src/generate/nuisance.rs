@@ -7,7 +7,7 @@ use crate::record::Record;
 
 /// Any whole command, with numbers around the limits of a plan of n tasks.
 pub(crate) fn any_command(random: &mut Random, n: u16) -> Vec<u8> {
-    let command = match random.between(0, 7) {
+    let command = match random.between(0, 8) {
         0 => Command::Plan {
             tasks: random.pick(&[0, 1, n, 1024, 1025, 65_535]),
             processors: random.pick(&[0, 1, 64, 65, 255]),
@@ -21,6 +21,7 @@ pub(crate) fn any_command(random: &mut Random, n: u16) -> Vec<u8> {
         2 => Command::Activation(number(random, n)),
         3 => Command::Execution(number(random, n)),
         4 => Command::Begin,
+        5 => Command::Fetch,
         _ => Command::Done(number(random, n)),
     };
     encode(command)
@@ -35,10 +36,10 @@ fn number(random: &mut Random, n: u16) -> u16 {
     }
 }
 
-/// A byte that is none of 01 to 06, with any bytes after it.
+/// A byte that is none of 01 to 07, with any bytes after it.
 pub(crate) fn unknown_byte(random: &mut Random) -> Vec<u8> {
-    let any = random.between(0x07, 0xff) as u8;
-    let mut bytes = vec![random.pick(&[0x00, 0x07, 0x08, 0x09, 0x0b, 0x11, 0x12, 0xff, any])];
+    let any = random.between(0x08, 0xff) as u8;
+    let mut bytes = vec![random.pick(&[0x00, 0x08, 0x09, 0x0b, 0x11, 0x12, 0xff, any])];
     bytes.extend(random.bytes(6));
     bytes
 }
@@ -46,4 +47,20 @@ pub(crate) fn unknown_byte(random: &mut Random) -> Vec<u8> {
 /// The front of a command, cut at any byte.
 pub(crate) fn cut(random: &mut Random, command: &[u8]) -> Vec<u8> {
     command[..random.below(command.len())].to_vec()
+}
+
+#[cfg(test)]
+mod tests {
+    use super::*;
+    use crate::command::decode;
+    use crate::refusal::Refusal;
+
+    #[test]
+    fn unknown_bytes_are_unknown() {
+        let mut random = Random::new(41);
+        for _ in 0..2000 {
+            let bytes = unknown_byte(&mut random);
+            assert_eq!(decode(&bytes, 0), Err(Refusal::UnknownByte), "{bytes:02x?}");
+        }
+    }
 }

@@ -11,8 +11,8 @@ pub fn stream(seed: u64) -> Vec<u8> {
     draw(&mut Random::new(seed))
 }
 
-/// Some plans, of which the last may be flawed, and then perhaps a flaw among
-/// the commands or the bytes.
+/// Some plans, of which the last may be flawed and is mostly fetched, and then
+/// perhaps a flaw among the commands or the bytes.
 pub(crate) fn draw(random: &mut Random) -> Vec<u8> {
     let mut commands = Vec::new();
     for _ in 0..random.pick(&[0, 0, 0, 1, 1, 2, 4]) {
@@ -25,6 +25,10 @@ pub(crate) fn draw(random: &mut Random) -> Vec<u8> {
         flaw::spoil(random, &mut draft);
     }
     let mut last_day = day::commands(random, &draft);
+    if random.chance(20) {
+        // Its trolley stands to the end.
+        last_day.pop();
+    }
     if (60..85).contains(&trouble) {
         disturb(random, &mut last_day, n);
     }
@@ -36,7 +40,7 @@ pub(crate) fn draw(random: &mut Random) -> Vec<u8> {
     bytes
 }
 
-/// A plan that another one follows: run to its end, or dropped half given.
+/// A plan that another one follows: run to its FETCH, or dropped half given.
 fn earlier_plan(random: &mut Random) -> Vec<Vec<u8>> {
     let draft = Draft::random(random);
     if random.chance(70) {
@@ -53,7 +57,7 @@ fn disturb(random: &mut Random, commands: &mut Vec<Vec<u8>>, n: u16) {
     let begin = commands
         .iter()
         .position(|command| command == &encode(Command::Begin));
-    match (random.between(0, 4), begin) {
+    match (random.between(0, 6), begin) {
         (0, _) => {
             commands.remove(random.below(commands.len()));
         }
@@ -67,11 +71,30 @@ fn disturb(random: &mut Random, commands: &mut Vec<Vec<u8>>, n: u16) {
             let place = begin + 1 + random.below(commands.len() - begin - 1);
             commands.insert(place, commands[report].clone());
         }
+        // FETCH comes too early, or once more.
+        (3, _) => {
+            let (any, end) = (random.below(commands.len()), commands.len());
+            commands.insert(random.pick(&[0, any, end]), encode(Command::Fetch));
+        }
+        (4, _) => disturb_ready(random, commands, n),
         _ => {
             let place = random.below(commands.len() + 1);
             commands.insert(place, nuisance::any_command(random, n));
         }
     }
+}
+
+/// Lets the plan, the last report or anything else come right after that
+/// report, where FETCH alone is in turn.
+fn disturb_ready(random: &mut Random, commands: &mut Vec<Vec<u8>>, n: u16) {
+    let is_fetched = commands.ends_with(&[encode(Command::Fetch)]);
+    let place = commands.len() - usize::from(is_fetched);
+    let command = match random.between(0, 2) {
+        0 => commands[0].clone(),
+        1 => commands[place - 1].clone(),
+        _ => nuisance::any_command(random, n),
+    };
+    commands.insert(place, command);
 }
 
 /// Cuts the stream at any byte, changes a byte, or lets any bytes follow.

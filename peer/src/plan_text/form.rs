@@ -90,6 +90,7 @@ static FORMS: &[Form] = &[
         Shape::List,
         &[field("done", 2, 1, Most::Steps)],
     ),
+    form(0x07, "fetch", Shape::Plain, &[]),
 ];
 
 const fn form(byte: u8, word: &'static str, shape: Shape, fields: &'static [Field]) -> Form {

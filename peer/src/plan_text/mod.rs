@@ -3,7 +3,8 @@
 //! whose numbers are within the limits of document 01. Whether they are in
 //! turn, and all else that the rules ask, is asked only where the plan that
 //! they lead to is written. A plan needs no execution line: the activation
-//! order is then used for both.
+//! order is then used for both. A `fetch` line fetches what a day leaves; the next
+//! plan comes only behind it.
 
 mod form;
 mod offsets;

@@ -78,6 +78,7 @@ fn naive_lines(stream: &[u8]) -> Option<String> {
         lines += &match (reply.number, command) {
             (0, Ok(Command::Begin)) => format!("begin peak={}", reply.peak),
             (0, Ok(Command::Done(task))) => format!("done {task} offers={}", reply.offers),
+            (0, Ok(Command::Fetch)) => format!("fetch booked={}\n", naive.booked()),
             (0, _) => String::new(),
             (number, _) => return Some(format!("{lines}refused {number} at {place}\n")),
         };

@@ -8,7 +8,7 @@ use peer::Plan;
 #[test]
 fn after_each_command_of_a_day() {
     let mut days = 0;
-    for seed in 1000..1150 {
+    for seed in 1000..1120 {
         let (mut plan, mut watch) = (Plan::new(), Watch::default());
         for asking in askings(seed) {
             let (answer, starts) = ask(&mut plan, &asking.bytes, asking.place, asking.starts_len);

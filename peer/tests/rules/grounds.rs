@@ -1,6 +1,6 @@
 //! The table of grounds, and the order of checks.
 
-use crate::menu::{accepting, ask, done, give, hex, plan_a, plan_c, refused_plans, Menu};
+use crate::menu::{accepting, ask, done, fetch, give, hex, plan_a, plan_c, refused_plans, Menu};
 use peer::{Phase, Plan};
 
 /// The number that answers these bytes.
@@ -61,7 +61,7 @@ fn no_byte_then_unknown_then_cut() {
     for place in [1, 2, usize::MAX] {
         assert_eq!(ask(&mut Plan::new(), &[0x05], place, 64).0.number, 1);
     }
-    for byte in (0x00..=0xff).filter(|byte| !(0x01..=0x06).contains(byte)) {
+    for byte in (0x00..=0xff).filter(|byte| !(0x01..=0x07).contains(byte)) {
         assert_eq!(give(&mut Plan::new(), &[byte]).0.number, 2);
     }
     // Cut operands are 1 even out of turn or outside limits.
@@ -88,12 +88,18 @@ fn a_command_may_stand_anywhere_in_the_stream() {
 #[test]
 fn turns() {
     // Out of turn is 3 whatever the operands say.
-    for text in ["02 ff ff 00 00 00 00", "03 00 00", "04 00 00", "06 00 00"] {
+    for text in [
+        "02 ff ff 00 00 00 00",
+        "03 00 00",
+        "04 00 00",
+        "06 00 00",
+        "07",
+    ] {
         assert_eq!(empty(text), 3);
     }
     let mut plan = accepting(&plan_a().steps()[..3]);
     assert_eq!(plan.phase(), Phase::Steps);
-    for text in ["03 01 00", "04 01 00", "05", "06 01 00"] {
+    for text in ["03 01 00", "04 01 00", "05", "06 01 00", "07"] {
         assert_eq!(number(&mut plan, text), 3);
     }
     let mut plan = plan_a().given();
@@ -104,6 +110,7 @@ fn turns() {
         "04 00 00",
         "03 09 00",
         "06 01 00",
+        "07",
     ] {
         assert_eq!(number(&mut plan, text), 3);
     }
@@ -114,18 +121,18 @@ fn turns() {
         "03 01 00",
         "04 01 00",
         "05",
+        "07",
     ] {
         assert_eq!(number(&mut plan, text), 3);
     }
-    for task in 1..=3 {
-        done(&mut plan, task);
-    }
+    let mut plan = plan_a().over();
     for text in [
         "02 00 00 00 00 00 00",
         "03 01 00",
         "04 01 00",
         "05",
         "06 03 00",
+        "07",
     ] {
         assert_eq!(number(&mut plan, text), 3);
     }
@@ -195,6 +202,8 @@ fn a_bad_plan_command_leaves_the_old_plan() {
         let (_, _, mut plan) = Menu::new(1, 0, &[(0, 0, 0)]).begun();
         assert_eq!(number(&mut plan, text), 3);
         done(&mut plan, 1);
+        assert_eq!(number(&mut plan, text), 3);
+        fetch(&mut plan);
         assert_eq!(number(&mut plan, text), 4);
         assert_eq!(plan.standing(), [0, 0, 0, 1]);
     }
@@ -210,10 +219,7 @@ fn a_new_plan_drops_the_old_one() {
         }
         assert_eq!(give(&mut plan, &[0x05]).1, [1, 2]);
     }
-    let (_, _, mut plan) = plan_a().begun();
-    for task in 1..=3 {
-        done(&mut plan, task);
-    }
+    let mut plan = plan_a().over();
     assert_eq!(number(&mut plan, "01 01 00 01 00 00 00 00"), 0);
     assert_eq!((plan.phase(), plan.standing()), (Phase::Steps, [0; 4]));
 }

@@ -1,12 +1,14 @@
-//! The rules of document 01, and requests 01 to 03 of document 02, tried on
+//! The rules of document 01, and requests 01 to 04 of document 02, tried on
 //! this implementation.
 
 mod against_naive;
 mod astray;
 mod day;
 mod desk;
+mod fetch;
 mod fullness;
 mod generator;
+mod generator_fetch;
 mod grounds;
 mod limits;
 mod menu;

@@ -78,6 +78,22 @@ impl Menu {
         let (answer, starts) = give(&mut plan, &[0x05]);
         (answer, starts, plan)
     }
+
+    /// The plan with its day reported to the end, and not fetched.
+    pub fn ready(&self) -> Plan {
+        let (_, starts, mut plan) = self.begun();
+        finish(&mut plan, starts);
+        assert_eq!(plan.phase(), Phase::Ready);
+        plan
+    }
+
+    /// The same, fetched.
+    pub fn over(&self) -> Plan {
+        let mut plan = self.ready();
+        fetch(&mut plan);
+        assert_eq!(plan.phase(), Phase::Over);
+        plan
+    }
 }
 
 /// Plan A.
@@ -144,7 +160,12 @@ pub fn done(plan: &mut Plan, task: u16) -> (Answer, Vec<u16>) {
     give(plan, &encode(Command::Done(task)))
 }
 
-/// Goes on with a day to its end, always reporting the longest running task.
+/// Gives FETCH.
+pub fn fetch(plan: &mut Plan) -> (Answer, Vec<u16>) {
+    give(plan, &encode(Command::Fetch))
+}
+
+/// Goes on with a day until its last task has ended, always reporting the longest running task.
 /// Answers all its starts.
 pub fn finish(plan: &mut Plan, mut started: Vec<u16>) -> Vec<u16> {
     let mut ended = 0;

@@ -70,7 +70,7 @@ impl Naive {
             0x01 => 7,
             0x02 => 6,
             0x03 | 0x04 | 0x06 => 2,
-            0x05 => 0,
+            0x05 | 0x07 => 0,
             _ => return Err(2),
         };
         refuse(1, bytes.len() - place < 1 + width)?;
@@ -104,7 +104,7 @@ impl Naive {
                 self.book_ahead();
                 reply.starts = self.start();
             }
-            _ => {
+            0x06 => {
                 let j = operand(0, 2);
                 refuse(4, !(1..=self.n).contains(&j))?;
                 refuse(6, self.state[j] != State::Running)?;
@@ -113,8 +113,13 @@ impl Naive {
                 self.book_ahead();
                 reply.starts = self.start();
                 if self.parent[j] == 0 {
-                    self.phase = Phase::Over;
+                    self.phase = Phase::Ready;
                 }
+            }
+            _ => {
+                let root = self.root();
+                self.booked[root] = 0;
+                self.phase = Phase::Over;
             }
         }
         Ok(reply)
@@ -123,7 +128,7 @@ impl Naive {
     fn in_turn(&self, byte: u8) -> bool {
         let (activation, execution) = (self.activation.len(), self.execution.len());
         match byte {
-            0x01 => self.phase != Phase::Running,
+            0x01 => self.phase != Phase::Running && self.phase != Phase::Ready,
             0x02 => self.phase == Phase::Steps,
             0x03 => self.phase == Phase::Orders && activation < self.n,
             0x04 => self.phase == Phase::Orders && execution < self.n,
@@ -131,7 +136,8 @@ impl Naive {
                 let none_or_all = execution == 0 || execution == self.n;
                 self.phase == Phase::Orders && activation == self.n && none_or_all
             }
-            _ => self.phase == Phase::Running,
+            0x06 => self.phase == Phase::Running,
+            _ => self.phase == Phase::Ready,
         }
     }
 
@@ -178,7 +184,7 @@ impl Naive {
     /// The execution order: of a plan that began without one, the activation
     /// order.
     fn execution_order(&self) -> &[usize] {
-        let has_begun = matches!(self.phase, Phase::Running | Phase::Over);
+        let has_begun = matches!(self.phase, Phase::Running | Phase::Ready | Phase::Over);
         if has_begun && self.execution.is_empty() {
             &self.activation
         } else {
@@ -188,6 +194,11 @@ impl Naive {
 
     fn steps(&self) -> std::ops::RangeInclusive<usize> {
         1..=self.n
+    }
+
+    /// The step with parent 0, of which BEGIN found exactly one.
+    fn root(&self) -> usize {
+        self.steps().find(|&i| self.parent[i] == 0).unwrap()
     }
 
     fn children(&self, i: usize) -> impl Iterator<Item = usize> + '_ {
@@ -277,6 +288,8 @@ impl Naive {
         if self.parent[j] != 0 {
             self.booked[self.parent[j]] += self.out[j];
             r -= self.out[j];
+        } else {
+            self.booked[j] = self.out[j];
         }
         let mut offers = 0;
         let mut i = self.parent[j];
@@ -296,22 +309,27 @@ impl Naive {
 
     pub fn booked(&self) -> usize {
         match self.phase {
-            Phase::Running => self.sum_of_booked(),
+            Phase::Running | Phase::Ready => self.sum_of_booked(),
             _ => 0,
         }
     }
 
     pub fn booked_by(&self, i: usize) -> usize {
         match self.phase {
-            Phase::Running if self.steps().contains(&i) => self.booked[i],
+            Phase::Running | Phase::Ready if self.steps().contains(&i) => self.booked[i],
             _ => 0,
         }
     }
 
     pub fn in_use(&self) -> usize {
-        if self.phase != Phase::Running {
-            return 0;
+        match self.phase {
+            Phase::Running => self.in_use_while_running(),
+            Phase::Ready => self.out[self.root()],
+            _ => 0,
         }
+    }
+
+    fn in_use_while_running(&self) -> usize {
         let needs: usize = self
             .steps()
             .filter(|&i| self.state[i] == State::Running)
@@ -338,7 +356,7 @@ impl Naive {
     }
 
     pub fn standing(&self) -> [usize; 4] {
-        if self.phase != Phase::Running && self.phase != Phase::Over {
+        if !matches!(self.phase, Phase::Running | Phase::Ready | Phase::Over) {
             return [0; 4];
         }
         [State::Waiting, State::Booked, State::Running, State::Ended].map(|state| self.count(state))

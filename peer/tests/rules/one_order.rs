@@ -1,8 +1,8 @@
 //! A plan without an execution order.
 
 use crate::menu::{
-    answers, ask, bytes_of, finish, give, hex, plan_a, plan_c, reading, refused_plans, written,
-    Menu,
+    answers, ask, bytes_of, fetch, finish, give, hex, plan_a, plan_c, reading, refused_plans,
+    written, Menu,
 };
 use crate::watch::follow;
 use peer::generate::{encode, stream, Random};
@@ -82,8 +82,8 @@ fn menus() -> impl Iterator<Item = Menu> {
     (7000..7200).filter_map(menu)
 }
 
-/// Gives BEGIN to two plans, and reports while a task runs. Both answer the same
-/// throughout. Tells how many commands they accepted.
+/// Gives BEGIN to two plans, reports while a task runs, and FETCH. Both answer
+/// the same throughout. Tells how many commands they accepted.
 fn check_same_day(random: &mut Random, mut one: Plan, mut other: Plan) -> usize {
     let mut command = Command::Begin;
     let (mut running, mut accepted) = (vec![], 0);
@@ -96,13 +96,16 @@ fn check_same_day(random: &mut Random, mut one: Plan, mut other: Plan) -> usize 
         accepted += 1;
         assert_eq!(answers(&one), answers(&other));
         running.extend(starts);
-        if running.is_empty() {
-            assert_eq!(one.phase(), Phase::Over);
-            let [one, other] = [one, other].map(|plan| written(&plan, Plan::WRITTEN));
-            assert_eq!(one, other);
-            return accepted;
-        }
-        command = Command::Done(running.swap_remove(random.below(running.len())));
+        command = match (command, one.phase()) {
+            (_, Phase::Running) => Command::Done(running.swap_remove(random.below(running.len()))),
+            (Command::Done(_), Phase::Ready) => Command::Fetch,
+            (_, phase) => {
+                assert_eq!(phase, Phase::Over);
+                let [one, other] = [one, other].map(|plan| written(&plan, Plan::WRITTEN));
+                assert_eq!(one, other);
+                return accepted;
+            }
+        };
     }
 }
 
@@ -251,6 +254,9 @@ fn written_once_it_has_begun() {
         check_written(&plan);
         assert_eq!(give(&mut plan, &encode(Command::Done(task))).0.number, 0);
     }
+    assert_eq!(plan.phase(), Phase::Ready);
+    check_written(&plan);
+    fetch(&mut plan);
     assert_eq!(plan.phase(), Phase::Over);
     check_written(&plan);
 }
@@ -276,6 +282,9 @@ fn no_entry_is_in_turn_after_it_has_begun() {
     };
     check(&mut plan);
     finish(&mut plan, starts);
+    assert_eq!(plan.phase(), Phase::Ready);
+    check(&mut plan);
+    fetch(&mut plan);
     assert_eq!(plan.phase(), Phase::Over);
     check(&mut plan);
 }
@@ -289,7 +298,9 @@ fn next_day(plan: &mut Plan, menu: &Menu) -> Vec<u16> {
     assert_eq!(written(plan, Plan::WRITTEN).is_ok(), has_both);
     let (answer, starts) = give(plan, &[0x05]);
     assert_eq!(answer.number, 0);
-    finish(plan, starts)
+    let started = finish(plan, starts);
+    fetch(plan);
+    started
 }
 
 #[test]
@@ -298,9 +309,7 @@ fn the_next_plan_has_none_again() {
         activation: vec![3, 2, 1, 5, 4, 6],
         ..alone(&star())
     };
-    let (_, starts, mut over) = alone(&star()).begun();
-    finish(&mut over, starts);
-    for mut plan in [over, star().given()] {
+    for mut plan in [alone(&star()).over(), star().given()] {
         assert_eq!(next_day(&mut plan, &other), other.activation);
         assert_eq!(next_day(&mut plan, &alone(&star())), star().activation);
         assert_eq!(next_day(&mut plan, &star()), star().execution);

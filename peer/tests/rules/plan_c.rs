@@ -1,6 +1,6 @@
 //! Plan C's day, step by step.
 
-use crate::menu::{done, plan_c};
+use crate::menu::{done, fetch, plan_c};
 use peer::{Phase, Plan};
 
 fn figures(plan: &Plan) -> (u32, u32, [u32; 4]) {
@@ -28,6 +28,13 @@ fn whole_day() {
 
     let (answer, starts) = done(&mut plan, 4);
     assert_eq!((answer.offers, starts), (0, vec![]));
+    assert_eq!(plan.booked_by(4), 3);
+    assert_eq!(figures(&plan), (3, 3, [0, 0, 0, 4]));
+    assert_eq!(plan.phase(), Phase::Ready);
+
+    let (answer, starts) = fetch(&mut plan);
+    assert_eq!((answer.offers, starts), (0, vec![]));
+    assert_eq!(plan.booked_by(4), 0);
     assert_eq!(figures(&plan), (0, 0, [0, 0, 0, 4]));
     assert_eq!(plan.phase(), Phase::Over);
 }

@@ -41,7 +41,7 @@ fn outside_limits(stream: &[u8]) -> Option<usize> {
                 (1..=Plan::TASKS).contains(&tasks.into())
                     && (1..=Plan::PROCESSORS).contains(&processors.into())
             }
-            Command::Step(Record { parent: 0, .. }) | Command::Begin => true,
+            Command::Step(Record { parent: 0, .. }) | Command::Begin | Command::Fetch => true,
             Command::Step(Record { parent: step, .. })
             | Command::Activation(step)
             | Command::Execution(step)
@@ -83,7 +83,7 @@ fn streams_of_the_generator_both_ways() {
 fn any_commands(random: &mut Random) -> Vec<u8> {
     let mut commands = Vec::new();
     for _ in 0..random.below(200) {
-        let mut bytes = vec![random.between(0x01, 0x06) as u8];
+        let mut bytes = vec![random.between(0x01, 0x07) as u8];
         bytes.extend(random.bytes(12));
         if let Ok((_, used)) = decode(&bytes, 0) {
             commands.extend(&bytes[..used]);
@@ -102,7 +102,7 @@ fn commands_within_limits(random: &mut Random) -> Vec<u8> {
     });
     for _ in 0..random.below(200) {
         let step = random.between(1, most.into()) as u16;
-        commands.extend(encode(match random.between(0x02, 0x06) {
+        commands.extend(encode(match random.between(0x02, 0x07) {
             0x02 => Command::Step(Record {
                 parent: step - u16::from(random.chance(50)),
                 work: random.between(0, 65_535) as u16,
@@ -111,7 +111,8 @@ fn commands_within_limits(random: &mut Random) -> Vec<u8> {
             0x03 => Command::Activation(step),
             0x04 => Command::Execution(step),
             0x05 => Command::Begin,
-            _ => Command::Done(step),
+            0x06 => Command::Done(step),
+            _ => Command::Fetch,
         }));
     }
     commands
@@ -138,7 +139,7 @@ fn any_bytes_both_ways() {
             &random
                 .bytes(40)
                 .iter()
-                .map(|byte| byte % 8)
+                .map(|byte| byte % 9)
                 .collect::<Vec<_>>(),
         );
     }
@@ -156,6 +157,7 @@ activation 1 2 3
 execution 1 2 3
 begin
 done 1 2 3
+fetch
 ";
     assert_eq!(to_text(&hex(plan_a::BYTES)), (text.to_string(), None));
 }
@@ -175,9 +177,13 @@ fn breakfast_is_accepted_to_its_end() {
     let mut output = Vec::new();
     printer::print(&to_bytes(BREAKFAST).unwrap()[..], &mut output).unwrap();
     let lines: Vec<_> = str::from_utf8(&output).unwrap().lines().collect();
-    assert_eq!(lines.len(), 1 + 10);
+    assert_eq!(lines.len(), 1 + 10 + 1);
     assert!(lines[0].starts_with("begin peak=14 booked=16 used=10 full=1000"));
-    assert_eq!(lines[10], "done 10 offers=0 booked=0 used=0 full=0 start -");
+    let last_two = [
+        "done 10 offers=0 booked=6 used=6 full=375 start -",
+        "fetch booked=0",
+    ];
+    assert_eq!(lines[10..], last_two);
 }
 
 #[test]
@@ -187,6 +193,8 @@ fn ways_to_write_a_line() {
         ("\n  \t\r\n# plan\n", ""),
         ("begin", "05"),
         ("  begin# now\r\nbegin\n", "05 05"),
+        ("fetch", "07"),
+        ("\tfetch # at noon\r\n\nfetch\n", "07 07"),
         (
             "plan steps 1 stations 1 places 0",
             "01 01 00 01 00 00 00 00",
@@ -337,6 +345,10 @@ fn wrong_lines() {
             "'execution' wants a number from 1 to 1024, found '1,'",
         ),
         ("begin 1", "'begin' wants nothing more, found '1'"),
+        ("fetch 1", "'fetch' wants nothing more, found '1'"),
+        ("fetch fetch", "'fetch' wants nothing more, found 'fetch'"),
+        ("Fetch", "'Fetch' is no command"),
+        ("fetched", "'fetched' is no command"),
         (
             "done 1 65536",
             "'done' wants a number from 1 to 1024, found '65536'",
@@ -522,6 +534,8 @@ fn wrong_bytes() {
         ("09", "", 0, "09 is no command"),
         ("05 00", begin, 1, "00 is no command"),
         ("05 ff 05", begin, 1, "ff is no command"),
+        ("05 08 05", begin, 1, "08 is no command"),
+        ("07 02 03", "fetch\n", 1, "'step' is cut short"),
         ("01", "", 0, "'plan' is cut short"),
         ("05 01 03 00 02 07 00 00", begin, 1, "'plan' is cut short"),
         ("05 02 03 00", begin, 1, "'step' is cut short"),
@@ -543,6 +557,7 @@ fn the_patterns_of_all_lines() {
         "execution N ...",
         "begin",
         "done N ...",
+        "fetch",
     ];
     assert_eq!(patterns(), wanted);
 }

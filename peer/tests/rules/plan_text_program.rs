@@ -47,8 +47,8 @@ fn from_a_file_or_standard_input() {
 
 #[test]
 fn back_from_a_file_or_standard_input() {
-    let bytes = hex("05 06 01 00");
-    let text = b"begin\ndone 1\n";
+    let bytes = hex("05 06 01 00 07");
+    let text = b"begin\ndone 1\nfetch\n";
     assert_eq!(
         run(&["--back", &file("day.bytes", &bytes)], b""),
         fine(text)
@@ -123,8 +123,13 @@ fn a_byte_order_mark_and_ends_of_lines_of_two_bytes() {
 
 #[test]
 fn offsets_of_a_file_or_standard_input() {
-    let text = b"# Monday\nbegin\ndone 1 2\n";
-    let rows = b"at 0, line 2: begin\nat 1, line 3: done 1\nat 4, line 3: done 2\n";
+    let text = b"# Monday\nbegin\ndone 1 2\nfetch\n";
+    let rows = b"\
+at 0, line 2: begin
+at 1, line 3: done 1
+at 4, line 3: done 2
+at 7, line 4: fetch
+";
     assert_eq!(run(&["--offsets"], text), fine(rows));
     assert_eq!(run(&["--offsets", "-"], text), fine(rows));
     assert_eq!(
@@ -167,14 +172,16 @@ fn a_file_that_is_not_there() {
 fn help_and_usage() {
     let (help, errors, status) = run(&["--help"], b"");
     let help = String::from_utf8(help).unwrap();
-    assert!(
-        help.contains("    plan steps N stations N places N\n"),
-        "{help}"
-    );
+    for line in ["plan steps N stations N places N", "begin", "fetch"] {
+        assert!(help.contains(&format!("\n    {line}\n")), "{help}");
+    }
     let words = help.split_whitespace().collect::<Vec<_>>().join(" ");
     let one_order = "Execution lines may be left out altogether: then the activation order is \
         used for both.";
+    let trolley = "After the last step is done its trays stay in the cold room until fetch, and a \
+        next plan is refused 3 before it.";
     assert!(words.contains(one_order), "{help}");
+    assert!(words.contains(trolley), "{help}");
     assert_eq!((errors, status), (String::new(), 0));
     for arguments in [
         &["--forth"][..],

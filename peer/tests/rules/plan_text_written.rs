@@ -29,7 +29,10 @@ const BYTES: &str = "
     04 03 00 04 01 00 04 02 00";
 
 /// A day of it.
-const DAY: &str = "begin\ndone 2\ndone 1 3\n";
+const DAY: &str = "begin\ndone 2\ndone 1 3\nfetch\n";
+
+/// The same, with its trolley still standing.
+const UNFETCHED: &str = "begin\ndone 2 1 3\n";
 
 fn text(parts: &[&str]) -> Vec<u8> {
     parts.concat().into_bytes()
@@ -51,7 +54,7 @@ fn files_of_one_menu_are_written_alike() {
         "execution 3\nactivation 2 1\nexecution 1 2\nactivation 3\n",
         "activation 2 # beans\n\nactivation 1\nactivation 3\r\nexecution 3 1 2\n",
     ] {
-        for day in ["", "begin\n", "begin\ndone 2 1\n", DAY] {
+        for day in ["", "begin\n", "begin\ndone 2 1\n", UNFETCHED, DAY] {
             let text = text(&["# Monday\n", STEPS, orders, day]);
             assert_eq!(run(&["--written"], &text), fine(&hex(BYTES)));
         }
@@ -119,6 +122,23 @@ fn a_refused_command_is_told_with_its_line() {
             "activation 1 2 3\nexecution 1 2 3\nbegin\nplan steps 1 stations 2 places 3\n",
             ":8: 'plan steps 1 stations 2 places 3' is refused 3",
         ),
+        ("fetch\n", ":5: 'fetch' is refused 3"),
+        (
+            "activation 1 2 3\nbegin\ndone 1 2\nfetch\n",
+            ":8: 'fetch' is refused 3",
+        ),
+        (
+            "activation 1 2 3\nbegin\ndone 1 2 3 3\n",
+            ":7: 'done 3' is refused 3",
+        ),
+        (
+            "activation 1 2 3\nbegin\ndone 1 2 3\nplan steps 1 stations 2 places 3\n",
+            ":8: 'plan steps 1 stations 2 places 3' is refused 3",
+        ),
+        (
+            "activation 1 2 3\nbegin\ndone 1 2 3\nfetch\nfetch\n",
+            ":9: 'fetch' is refused 3",
+        ),
     ] {
         // Nothing behind it is read.
         check_wrong(&text(&[STEPS, orders, "nonsense\n"]), what);
@@ -158,7 +178,7 @@ const ONE_ORDER_TWICE: &str = "activation 2 1 3\nexecution 2 1 3\n";
 fn without_execution_lines_the_activation_order_comes_twice() {
     let tidy = text(&[STEPS, ONE_ORDER_TWICE]);
     let bytes = to_bytes(str::from_utf8(&tidy).unwrap()).unwrap();
-    for day in ["begin\n", "begin\ndone 2 1\n", DAY] {
+    for day in ["begin\n", "begin\ndone 2 1\n", UNFETCHED, DAY] {
         for orders in [ONE_ORDER, ONE_ORDER_TWICE] {
             let text = text(&[STEPS, orders, day]);
             assert_eq!(run(&["--written"], &text), fine(&bytes));

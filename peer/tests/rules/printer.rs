@@ -1,11 +1,13 @@
 //! The day printer: refusals, ends of input, and answering as it goes.
 
 use crate::menu::{hex, plan_a};
+use crate::plan_a;
 use peer::printer;
 use std::cell::RefCell;
 use std::io::{self, Read, Write};
 
-fn printed(stream: &[u8]) -> String {
+/// What is printed of a stream.
+pub fn printed(stream: &[u8]) -> String {
     let mut output = Vec::new();
     printer::print(stream, &mut output).unwrap();
     String::from_utf8(output).unwrap()
@@ -87,9 +89,8 @@ impl Write for Screen<'_> {
 
 #[test]
 fn a_line_is_out_before_the_next_byte_is_waited_for() {
-    let mut stream = plan_a().commands().concat();
-    let before_begin = stream.len();
-    stream.extend(hex("05 06 01 00"));
+    let stream = hex(plan_a::BYTES);
+    let before_begin = plan_a().commands().concat().len();
     let (output, printed_before) = (RefCell::default(), RefCell::default());
     let typist = Typist {
         bytes: &stream,
@@ -97,12 +98,18 @@ fn a_line_is_out_before_the_next_byte_is_waited_for() {
         printed_before: &printed_before,
     };
     printer::print(typist, io::BufWriter::new(Screen(&output))).unwrap();
-    let begin = "begin peak=7 booked=6 used=6 full=857 start 1\n";
-    let done = "done 1 offers=0 booked=7 used=7 full=1000 start 2\n";
     let printed_before = printed_before.into_inner();
+    assert_eq!(printed_before.len(), stream.len() + 1);
     assert_eq!(printed_before[before_begin], 0);
-    assert_eq!(printed_before[before_begin + 1], begin.len());
-    assert_eq!(printed_before[stream.len() - 1], begin.len());
-    assert_eq!(printed_before[stream.len()], begin.len() + done.len());
-    assert_eq!(output.into_inner(), [begin, done].concat().into_bytes());
+    // BEGIN, three DONEs and FETCH: a line is there as soon as its command is.
+    let (mut place, mut lines_len) = (before_begin, 0);
+    for (line, used) in plan_a::LINES.split_inclusive('\n').zip([1, 3, 3, 3, 1]) {
+        let before_its_last = printed_before[place + used - 1];
+        assert_eq!(before_its_last, lines_len, "{line}");
+        place += used;
+        lines_len += line.len();
+        assert_eq!(printed_before[place], lines_len, "{line}");
+    }
+    assert_eq!(place, stream.len());
+    assert_eq!(output.into_inner(), plan_a::LINES.as_bytes());
 }

@@ -38,7 +38,7 @@ fn the_table() {
     let (_, starts) = done(&mut plan, 3);
     assert_eq!((plan.booked(), starts), (5, vec![4]));
     done(&mut plan, 4);
-    assert_eq!(plan.booked(), 0);
+    assert_eq!(plan.booked(), 3);
 
     assert_eq!(begin(&Menu::new(1, 0, &[(0, 0, 0)])), (0, 0, vec![1], 0));
 }

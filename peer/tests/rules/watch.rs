@@ -1,10 +1,10 @@
 //! Watches a day and checks what must hold after each of its commands.
 
 use crate::menu::{ask, Menu};
-use peer::{decode, needs, Answer, Command, Phase, Plan, Record};
+use peer::{decode, fullness, needs, Answer, Command, Phase, Plan, Record};
 
 /// What the accepted commands of a plan say: the plan itself, and of its day
-/// the starts and ends alone.
+/// the starts, the ends and the fetch alone.
 #[derive(Default)]
 pub struct Watch {
     tasks: usize,
@@ -16,6 +16,7 @@ pub struct Watch {
     pub needs: Vec<u32>,
     started: Vec<bool>,
     pub ended: Vec<bool>,
+    fetched: bool,
     /// Days that came to their end.
     pub days: usize,
 }
@@ -68,6 +69,7 @@ impl Watch {
                 self.ended = vec![false; self.records.len()];
             }
             Command::Done(task) => self.end(task),
+            Command::Fetch => self.fetched = true,
         }
         for &task in starts {
             self.start(task);
@@ -121,10 +123,9 @@ impl Watch {
         assert!(running <= self.processors);
         if reports == n {
             assert!(self.started.iter().all(|&started| started));
-            assert_eq!(plan.phase(), Phase::Over);
-        } else {
-            assert_eq!(plan.phase(), Phase::Running);
+            assert_eq!(plan.booked(), self.in_use());
         }
+        assert_eq!(plan.phase(), self.phase(reports));
         let [waiting, activated, by_running, finished] =
             plan.standing().map(|count| count as usize);
         assert_eq!((by_running, finished), (running, reports));
@@ -132,9 +133,20 @@ impl Watch {
         self.check_memory(plan);
     }
 
+    /// The phase of a day with so many reports.
+    fn phase(&self, reports: usize) -> Phase {
+        match (reports == self.started.len(), self.fetched) {
+            (false, false) => Phase::Running,
+            (false, true) => panic!("fetched too early"),
+            (true, false) => Phase::Ready,
+            (true, true) => Phase::Over,
+        }
+    }
+
     fn check_memory(&self, plan: &Plan) {
         let n = self.started.len();
         assert_eq!(plan.in_use(), self.in_use());
+        assert_eq!(plan.fullness(), fullness(plan.booked(), self.memory_bound));
         assert!(plan.in_use() <= plan.booked());
         assert!(plan.booked() <= self.memory_bound);
         let numbers = 1..=n as u16;
@@ -158,18 +170,21 @@ impl Watch {
         self.started[task] && !self.ended[task]
     }
 
-    /// The needs of running tasks + the outs of finished ones whose parent
-    /// has not started.
+    /// The needs of running tasks + the outs of finished ones whose parent has
+    /// not started, or that were not fetched.
     fn in_use(&self) -> u32 {
         let held = |task: usize| {
             let record = self.records[task];
-            match record.parent {
-                _ if self.is_running(task) => self.needs[task],
-                0 => 0,
-                parent if self.ended[task] && !self.started[usize::from(parent) - 1] => {
-                    record.out.into()
-                }
-                _ => 0,
+            let is_gone = match record.parent {
+                0 => self.fetched,
+                parent => self.started[usize::from(parent) - 1],
+            };
+            if self.is_running(task) {
+                self.needs[task]
+            } else if self.ended[task] && !is_gone {
+                record.out.into()
+            } else {
+                0
             }
         };
         (0..self.records.len()).map(held).sum()

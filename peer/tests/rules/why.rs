@@ -50,10 +50,8 @@ fn refused_outside_running() {
     for given in 4..=commands.len() {
         check_out_of_turn(&accepting(&commands[..given]), Phase::Orders);
     }
-    let (_, _, mut plan) = plan_a().begun();
-    for task in 1..=3 {
-        done(&mut plan, task);
-    }
+    check_out_of_turn(&plan_a().ready(), Phase::Ready);
+    let mut plan = plan_a().over();
     check_out_of_turn(&plan, Phase::Over);
     give(&mut plan, &commands[0]);
     check_out_of_turn(&plan, Phase::Steps);

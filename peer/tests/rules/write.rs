@@ -1,7 +1,8 @@
 //! A plan written back out: cases worked out by hand.
 
 use crate::menu::{
-    accepting, bytes_of, done, give, hex, plan_a, plan_c, reading, refused_plans, written, Menu,
+    accepting, bytes_of, done, fetch, give, hex, plan_a, plan_c, reading, refused_plans, written,
+    Menu,
 };
 use crate::naive::Naive;
 use crate::plan_a;
@@ -108,7 +109,7 @@ fn the_orders_in_any_mix() {
 }
 
 #[test]
-fn the_same_in_orders_running_and_over() {
+fn the_same_in_orders_running_ready_and_over() {
     for menu in [plan_a(), plan_c()] {
         let wanted = bytes(&menu.given());
         let (_, _, mut plan) = menu.begun();
@@ -117,6 +118,8 @@ fn the_same_in_orders_running_and_over() {
             assert_eq!(bytes(&plan), wanted);
             assert_eq!(done(&mut plan, task).0.number, 0);
         }
+        assert_eq!((plan.phase(), bytes(&plan)), (Phase::Ready, wanted.clone()));
+        fetch(&mut plan);
         assert_eq!((plan.phase(), bytes(&plan)), (Phase::Over, wanted.clone()));
         // A bad PLAN leaves the old plan, also one that is over.
         assert_eq!(give(&mut plan, &hex("01 00 00 01 00 00 00 00")).0.number, 4);
@@ -154,9 +157,7 @@ fn refused_until_both_orders_are_complete() {
 #[test]
 fn refused_after_a_next_plan_is_opened() {
     let menu = Menu::new(1, 0, &[(0, 0, 0)]);
-    let (_, _, mut over) = menu.begun();
-    done(&mut over, 1);
-    for mut plan in [menu.given(), over] {
+    for mut plan in [menu.given(), menu.over()] {
         bytes(&plan);
         give(&mut plan, &hex("01 01 00 01 00 00 00 00"));
         assert_eq!(plan.phase(), Phase::Steps);
@@ -169,12 +170,8 @@ fn refused_after_a_next_plan_is_opened() {
 
 #[test]
 fn refused_where_the_list_is_too_short() {
-    let (_, _, running) = plan_a().begun();
-    let mut over = running.clone();
-    for task in 1..=3 {
-        done(&mut over, task);
-    }
-    for plan in [plan_a().given(), running, over] {
+    let menu = plan_a();
+    for plan in [menu.given(), menu.begun().2, menu.ready(), menu.over()] {
         for list_len in 0..47 {
             assert_eq!(written(&plan, list_len), Err(11), "{list_len}");
         }

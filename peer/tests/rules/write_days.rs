@@ -37,6 +37,7 @@ fn moment(plan: &Plan, number: u8) -> &'static str {
         (Phase::Orders, 7..=9) => "a refused BEGIN",
         (Phase::Orders, _) => "ahead of BEGIN",
         (Phase::Running, _) => "running",
+        (Phase::Ready, _) => "ready",
         (Phase::Over, _) => "over",
         (phase, _) => panic!("written in {phase:?}"),
     }
@@ -63,7 +64,7 @@ fn streams_cut_anywhere() {
             *seen.entry(moment(&plan, number)).or_default() += 1;
         }
     }
-    assert_eq!(seen.len(), 4, "{seen:?}");
+    assert_eq!(seen.len(), 5, "{seen:?}");
     assert!(seen.values().all(|&count| count > 15), "{seen:?}");
 }
 

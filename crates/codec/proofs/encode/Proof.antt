@@ -40,10 +40,18 @@ done c =
     let i = c .before .before in
     rw (i .before .before .before .command5 .given .1) (i .start2 .ensures)
 
+fetch : tie.Need-returns-7
+unfolding bytes byteOf operandsOf widthsOf find forms littles little
+fetch c =
+    let byte = c .before .before in
+    rw (byte .before .before .enum-told2 .given .1) (byte .byte2 .ensures)
+
 pub encode-spec : {M : Type 1} → statement M
 encode-spec =
     tie.close
     (tie.spec
+    (λ c. search needs)
+    (λ c κs. search needs)
     (λ c. search needs)
     (λ c κs. search needs)
     (λ c. search needs)
@@ -71,4 +79,6 @@ encode-spec =
     (λ c. search needs)
     begin
     (λ c. search needs)
-    done)
+    done
+    (λ c. search needs)
+    fetch)

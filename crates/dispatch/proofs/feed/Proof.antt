@@ -1,4 +1,4 @@
--- `feed` meets its contract: nothing for nobody, one child fewer, and one ready task more where the parent is booked.
+-- `feed` meets its contract: one child fewer, and one ready task more where the parent is booked.
 use mathlib.Core.Path.{_≡_, sym, ap, _∙_}
 use Prim.Native.Nat.{ℕ, _-_}
 use native.Mathlib.Omega.{arith}
@@ -12,7 +12,6 @@ use Rattle.dispatch.proofs.Feeding.{
   waits-still,
   is-not-booked,
   is-ready,
-  fed-nobody,
   standing-is,
   may-insert,
   fed-still,
@@ -21,82 +20,79 @@ use Rattle.dispatch.proofs.Feeding.{
 use Rattle.dispatch.proofs.feed.Statement.{statement}
 use Rattle.dispatch.proofs.feed.Tie as tie
 
-returns : tie.Need-returns
-returns c = fed-nobody (c .before .pre) (c .if1 .taken)
-
 -- the children that are read are the parent's
-unended : (c : tie.After-cell) → c .cell .result ≡ at (contents (c .before .before .before .args .plan .now) .unended) (c .before .before .before .args .parent)
+unended : (c : tie.After-cell) → c .cell .result ≡ at (contents (c .before .before .args .plan .now) .unended) (c .before .before .args .parent)
 unended c =
-    let e = c .before .before .before in
+    let e = c .before .before in
     c .cell .ensures ∙ row-read (e .args .plan .now) (e .args .parent) (e .pre .parent-in) .unended
 
 sub-unended : tie.Need-sub-unended
 sub-unended c =
     let e = c .before .before in
-    omega (arith, unended c, e .before .pre .unfed (e .if1 .left) .waited)
+    omega (arith, unended c, e .pre .unfed .waited)
 
 -- one child fewer
 fewer : (c : tie.After-set-cell)
     → contents (c .set-cell .last .0)
-    ≡ waitsForFewer (c .before .before .before .before .before .args .parent) (contents (c .before .before .before .before .before .args .plan .now))
+    ≡ waitsForFewer (c .before .before .before .before .args .parent) (contents (c .before .before .before .before .args .plan .now))
 fewer c =
     let e = c .before .before .before .before in
-    fewer-written (e .before .args .plan .now) (e .before .args .parent) (e .before .pre) (e .if1 .left) (unended (c .before .before)) (c .set-cell .ensures)
+    fewer-written (e .args .plan .now) (e .args .parent) (e .pre) (unended (c .before .before)) (c .set-cell .ensures)
 
 place : (c : tie.After-cell3)
     → c .cell3 .result
-    ≡ at (contents (c .before .before .before .before .before .before .set-cell .last .0) .places) (c .before .before .before .before .before .before .before .before .before .before .before .args .parent)
+    ≡ at (contents (c .before .before .before .before .before .before .set-cell .last .0) .places) (c .before .before .before .before .before .before .before .before .before .before .args .parent)
 place c =
     let s = c .before .before .before .before .before .before in
-    let e = s .before .before .before .before .before in
+    let e = s .before .before .before .before in
     c .cell3 .ensures ∙ row-read (s .set-cell .last .0) (e .args .parent) (e .pre .parent-in) .place
 
 insert-requires : tie.Need-insert-requires
 insert-requires c κs =
     let s = c .before .before .before .before .before .before .before in
     let e = s .before .before .before .before in
-    may-insert (e .before .pre) (e .if1 .left) (fewer s) (place (c .before))
+    may-insert (e .pre) (fewer s) (place (c .before))
 
 -- its standing is as before
 standing : (c : tie.After-cell2)
-    → at (contents (c .before .before .before .before .before .before .before .before .args .plan .now) .standings) (c .before .before .before .before .before .before .before .before .args .parent)
+    → at (contents (c .before .before .before .before .before .before .before .args .plan .now) .standings) (c .before .before .before .before .before .before .before .args .parent)
     ≡ c .cell2 .result
 standing c =
     let s = c .before .before .before in
     let e = s .before .before .before .before in
     sym
     (c .cell2 .ensures
-    ∙ row-read (s .set-cell .last .0) (e .before .args .parent) (e .before .pre .parent-in) .standing
-    ∙ standing-is (e .before .pre) (e .if1 .left) (fewer s))
+    ∙ row-read (s .set-cell .last .0) (e .args .parent) (e .pre .parent-in) .standing
+    ∙ standing-is (e .pre) (fewer s))
 
-returns-2 : tie.Need-returns-2
-returns-2 c =
+ready : tie.Need-returns
+ready c =
     let t = c .before .before .before .before .before in
     let s = t .before .before .before in
     let e = s .before .before .before .before in
-    fed-ready (e .before .pre) (e .if1 .left) (fewer s) (c .insert .ensures) (place (c .before .before))
-    (is-ready (e .before .args .parent) (contents (e .before .args .plan .now))
-    (ap (λ (v : ℕ). v - 1) (sym (unended (s .before .before))) ∙ t .before .before .if2 .taken)
-    (standing t ∙ c .before .before .before .before .if3 .taken))
+    fed-ready (e .pre) (fewer s) (c .insert .ensures) (place (c .before .before))
+    (is-ready (e .args .parent) (contents (e .args .plan .now))
+    (ap (λ (v : ℕ). v - 1) (sym (unended (s .before .before))) ∙ t .before .before .if1 .taken)
+    (standing t ∙ c .before .before .before .before .if2 .taken))
 
-returns-3 : tie.Need-returns-3
-returns-3 c =
+booked : tie.Need-returns-2
+booked c =
     let t = c .before in
     let s = t .before .before .before in
     let e = s .before .before .before .before in
-    fed-still (e .before .pre) (e .if1 .left) (fewer s)
-    (is-not-booked (e .before .args .parent) (contents (e .before .args .plan .now)) (λ a. c .if3 .left (sym (standing t) ∙ a)))
+    fed-still (e .pre) (fewer s)
+    (is-not-booked (e .args .parent) (contents (e .args .plan .now)) (λ a. c .if2 .left (sym (standing t) ∙ a)))
 
-returns-4 : tie.Need-returns-4
-returns-4 c =
+waits : tie.Need-returns-3
+waits c =
     let s = c .before in
     let e = s .before .before .before .before in
-    fed-still (e .before .pre) (e .if1 .left) (fewer s)
-    (waits-still (e .before .args .parent) (contents (e .before .args .plan .now))
-    (λ z. c .if2 .left (ap (λ (v : ℕ). v - 1) (unended (s .before .before)) ∙ z)))
+    fed-still (e .pre) (fewer s)
+    (waits-still (e .args .parent) (contents (e .args .plan .now))
+    (λ z. c .if1 .left (ap (λ (v : ℕ). v - 1) (unended (s .before .before)) ∙ z)))
 
 pub feed-spec : {M : Type 1} → statement M
 feed-spec =
     tie.close
-    (tie.spec returns (λ c κs. search needs) sub-unended (λ c κs. search needs) (λ c κs. search needs) (λ c κs. search needs)
-    (λ c. search needs) insert-requires returns-2 returns-3 returns-4)
+    (tie.spec (λ c κs. search needs) sub-unended (λ c κs. search needs) (λ c κs. search needs) (λ c κs. search needs)
+    (λ c. search needs) insert-requires ready booked waits)

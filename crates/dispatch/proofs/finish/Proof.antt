@@ -27,7 +27,7 @@ parent c =
     c .cell .ensures ∙ row-read w (s .args .task) (task-in (s .pre) (lengths w)) .parent
 
 end-requires : tie.Need-end-requires
-end-requires c κs = let s = c .before .before .before in may-end (s .pre) (lengths (s .args .plan .now))
+end-requires c κs = let s = c .before .before .before in may-end (s .pre .kept) (s .pre .task) (s .pre .runs)
 
 feed-requires : tie.Need-feed-requires
 feed-requires c κs =

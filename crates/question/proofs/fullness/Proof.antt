@@ -1,8 +1,7 @@
--- `question::fullness` meets its contract: the fullness of what is booked, while the plan runs.
+-- `question::fullness` meets its contract: the fullness of what is booked, while trays of the plan lie in the cold room.
 use mathlib.Core.Path.{ap₂, _∙_}
 use Prim.Native.Nat.{ℕ}
 use borrow.Author.Needs.{needs}
-use lib.Dec.{eqb}
 use Rattle.rules.specs.Sums.{only}
 use Rattle.rules.specs.Phase
 use Rattle.rules.specs.Question as rules
@@ -11,10 +10,10 @@ use Rattle.question.proofs.fullness.Statement.{statement}
 use Rattle.question.proofs.fullness.Tie as tie
 
 returns : tie.Need-returns
-unfolding contents storeContents rules.isRunning rules.fullness
+unfolding contents storeContents rules.fullness
 returns c =
-    c .while-running .ensures
-    ∙ ap₂ (λ (p figure : ℕ). only (eqb p Phase.running) figure) (c .before .before .before .phase .ensures)
+    c .while-held .ensures
+    ∙ ap₂ (λ (p figure : ℕ). only (Phase.holdsTrays p) figure) (c .before .before .before .phase .ensures)
     (c .before .fullness .ensures
     ∙ ap₂ rules.fullnessOf (c .before .before .booked .ensures) (c .before .before .before .before .cell .ensures))
 

@@ -1,8 +1,7 @@
--- `question::in_use` meets its contract: the figure that is kept, while the plan runs.
+-- `question::in_use` meets its contract: the figure that is kept, while trays of the plan lie in the cold room.
 use mathlib.Core.Path.{ap₂, _∙_}
 use Prim.Native.Nat.{ℕ}
 use borrow.Author.Needs.{needs}
-use lib.Dec.{eqb}
 use Rattle.rules.specs.Sums.{only}
 use Rattle.rules.specs.Phase
 use Rattle.words.specs.Contents.{storeContents, contents}
@@ -13,8 +12,8 @@ use Rattle.question.proofs.in_use.Tie as tie
 returns : tie.Need-returns
 unfolding contents storeContents
 returns c =
-    c .while-running .ensures
-    ∙ ap₂ (λ (p figure : ℕ). only (eqb p Phase.running) figure) (c .before .phase .ensures) (c .before .before .cell .ensures)
+    c .while-held .ensures
+    ∙ ap₂ (λ (p figure : ℕ). only (Phase.holdsTrays p) figure) (c .before .phase .ensures) (c .before .before .cell .ensures)
     ∙ in-use-kept (contents (c .before .before .before .args .plan .now)) (c .before .before .before .pre .reached) (c .before .before .before .pre .sound)
 
 pub in-use-spec : {M : Type 1} → statement M

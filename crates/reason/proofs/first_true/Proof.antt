@@ -1,23 +1,21 @@
 -- `first_true` meets its contract: each way out knows the standing of the task, and the last two what its children do.
 use mathlib.Core.Path.{_≡_, sym, ap, _∙_}
-use Prim.Native.Nat.{ℕ, _≤_, _<_}
+use Prim.Native.Nat.{ℕ, _<_}
 use native.Mathlib.Omega.{arith}
 use lib.Dec.{eqb}
 use borrow.Author.Needs.{needs}
 use borrow.Author.Tests.{eq-eqb, ne-eqb}
 use Rattle.rules.specs.Lists.{at}
-use Rattle.rules.specs.Phase
 use Rattle.rules.specs.Standing.{waiting, activated}
 use Rattle.rules.specs.Booking.{fed}
 use Rattle.rules.specs.Why as rules
-use Rattle.rules.proofs.Reaching.{lives}
 use Rattle.rules.proofs.Why.{why-ended, why-running, why-waiting, why-unfed, why-no-processor}
 use Rattle.words.specs.Layout.{rows}
 use Rattle.words.specs.Contents.{Contents, contents}
 use Rattle.words.proofs.Views.{column-at}
 use Rattle.words.proofs.Contents.{lengths}
 use Rattle.answer.specs.Meaning.{meaning}
-use Rattle.answer.proofs.Meant.{standings-meant}
+use Rattle.answer.proofs.Meant.{standings-meant, going}
 use Rattle.reason.proofs.Reading.{child-kept, fed-kept}
 use Rattle.reason.proofs.Waiting.{some-waits}
 use Rattle.reason.proofs.first_true.Statement.{statement}
@@ -25,9 +23,6 @@ use Rattle.reason.proofs.first_true.Tie as tie
 
 abbrev plan : tie.Start → Contents
 plan c = contents (c .args .plan .now)
-
-in-day : (c : tie.Start) → Phase.running ≤ plan c .phase
-in-day c = let r = c .pre .runs in omega arith
 
 task-in : (c : tie.Start) → c .args .task < rows
 task-in c = let t = c .pre .is-task in let s = c .pre .valid .sound .small in omega arith
@@ -39,7 +34,7 @@ standing-is c =
     let s = c .before in
     c .cell .ensures
     ∙ column-at 4 (s .args .plan .now) (s .args .task) (task-in s)
-    ∙ sym (ap (λ (f : ℕ → ℕ). f (s .args .task)) (standings-meant (plan s) (s .pre .valid .sound) (in-day s)))
+    ∙ sym (ap (λ (f : ℕ → ℕ). f (s .args .task)) (standings-meant (plan s) (s .pre .valid .sound) (s .pre .runs)))
 
 -- ended, running and waiting
 returns : tie.Need-returns
@@ -63,7 +58,7 @@ not-booked-requires c κs =
       valid = s .pre .valid;
       runs = s .pre .runs;
       more =
-          some-waits (plan s) (s .pre .valid .reached) (s .pre .valid .sound) (in-day s) (lengths (s .args .plan .now)) (s .args .task)
+          some-waits (plan s) (s .pre .valid .reached) (s .pre .valid .sound) (s .pre .runs) (lengths (s .args .plan .now)) (s .args .task)
           (s .pre .is-task) (waits c);
     }
 
@@ -81,7 +76,7 @@ booked : (c : tie.Else3) → at (meaning (plan (start c)) .standings) (start c .
 booked c =
     let s = start c in
     let is = standing-is (c .before .before .before) in
-    let four = lives (s .pre .valid .reached) .day (in-day s) .1 .settled .good .shape .four (s .args .task) (s .pre .is-task) in
+    let four = going (plan s) (s .pre .valid .reached) (s .pre .valid .sound) (s .pre .runs) .settled .good .shape .four (s .args .task) (s .pre .is-task) in
     let not-ended = c .before .before .if1 .left in
     let not-running = c .before .if2 .left in
     let not-waiting = c .if3 .left in
@@ -96,13 +91,13 @@ unfolding contents
 unended-is c =
     let s = start (c .before) in
     ap (λ (v : ℕ). eqb v 0) (c .cell2 .ensures ∙ column-at 3 (s .args .plan .now) (s .args .task) (task-in s))
-    ∙ sym (fed-kept (plan s) (s .pre .valid .sound) (in-day s) (s .args .task) (s .pre .is-task))
+    ∙ sym (fed-kept (plan s) (s .pre .valid .sound) (s .pre .runs) (s .args .task) (s .pre .is-task))
 
 returns-4 : tie.Need-returns-4
 returns-4 c =
     let t = c .before in
     let s = start (t .before .before) in
-    ap rules.unfed (c .unended-child .ensures ∙ child-kept (plan s) (s .pre .valid .sound) (in-day s) (s .args .task))
+    ap rules.unfed (c .unended-child .ensures ∙ child-kept (plan s) (s .pre .valid .sound) (s .pre .runs) (s .args .task))
     ∙ sym
     (why-unfed (meaning (plan s)) (s .args .task) (s .pre .runs) (s .pre .is-task) (booked (t .before .before))
     (sym (unended-is (t .before)) ∙ ne-eqb (t .before .cell2 .result) 0 (t .if4 .taken)))

@@ -1,10 +1,9 @@
 -- `not_booked` meets its contract: the next task to be booked is the first that waits, and its lack is by the kept figures.
 use mathlib.Core.Path.{_≡_, refl, sym, ap, ap₂, _∙_}
-use Prim.Native.Nat.{ℕ, _+_, _-_, _≤_}
+use Prim.Native.Nat.{ℕ, _+_, _-_}
 use native.Mathlib.Omega.{arith}
 use borrow.Author.Needs.{needs}
 use Rattle.rules.specs.Lists.{at}
-use Rattle.rules.specs.Phase
 use Rattle.rules.specs.Why as rules
 use Rattle.words.specs.Contents.{Contents, contents}
 use Rattle.words.proofs.Contents.{lengths}
@@ -21,11 +20,8 @@ use Rattle.reason.proofs.not_booked.Tie as tie
 abbrev plan : tie.Start → Contents
 plan c = contents (c .args .plan .now)
 
-in-day : (c : tie.Start) → Phase.running ≤ plan c .phase
-in-day c = let r = c .pre .runs in omega arith
-
 kept : (c : tie.Start) → Kept (plan c)
-kept c = still-kept (plan c) (c .pre .valid .reached) (c .pre .valid .sound) (in-day c)
+kept c = still-kept (plan c) (c .pre .valid .reached) (c .pre .valid .sound) (c .pre .runs)
 
 -- the place that is looked at, and the task there
 wait : (c : tie.After-cell) → SomeWait (plan (c .before)) (c .cell .result)
@@ -61,15 +57,15 @@ shortage-requires : tie.Need-shortage-requires
 shortage-requires c κs =
     let s = c .before .before .before in (
       refl,
-      within-bound (plan s) (s .pre .valid .reached) (s .pre .valid .sound) (in-day s) (lengths (s .args .plan .now)),
+      within-bound (plan s) (s .pre .valid .reached) (s .pre .valid .sound) (s .pre .runs) (lengths (s .args .plan .now)),
     )
 
 returns : tie.Need-returns
 returns c =
     let s = c .before .before .before .before in
     let p = plan s in
-    let first = next-first p (s .pre .valid .reached) (s .pre .valid .sound) (in-day s) (lengths (s .args .plan .now)) (s .pre .more) in
-    let lack = next-lack p (s .pre .valid .reached) (s .pre .valid .sound) (in-day s) (lengths (s .args .plan .now)) (s .pre .more) in
+    let first = next-first p (s .pre .valid .reached) (s .pre .valid .sound) (s .pre .runs) (lengths (s .args .plan .now)) (s .pre .more) in
+    let lack = next-lack p (s .pre .valid .reached) (s .pre .valid .sound) (s .pre .runs) (lengths (s .args .plan .now)) (s .pre .more) in
     let units : c .before .missing .result ≡ lacking p =
     c .before .missing .ensures ∙ ap (λ (t : ℕ). at (p .chilled .needs) t - at (p .chilled .figures) t) (first-is (c .before .before))
     in

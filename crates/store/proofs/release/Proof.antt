@@ -1,16 +1,13 @@
 -- `release` meets its contract: a word of the head and three words of rows are written, one after the other.
 use mathlib.Core.Path.{_≡_, refl, ap, ap₂, _∙_}
-use mathlib.Core.Bool.{Bool, not}
 use Prim.Native.Nat.{ℕ, _+_, _-_, _<_}
 use native.Mathlib.Omega.{arith}
 use lib.ListN.{set}
 use borrow.Author.Needs.{needs}
-use borrow.Author.Tests.{ne-eqb}
-use Rattle.rules.specs.Sums.{only}
 use Rattle.rules.specs.Lists.{at}
 use Rattle.words.specs.Layout.{rows}
 use Rattle.words.specs.Contents.{Contents, contents}
-use Rattle.store.specs.Store.{withStore, withHoldings, keptOut, released}
+use Rattle.store.specs.Store.{withStore, withHoldings, released}
 use Rattle.store.proofs.Writing.{
   RowRead,
   HeadRead,
@@ -38,28 +35,26 @@ head c = head-read (c .args .plan .now) (c .args .store) (c .pre .at-task .offse
 
 -- what is read
 abbrev start : tie.After-cell5 → tie.Start
-start c = c .before .before .before .before .before .before .before .before .before .before .before
+start c = c .before .before .before .before .before .before .before .before .before .before
 
 abbrev parent : tie.Start → ℕ
 parent c = at (old c .parents) (c .args .task)
 
 abbrev keeps : tie.Start → ℕ
-keeps c = keptOut (parent c) (at (old c .chilled .outs) (c .args .task))
+keeps c = at (old c .chilled .outs) (c .args .task)
 
 parent-read :
     (c : tie.After-cell5)
-    → c .before .before .before .before .before .before .before .before .before .cell .result ≡ parent (start c)
-parent-read c = c .before .before .before .before .before .before .before .before .before .cell .ensures ∙ row (start c) .parent
+    → c .before .before .before .before .before .before .before .before .cell .result ≡ parent (start c)
+parent-read c = c .before .before .before .before .before .before .before .before .cell .ensures ∙ row (start c) .parent
 
 held-read :
     (c : tie.After-cell5)
-    → c .before .before .before .before .before .before .before .cell2 .result ≡ at (old (start c) .chilled .booked) (start c .args .task)
-held-read c = c .before .before .before .before .before .before .before .cell2 .ensures ∙ row (start c) .booked
+    → c .before .before .before .before .before .before .cell2 .result ≡ at (old (start c) .chilled .booked) (start c .args .task)
+held-read c = c .before .before .before .before .before .before .cell2 .ensures ∙ row (start c) .booked
 
-out-read : (c : tie.After-cell5) → c .before .before .before .before .kept-by .result ≡ keeps (start c)
-out-read c =
-    c .before .before .before .before .kept-by .ensures
-    ∙ ap₂ (λ (p o : ℕ). keptOut p o) (parent-read c) (c .before .before .before .before .before .cell3 .ensures ∙ row (start c) .out)
+out-read : (c : tie.After-cell5) → c .before .before .before .before .cell3 .result ≡ keeps (start c)
+out-read c = c .before .before .before .before .cell3 .ensures ∙ row (start c) .out
 
 need-read :
     (c : tie.After-cell5)
@@ -113,7 +108,7 @@ written c =
     (here .offset) 0 refl x (here .task-in) (c .before .before .set-cell2 .ensures))
     (here .offset) 0 refl x (here .task-in) (c .set-cell3 .ensures)
 
-parent-small : (c : tie.After-cell5) → c .before .before .before .before .before .before .before .before .before .cell .result < rows
+parent-small : (c : tie.After-cell5) → c .before .before .before .before .before .before .before .before .cell .result < rows
 parent-small c = let e = parent-read c in let h = start c .pre .parent-in in omega arith
 
 grow-requires : tie.Need-grow-requires
@@ -127,11 +122,8 @@ grow-requires c κs =
       task-in = small;
       column-in = (let f = s .pre .at-task .offset in omega arith);
       fits =
-          λ d.
-          let e : keeps s ≡ at (old s .chilled .outs) (s .args .task) =
-          ap (λ (b : Bool). only (not b) (at (old s .chilled .outs) (s .args .task))) (ne-eqb (parent s) 0 (λ z. d (p ∙ z)))
-          in
-          let most = s .pre .parent-fits (λ z. d (p ∙ z)) in
+          λ _.
+          let most = s .pre .parent-fits in
           let is = row-read (written (c .before)) (s .pre .at-task .offset) _ small .booked in
           let there = ap (at (set (old s .chilled .booked) (s .args .task) 0)) p in
           omega arith;
@@ -159,7 +151,7 @@ pub release-spec : {M : Type 1} → statement M
 release-spec =
     tie.close
     (tie.spec (λ c κs. search needs) (λ c. search needs) (λ c. search needs) (λ c κs. search needs) (λ c. search needs)
-    (λ c κs. search needs) (λ c κs. search needs) (λ c. search needs) (λ c κs. search needs) (λ c. search needs)
+    (λ c κs. search needs) (λ c. search needs) (λ c κs. search needs) (λ c. search needs)
     (λ c κs. search needs) (λ c. search needs) sub-set-cell add-set-cell-2 (λ c κs. search needs) (λ c. search needs)
     (λ c κs. search needs) (λ c. search needs) (λ c κs. search needs) (λ c. search needs) grow-requires sub-result
     returns)

@@ -40,6 +40,14 @@ reports : tie.Need-returns-7
 reports c =
     as-read (c .before .before .before .before .before .before .before .before .before .asked2 .given .1) (c .before .before .before .before .before .before .command5 .given .1) (a-start (c .before .before .before .before .before .before .before .before .before .before .before .before .pre .0) (c .before .before .before .before .before .before .before .before .before .before .before .before .pre .1) (c .before .before .report .ensures))
 
+-- FETCH starts nothing
+fetches : tie.Need-returns-8
+fetches c =
+    let told = c .before .before in
+    let start = told .before .before .before .before .before .before in
+    as-read (told .before .before .before .asked2 .given .1) (told .enum-told2 .given .1)
+    (no-start (start .args .starts .now) (start .pre .0) (start .pre .1) (c .fetch .ensures))
+
 pub obey-spec : {M : Type 1} → statement M
 obey-spec =
     tie.close
@@ -47,6 +55,8 @@ obey-spec =
     (λ c. search needs)
     (λ c κs. search needs)
     (λ c. search needs)
+    (λ c. search needs)
+    (λ c κs. search needs)
     (λ c. search needs)
     (λ c κs. search needs)
     (λ c. search needs)
@@ -67,4 +77,5 @@ obey-spec =
     (λ c. search needs)
     begins
     (λ c. search needs)
-    reports)
+    reports
+    fetches)

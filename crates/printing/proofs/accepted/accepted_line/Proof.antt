@@ -2,7 +2,7 @@
 use mathlib.Core.Path.{_∙_}
 use borrow.Author.Needs.{needs}
 use Rattle.rules.specs.Text.{line}
-use Rattle.printing.proofs.Printed.{as-text, no-text, of-refused, of-read, of-begin, of-done}
+use Rattle.printing.proofs.Printed.{as-text, no-text, of-refused, of-read, of-begin, of-done, no-tasks, of-fetch}
 use Rattle.printing.proofs.accepted.accepted_line.Statement.{statement}
 use Rattle.printing.proofs.accepted.accepted_line.Tie as tie
 
@@ -43,6 +43,14 @@ returns-7 c =
     ∙ of-done _ (figures .before .before .booked2 .ensures) (figures .before .in-use2 .ensures) (figures .fullness2 .ensures) _)
     (c .before .before .done-line .ensures)
 
+returns-8 : tie.Need-returns-8
+returns-8 c =
+    let fetch = c .before .before in
+    let read = fetch .before .before .before in
+    as-text
+    (of-read _ (read .before .before .before .asked .given .1) (read .enum-told7 .given .1) ∙ of-fetch _ (fetch .before .booked3 .ensures))
+    (no-tasks (fetch .fetch-line .ensures))
+
 pub accepted-line-spec : {M : Type 1} → statement M
 accepted-line-spec =
     tie.close
@@ -63,6 +71,9 @@ accepted-line-spec =
     (λ c κs. search needs)
     (λ c κs. search needs)
     (λ c κs. search needs)
+    (λ c. search needs)
+    (λ c κs. search needs)
+    (λ c κs. search needs)
     returns
     returns-2
     returns-3
@@ -71,4 +82,6 @@ accepted-line-spec =
     (λ c. search needs)
     returns-6
     (λ c. search needs)
-    returns-7)
+    returns-7
+    (λ c. search needs)
+    returns-8)

@@ -1,0 +1,167 @@
+-- The root ends: nobody waits and nobody is ready, so nothing is booked and nothing starts, and its out remains.
+use mathlib.Core.Path.{_≡_, refl, sym, ap, _∙_}
+use mathlib.Core.Bool.{false}
+use mathlib.Core.Logic.{⊎-elim}
+use mathlib.Core.List.{List, [], _∷_}
+use Prim.Native.Nat.{ℕ, _-_, _≤_}
+use native.Mathlib.Omega.{arith}
+use lib.Dec.{eqb}
+use lib.ListN.{length, set}
+use lib.Seq.{drop-length}
+use borrow.Author.Tests.{eq-eqb, ne-eqb}
+use Rattle.rules.specs.Lists.{at}
+use Rattle.rules.specs.Phase
+use Rattle.rules.specs.Standing.{running, finished}
+use Rattle.rules.specs.State.{State, needs}
+use Rattle.rules.specs.Command.{done}
+use Rattle.rules.specs.Grounds.{within}
+use Rattle.rules.specs.Booking.{Books, Share, Climbed, total, chain, activate, start, free, release, climb, dispatch}
+use Rattle.rules.specs.Obey.{withBooks, ahead, begun, proceed, endedStandings, shared, ended, phaseAfter, plain, obey}
+use Rattle.rules.specs.Invariant.{rankIn}
+use Rattle.rules.proofs.Tests.{same-or-not}
+use Rattle.rules.proofs.Sums.{Task, sum-le, only-true, only-false}
+use Rattle.rules.proofs.Orders.{within-task, mem-at, every-mem}
+use Rattle.rules.proofs.Roots.{one-root, root-last}
+use Rattle.rules.proofs.Tree.{chain-none}
+use Rattle.rules.proofs.Balance.{running-holds-need}
+use Rattle.rules.proofs.Finishing.{finishing-shape}
+use Rattle.rules.proofs.Branches.{passes-all, release-root}
+use Rattle.rules.proofs.Starts.{Startable, starts-startable}
+use Rattle.rules.proofs.Entries.{at-set, at-other, moved-by-set}
+use Rattle.rules.proofs.InDay.{Planned, Going, Closed, tree, needs-roomy}
+
+-- nobody that has ended starts
+no-starts :
+    (n : ℕ) (par : ℕ → ℕ) (st l : List ℕ) → ((i : ℕ) → Task n i → at st i ≡ finished) → Startable n par st l → l ≡ []
+unfolding Startable
+no-starts n par st [] all may = refl
+no-starts n par st (x ∷ l) all may = let e = all x (may .0) in let b = may .1 in absurd (omega arith)
+
+-- the plan once its root has ended: all have, and its out remains booked
+abbrev pub readyAfter : State → ℕ → State
+readyAfter s j =
+    withBooks s Phase.ready (endedStandings s j) (set (s .chilled .booked) j (at (s .chilled .outs) j))
+
+module _ (s : State) (p : Planned s) (going : Going s) (j : ℕ) (task : Task (s .size) j) (runs : at (s .standings) j ≡ running)
+    (root : at (s .parents) j ≡ 0) where
+  pub all-ended : (i : ℕ) → Task (s .size) i → at (endedStandings s j) i ≡ finished
+  unfolding endedStandings
+  all-ended =
+      root-last (s .size) (at (s .parents)) (rankIn (s .activation)) (tree s p) (at (set (s .standings) j finished))
+      (finishing-shape (s .size) (at (s .parents)) (rankIn (s .activation)) (tree s p) (at (s .standings)) _
+      (going .settled .good .shape) j task runs
+      (moved-by-set (s .size) (s .standings) j finished (going .settled .good .sized) task))
+      (p .rooted) j task root (at-set (s .size) (s .standings) j finished (going .settled .good .sized) task)
+
+  abbrev remaining : List ℕ
+  remaining = set (s .chilled .booked) j (at (s .chilled .outs) j)
+
+  -- nobody is above the root
+  abbrev kept : Climbed
+  kept =
+      record {
+        offered = [];
+        share = record { left = at (s .chilled .booked) j - at (s .chilled .outs) j; booked = remaining };
+      }
+
+  shared-is : shared s j ≡ kept
+  unfolding shared dispatch climb
+  shared-is =
+      ap
+      (λ (l : List ℕ).
+      climb (s .size) (at (s .parents)) (needs s) (at (endedStandings s j)) l
+      (release (at (s .parents)) (at (s .chilled .outs)) (s .chilled .booked) j))
+      (ap (chain (s .size) (at (s .parents))) root ∙ chain-none (s .size) (at (s .parents)))
+      ∙ ap (λ (h : Share). record { offered = []; share = h })
+      (release-root (at (s .parents)) (at (s .chilled .outs)) (s .chilled .booked) j (eq-eqb (at (s .parents) j) 0 root))
+
+  abbrev books : Books
+  books = record { standings = endedStandings s j; booked = remaining }
+
+  ended-is : ended s j ≡ books
+  unfolding ended
+  ended-is = ap (λ (c : Climbed). record { standings = endedStandings s j; booked = c .share .booked }) shared-is
+
+  -- nobody waits
+  nobody-booked : ahead s books ≡ books
+  unfolding ahead activate
+  nobody-booked =
+      passes-all (s .size) (at (s .parents)) (needs s) (s .chilled .bound) (s .activation) (length (s .activation)) books
+      (λ e h w.
+      let t =
+      within-task (s .size) _
+      (every-mem (λ i. within i (s .size)) (s .activation) _ (p .valid .inside) (mem-at (s .activation) e h))
+      in
+      let f = all-ended (at (s .activation) e) t in
+      omega arith)
+      ∙ ap (λ (l : List ℕ). activate (s .size) (at (s .parents)) (needs s) (s .chilled .bound) l books) (drop-length (s .activation))
+
+  -- nobody is ready
+  nobody-starts : begun s books ≡ []
+  unfolding begun
+  nobody-starts =
+      no-starts (s .size) (at (s .parents)) (endedStandings s j) _ all-ended
+      (starts-startable (s .size) (at (s .parents)) (s .execution) (p .formed .execution-inside)
+      (free (s .size) (s .processors) (endedStandings s j)) (endedStandings s j))
+
+  phase-is : phaseAfter s j ≡ Phase.ready
+  unfolding phaseAfter
+  phase-is = rw (eq-eqb (at (s .parents) j) 0 root) refl
+
+  pub closes : obey s (done j) ≡ plain (readyAfter s j)
+  unfolding obey proceed start
+  closes =
+      rw (shared-is, ended-is, phase-is, nobody-booked, nobody-starts) refl
+
+  -- what its trolley holds is within the places, since it held its need
+  held : at (s .chilled .outs) j ≤ at (s .chilled .booked) j
+  held =
+      let exact =
+      running-holds-need (s .size) (at (s .parents)) (rankIn (s .activation)) (tree s p) (needs s) (at (s .chilled .outs))
+      (at (s .standings)) (at (s .chilled .booked)) (going .settled .good .shape) (going .settled .good .stock .books) j task runs
+      in
+      let room = needs-roomy s (s .chilled) j task in
+      omega arith
+
+  there : at remaining j ≡ at (s .chilled .outs) j
+  there = at-set (s .size) (s .chilled .booked) j (at (s .chilled .outs) j) (going .settled .good .stock .sized) task
+
+  elsewhere : (i : ℕ) → (i ≡ j → ⊥) → at remaining i ≡ at (s .chilled .booked) i
+  elsewhere i d = at-other (s .chilled .booked) j (at (s .chilled .outs) j) i d
+
+  -- the others had ended, and hold nothing
+  empty : (i : ℕ) → Task (s .size) i → (i ≡ j → ⊥) → at remaining i ≡ 0
+  unfolding endedStandings
+  empty i t d =
+      elsewhere i d
+      ∙ going .settled .good .stock .books .empty i t (sym (at-other (s .standings) j finished i d) ∙ all-ended i t)
+
+  pub closing : Closed (readyAfter s j) false
+  unfolding withBooks total
+  closing =
+      record {
+        phased = refl;
+        all = all-ended;
+        stock =
+            record {
+              booked =
+                  λ i t.
+                  ⊎-elim
+                  (λ q. rw q (there ∙ sym (only-true (eqb (at (s .parents) j) 0) _ (eq-eqb (at (s .parents) j) 0 root))))
+                  (λ d.
+                  empty i t d
+                  ∙ sym
+                  (only-false (eqb (at (s .parents) i) 0) _
+                  (ne-eqb (at (s .parents) i) 0 (λ z. d (one-root (s .size) (at (s .parents)) (p .rooted) i j t task z root)))))
+                  (same-or-not i j);
+              within =
+                  (let fewer =
+                  sum-le (at remaining) (at (s .chilled .booked)) (s .size)
+                  (λ i t.
+                  ⊎-elim (λ q. rw q (let h = held in let e = there in omega arith))
+                  (λ d. let e = elsewhere i d in omega arith) (same-or-not i j))
+                  in
+                  let w = going .settled .good .stock .within in
+                  omega arith);
+            };
+      }
