@@ -18,7 +18,8 @@ use Rattle.rules.proofs.Sums.{only-true, only-cong, count-none, count-all}
 use Rattle.rules.proofs.Tests.{decide, same-or-not, or-cases}
 use Rattle.rules.proofs.Roots.{some-root}
 use Rattle.rules.proofs.InDay.{all-ended}
-use Rattle.rules.proofs.Holds.{in-use-going, day-holds}
+use Rattle.rules.proofs.Stores.{in-use-going}
+use Rattle.rules.proofs.Holds.{day-holds}
 use Rattle.rules.proofs.Reaching.{lives}
 use Rattle.words.specs.Contents.{Contents}
 use Rattle.store.specs.Rows.{rowsOf, books, activationOf}

@@ -47,6 +47,8 @@ pub mod Closing
 pub mod Reporting
 pub mod Fetching
 pub mod Questions
+pub mod Going
+pub mod Stores
 pub mod Holds
 pub mod Staying
 pub mod Steps

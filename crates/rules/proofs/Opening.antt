@@ -4,7 +4,6 @@ use mathlib.Core.List.{[], map}
 use Prim.Native.Nat.{_≤_}
 use native.Mathlib.Omega.{arith}
 use Rattle.rules.specs.Lists.{at}
-use Rattle.rules.specs.Phase
 use Rattle.rules.specs.Standing.{running, count}
 use Rattle.rules.specs.State.{State, needs}
 use Rattle.rules.specs.Command.{begin}
