@@ -1,6 +1,6 @@
 SHELL := /bin/bash
 
-.PHONY: run day printer plan-text test edits compare match examples bench stack
+.PHONY: run day printer plan-text test edits compare match width examples bench stack
 
 # A day of plan A of document 01, printed by the day printer.
 run: printer
@@ -43,11 +43,15 @@ compare:
 match:
 	./compare/match
 
+# That no number of fullness is wider than 32 bits.
+width:
+	./compare/width
+
 # The examples in C, compiled as C and C++ with warnings as errors, run and compared, and those of the Rust crate.
 examples:
 	./compare/examples
 
-# Commands, why a step is not starting and a plan written out, timed beside the peer's.
+# Commands, why a step is not starting, a plan written out and fullness, timed beside the peer's.
 bench:
 	@./compare/bench
 

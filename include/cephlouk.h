@@ -126,6 +126,10 @@ uint32_t cephlouk_fullness(const uint32_t *plan);               /* trays booked,
 struct cephlouk_counts cephlouk_standing(const uint32_t *plan); /* four zeros outside running, ready and over */
 struct cephlouk_reason cephlouk_why(const uint32_t *plan, uint16_t task); /* why a step is not starting */
 
+/* Fullness of `booked` trays in `places`, in thousandths, rounded down, of any two numbers and no plan: 0 where there is no place, and 1000
+   where there are at least as many trays. No number in it is wider than 32 bits, for panels that admit no wider one. */
+uint32_t cephlouk_fullness_of(uint32_t booked, uint32_t places);
+
 /* Writes what was given of a plan back out, to the front of a list of `length` bytes: PLAN, the steps, the activation order and the
    execution order, without BEGIN. OUT_OF_TURN until both orders are complete; then SHORT_LIST where the list has fewer than 8 bytes and 13
    for each step. From BEGIN on an execution order that was left out is complete, with the entries of the activation order. Bytes behind

@@ -34,6 +34,8 @@ extern "C" {
 
     pub(crate) fn cephlouk_fullness(plan: *const u32) -> u32;
 
+    pub(crate) fn cephlouk_fullness_of(booked: u32, places: u32) -> u32;
+
     pub(crate) fn cephlouk_standing(plan: *const u32) -> Standing;
 
     pub(crate) fn cephlouk_why(plan: *const u32, task: u16) -> FlatReason;

@@ -2,7 +2,7 @@
 //! a step ends, so that the cold room never overfills and the day never
 //! sticks. This is the safe side of the proved library: a [`Plan`] is kept,
 //! takes one command after another, can be asked how the day stands, and can be
-//! written back out.
+//! written back out. A panel that has no plan asks [`fullness`] of two numbers.
 //!
 //! A command is one byte and operands of fixed width, lowest byte first:
 //!
@@ -35,6 +35,7 @@
 //! assert_eq!(begun.peak, 7);
 //! assert_eq!(begun.starts, [1]);
 //! assert_eq!(plan.booked(), 6);
+//! assert_eq!(plan.fullness(), 857); // thousandths of the 7 places
 //!
 //! // Step 2 has to wait: it lacks 5 places. What is refused changes nothing.
 //! assert_eq!(plan.why(2), Ok(Reason::NotBooked { first: 2, lack: 5 }));
@@ -56,6 +57,7 @@
 mod answer;
 mod desk;
 mod exported;
+mod fullness;
 mod phase;
 mod plan;
 mod reason;
@@ -63,6 +65,7 @@ mod refusal;
 
 pub use answer::{Accepted, Answer, Wrote};
 pub use desk::{desk_peak, desk_peak_in, TaskRecord};
+pub use fullness::fullness;
 pub use phase::{Phase, Standing};
 pub use plan::Plan;
 pub use reason::Reason;

@@ -1,10 +1,11 @@
-//! Commands, the question why a step is not starting and a plan written out
-//! timed, the proved functions beside the peer's, and the two day printers,
-//! printed as Markdown. No figure fails anything.
+//! Commands, the question why a step is not starting, a plan written out and
+//! fullness timed, the proved functions beside the peer's, and the two day
+//! printers, printed as Markdown. No figure fails anything.
 
 use compare::clock::{medians, Batch, Calls, SAMPLES};
 use compare::day::Day;
 use compare::programs::{self, COMMANDS, RUNS};
+use compare::readings::{print_readings, TOGETHER};
 use compare::table::{print_table, Extremes, Pair};
 use std::hint::black_box;
 use std::ops::Range;
@@ -23,10 +24,12 @@ fn main() {
     let setup = print_table("PLAN, STEP, 03 and 04", setup);
     let why = print_table("Why a step is not starting", why);
     let write = print_table("A plan written out, divided by n", write);
+    let readings = print_readings();
     let programs = programs::times();
     print_aims(
         [done, begin, setup],
         [&one_order, &fetch, &why, &write],
+        readings,
         programs,
     );
 }
@@ -44,6 +47,7 @@ fn print_notes() {
          and outs are 0 to 20; any running step ends next.\n\
          - Why a step is not starting is asked of every step once half of the reports came; the figure is that of one asking. The \
          plan is written out then too; the figure is that of one step.\n\
+         - Fullness is read of {TOGETHER} pairs; the figure is that of one reading.\n\
          - Growth is the figure at n = 1024 over the figure at n = 64."
     );
 }
@@ -139,6 +143,7 @@ fn pair_of_copies(day: &Day, places: Range<usize>, led_to: usize, copies: usize)
 fn print_aims(
     [done, begin, setup]: [Extremes; 3],
     [one_order, fetch, why, write]: [&Extremes; 4],
+    [least, most]: [f64; 2],
     [printer, peer]: [[f64; 2]; 2],
 ) {
     let ratio = |extremes: &Extremes| {
@@ -162,6 +167,7 @@ fn print_aims(
     );
     println!("| why a step is not starting | – | {} |", ratio(why));
     println!("| a plan written out | – | {} |", ratio(write));
+    println!("| fullness | – | {least:.2} to {most:.2} |");
     for (name, extremes) in [
         ("DONE", done),
         ("BEGIN", begin),

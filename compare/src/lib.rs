@@ -7,8 +7,10 @@ pub mod feeding;
 pub mod fence;
 pub mod kept;
 pub mod lists;
+pub mod pairs;
 pub mod plans;
 pub mod programs;
+pub mod readings;
 pub mod reasons;
 #[cfg(test)]
 mod stand_in;

@@ -2,7 +2,7 @@
 //! painted below the caller, and what a call has written over is counted. It
 //! fails where that is more than 32 KB.
 
-use cephlouk::{desk_peak_in, Plan, TaskRecord};
+use cephlouk::{desk_peak_in, fullness, Plan, TaskRecord};
 use compare::day::Day;
 use peer::generate::Shape;
 use std::collections::BTreeMap;
@@ -73,6 +73,9 @@ impl Depths {
         });
         self.note("cephlouk_fullness", || {
             black_box(plan.fullness());
+        });
+        self.note("cephlouk_fullness_of", || {
+            black_box(fullness(black_box(u32::MAX - 1), u32::MAX));
         });
         self.note("cephlouk_standing", || {
             black_box(plan.standing());

@@ -1,26 +1,42 @@
 //! The tools beside the peer's: `tools [CASES]`, 200,000 of each tool unless it
 //! says otherwise. Both get the same operands and lists, and must answer the
-//! same numbers and leave the same lists. A case of `why` has many answers.
+//! same numbers and leave the same lists. A case of `why` has many answers, and
+//! a case of fullness many pairs.
 
 mod desk;
 mod why;
 mod write;
 
 use compare::lists::DeskPeak;
+use compare::pairs::compare_readings;
 use compare::plans::Write;
 use compare::reasons::Why;
 use compare::tool::{compare, Tally};
 use std::process::ExitCode;
 
-/// Compares so many cases of a tool.
-type Comparison = fn(u64) -> Result<Tally, String>;
+/// Compares so many cases of a tool, and tells what was the same.
+type Comparison = fn(u64) -> Result<String, String>;
 
 /// Each tool.
-const TOOLS: [(&str, Comparison); 3] = [
-    ("desk", |cases| compare::<DeskPeak>(desk::peak, cases)),
-    ("why", |cases| compare::<Why>(why::reasons, cases)),
-    ("write", |cases| compare::<Write>(write::plan, cases)),
+const TOOLS: [(&str, Comparison); 4] = [
+    ("desk", |cases| {
+        compare::<DeskPeak>(desk::peak, cases).map(|tally| answers(cases, &tally))
+    }),
+    ("fullness", |cases| {
+        let pairs = PAIRS * cases;
+        compare_readings(cephlouk::fullness, pairs)?;
+        Ok(format!("{pairs} pairs, the same readings"))
+    }),
+    ("why", |cases| {
+        compare::<Why>(why::reasons, cases).map(|tally| answers(cases, &tally))
+    }),
+    ("write", |cases| {
+        compare::<Write>(write::plan, cases).map(|tally| answers(cases, &tally))
+    }),
 ];
+
+/// The pairs of a case of fullness.
+const PAIRS: u64 = 64;
 
 fn main() -> ExitCode {
     let cases: u64 = std::env::args()
@@ -28,7 +44,7 @@ fn main() -> ExitCode {
         .map_or(200_000, |cases| cases.parse().expect("a number of cases"));
     for (name, compare) in TOOLS {
         match compare(cases) {
-            Ok(tally) => println!("{name}: {cases} cases, the same answers{}", told(&tally)),
+            Ok(same) => println!("{name}: {same}"),
             Err(difference) => {
                 println!("{name}: a difference at {difference}");
                 return ExitCode::FAILURE;
@@ -38,11 +54,14 @@ fn main() -> ExitCode {
     ExitCode::SUCCESS
 }
 
-/// How many answers had which number.
-fn told(tally: &Tally) -> String {
+/// How many cases were the same, and how many answers had which number.
+fn answers(cases: u64, tally: &Tally) -> String {
     let counts = tally.iter().map(|(&number, count)| match number {
         0 => format!(", {count} accepted"),
         _ => format!(", {count} refused {number}"),
     });
-    counts.collect()
+    format!(
+        "{cases} cases, the same answers{}",
+        counts.collect::<String>()
+    )
 }

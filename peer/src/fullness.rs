@@ -1,4 +1,6 @@
-//! Fullness, in thousandths.
+//! Fullness, in thousandths: by the definition itself, with a product that can
+//! need 42 bits. Request 05 asks the tool for another way on 32 bits, and every
+//! reading stays the same.
 
 /// Fullness of b in M: 0 if M is 0, 1,000 if b is at least M, else
 /// 1,000 times b divided by M, rounded down.

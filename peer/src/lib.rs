@@ -1,8 +1,8 @@
 //! An independent writing of the rules in document 01: the plan, the booking
-//! and the day; and of requests 01 to 04 in document 02: why a step isn't
-//! starting, a plan written back out, a plan without an execution order, and the
-//! trolley that stands until it is fetched. It shares nothing with the tool it is
-//! compared with.
+//! and the day; and of requests 01 to 05 in document 02: why a step isn't
+//! starting, a plan written back out, a plan without an execution order, the
+//! trolley that stands until it is fetched, and fullness, whose readings stay the
+//! same. It shares nothing with the tool it is compared with.
 //!
 //! Terms follow research report RR-8966: a step is a task, a station a
 //! processor, the tray places the memory bound, and booked trays are booked

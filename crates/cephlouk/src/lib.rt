@@ -87,6 +87,15 @@ pub extern "C" fn cephlouk_fullness(plan: &[u32; Plan::WORDS]) -> u32
     fullness(plan)
 }
 
+// "Fullness of b in M, both 32-bit", of any two numbers and no plan. No number in it is wider than 32
+// bits, as the maker of a door panel asks of code that draws.
+#[no_mangle]
+pub extern "C" fn cephlouk_fullness_of(booked: u32, bound: u32) -> u32
+    ensures { λ r. ⌜ r ≡ questions.fullnessOf booked bound ⌝ }
+{
+    measure::fullness(booked, bound)
+}
+
 // "The standing of the day is four counts": waiting, booked, running and ended.
 #[repr(C)]
 pub struct Standing {

@@ -1,5 +1,5 @@
-//! Seeded input: streams whole and cut, and lists of askings that go on after
-//! refusals. The same seed always gives the same bytes.
+//! Seeded input: streams whole and cut, lists of askings that go on after
+//! refusals, and pairs for fullness. The same seed always gives the same input.
 
 mod askings;
 mod counts;
@@ -9,6 +9,7 @@ mod draft;
 mod flaw;
 mod nuisance;
 mod orders;
+mod pairs;
 mod random;
 mod stream;
 mod tree;
@@ -16,6 +17,7 @@ mod tree;
 pub use crate::encode::encode;
 pub use askings::{askings, many_askings, Asking};
 pub use cut::cut_stream;
+pub use pairs::booked_and_bound;
 pub use random::Random;
 pub use stream::stream;
 pub use tree::Shape;

@@ -1,4 +1,4 @@
-//! The rules of document 01, and requests 01 to 04 of document 02, tried on
+//! The rules of document 01, and requests 01 to 05 of document 02, tried on
 //! this implementation.
 
 mod against_naive;
@@ -7,8 +7,11 @@ mod day;
 mod desk;
 mod fetch;
 mod fullness;
+mod fullness_astray;
+mod fullness_line;
 mod generator;
 mod generator_fetch;
+mod generator_fullness;
 mod grounds;
 mod limits;
 mod menu;
