@@ -51,7 +51,7 @@ width:
 examples:
 	./compare/examples
 
-# Commands, why a step is not starting, a plan written out and fullness, timed beside the peer's.
+# Commands, why a step is not starting, a plan written out, an order found and fullness, timed beside the peer's.
 bench:
 	@./compare/bench
 

@@ -4,14 +4,17 @@
        cc -Iinclude examples/kitchen.c target/staticlib/libcephlouk.a -o target/kitchen && target/kitchen
 
    The words are those of plan texts (see examples/plan-a.plan). Beside them, "ask" asks the plan how the day stands, "why" asks why steps
-   are not starting, "write" tells the bytes of the plan, written back out, and "if" ahead of a command gives it to a copy of the plan, to
-   see what would come of it. What is refused changes nothing, and the kitchen goes on. */
+   are not starting, "find" tells a good activation order, "write" tells the bytes of the plan, written back out, and "if" ahead of a
+   command gives it to a copy of the plan, to see what would come of it. What is refused changes nothing, and the kitchen goes on. */
 #include "cephlouk.h"
 #include <stdio.h>
 #include <stdlib.h>
 #include <string.h>
 
 enum { LINE = 1000, FIELDS = 3, COMMAND = 8 };
+
+/* How many steps of an order are told on one line, so that none is too long to be typed back. */
+enum { PER_LINE = 16 };
 
 /* A number of a command: the word ahead of it, none in a list, and its bytes. */
 struct field {
@@ -41,7 +44,7 @@ static const struct form forms[] = {
 static const char *const grounds[] = {
     "", "cut short", "no such command", "not in turn", "a number outside its limits", "already in that order", "that step is not running",
     "not exactly one last step", "a step ahead of one that feeds it", "more places needed than there are", "too short a start list",
-    "too short a list",
+    "too short a list", "a step that leads to no last step",
 };
 
 static const char *const phases[] = {"empty", "steps missing", "orders", "running", "over", "ready"};
@@ -51,15 +54,22 @@ static char *next_word(void)
     return strtok(NULL, " \t\r\n");
 }
 
+/* Whether an answer has the number of a refusal, which is told. */
+static int is_refused(uint8_t number)
+{
+    if (number == CEPHLOUK_ACCEPTED)
+        return 0;
+    printf("refused %d: %s\n", number, grounds[number]);
+    return 1;
+}
+
 /* Gives a plan one command and tells what comes of it. */
 static void give(uint32_t *plan, const uint8_t *command, size_t length)
 {
     uint16_t starts[CEPHLOUK_LEAST_STARTS];
     struct cephlouk_answer answer = cephlouk_command(plan, command, length, 0, starts, CEPHLOUK_LEAST_STARTS);
-    if (answer.number != CEPHLOUK_ACCEPTED) {
-        printf("refused %d: %s\n", answer.number, grounds[answer.number]);
+    if (is_refused(answer.number))
         return;
-    }
     if (command[0] == CEPHLOUK_BEGIN)
         printf("peak %lu, ", (unsigned long)answer.peak);
     if (command[0] == CEPHLOUK_BEGIN || command[0] == CEPHLOUK_DONE) {
@@ -83,10 +93,8 @@ static void tell(const uint32_t *plan)
 static void explain(const uint32_t *plan, uint16_t step)
 {
     struct cephlouk_reason reason = cephlouk_why(plan, step);
-    if (reason.number != CEPHLOUK_ACCEPTED) {
-        printf("refused %d: %s\n", reason.number, grounds[reason.number]);
+    if (is_refused(reason.number))
         return;
-    }
     printf("step %d ", step);
     switch (reason.kind) {
     case CEPHLOUK_REASON_ENDED:
@@ -106,15 +114,28 @@ static void explain(const uint32_t *plan, uint16_t step)
     }
 }
 
+/* Tells a good activation order. */
+static void find(const uint32_t *plan)
+{
+    uint16_t order[CEPHLOUK_MAX_TASKS];
+    struct cephlouk_wrote wrote = cephlouk_find_order(plan, order, CEPHLOUK_MAX_TASKS);
+    if (is_refused(wrote.number))
+        return;
+    for (size_t k = 0; k < wrote.count; k++) {
+        if (k % PER_LINE == 0)
+            printf(k == 0 ? "activation" : "\nactivation");
+        printf(" %d", order[k]);
+    }
+    printf("\n");
+}
+
 /* Tells the bytes of the plan, written back out. */
 static void write_out(const uint32_t *plan)
 {
     static uint8_t bytes[CEPHLOUK_MOST_BYTES];
     struct cephlouk_wrote wrote = cephlouk_write(plan, bytes, sizeof bytes);
-    if (wrote.number != CEPHLOUK_ACCEPTED) {
-        printf("refused %d: %s\n", wrote.number, grounds[wrote.number]);
+    if (is_refused(wrote.number))
         return;
-    }
     printf("%lu bytes:", (unsigned long)wrote.count);
     for (size_t k = 0; k < wrote.count; k++)
         printf(" %02x", bytes[k]);
@@ -212,6 +233,8 @@ int main(void)
             tell(plan);
         } else if (word != NULL && strcmp(word, "why") == 0) {
             explain_all(plan);
+        } else if (word != NULL && strcmp(word, "find") == 0) {
+            find(plan);
         } else if (word != NULL && strcmp(word, "write") == 0) {
             write_out(plan);
         } else if (word != NULL && strcmp(word, "if") == 0 && (word = next_word()) != NULL) {

@@ -53,11 +53,12 @@ enum {
     CEPHLOUK_OUTSIDE_LIMITS = 4,   /* n, p, a parent or a step number is outside its limits */
     CEPHLOUK_REPEATED = 5,         /* the step is already in that order */
     CEPHLOUK_NOT_RUNNING = 6,      /* DONE for a step that is not running */
-    CEPHLOUK_NOT_ONE_ROOT = 7,     /* BEGIN: the steps with parent 0 are not exactly one */
+    CEPHLOUK_NOT_ONE_ROOT = 7,     /* BEGIN, and an order that is to be found: the steps with parent 0 are not exactly one */
     CEPHLOUK_PARENT_FIRST = 8,     /* BEGIN: some step does not stand before its parent in the activation order */
     CEPHLOUK_PEAK_ABOVE_BOUND = 9, /* BEGIN: one step after another already needs more places than there are */
     CEPHLOUK_FEW_STARTS = 10,      /* the start list has fewer than CEPHLOUK_LEAST_STARTS entries */
-    CEPHLOUK_SHORT_LIST = 11       /* the lent list is too short for what is to be written */
+    CEPHLOUK_SHORT_LIST = 11,      /* the lent list is too short for what is to be written */
+    CEPHLOUK_ROOT_UNREACHED = 12   /* an order that is to be found: the chain of parents of some step never reaches the one with parent 0 */
 };
 
 /* The phases of a plan. */
@@ -136,6 +137,15 @@ uint32_t cephlouk_fullness_of(uint32_t booked, uint32_t places);
    those written are not touched, and a refusal touches none. The same plan gives the same bytes, however its orders came, and
    cephlouk_command on them restores it in an empty plan. */
 struct cephlouk_wrote cephlouk_write(const uint32_t *plan, uint8_t *list, size_t length);
+
+/* Finds a good activation order from the steps alone, whatever orders were given, and writes its step numbers to the front of a list of
+   `length` entries: each step once, before its parent, and each subtree finished before its neighbour, children by falling (peak of the
+   child's subtree less its out), equal ones by lower number. No order that finishes each subtree before its neighbour has a lower peak:
+   where BEGIN refuses this one with PEAK_ABOVE_BOUND, it would refuse each of them. Orders that hop between subtrees may do better.
+   OUT_OF_TURN until all steps are given; then NOT_ONE_ROOT; then ROOT_UNREACHED; then SHORT_LIST where the list has fewer entries than
+   there are steps. Entries behind those written are not touched, and a refusal touches none. 03 for its entries is taken where no 03 was
+   given yet; an order that was given stays, after a refused BEGIN too, until the plan is opened anew. */
+struct cephlouk_wrote cephlouk_find_order(const uint32_t *plan, uint16_t *list, size_t length);
 
 /* The planners' desk, in libdesk.a: the peak of the caller's own records in an activation order, with no plan. A record stands for a
    task: the first is task 1. */

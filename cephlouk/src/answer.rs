@@ -49,6 +49,14 @@ impl Wrote {
     pub fn refusal(&self) -> Option<Refusal> {
         Refusal::of_number(self.number)
     }
+
+    /// How many entries were written, or why none was.
+    pub(crate) fn written(self) -> Result<usize, Refusal> {
+        match self.refusal() {
+            Some(refusal) => Err(refusal),
+            None => Ok(self.count),
+        }
+    }
 }
 
 impl Answer {

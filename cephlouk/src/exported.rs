@@ -42,6 +42,8 @@ extern "C" {
 
     pub(crate) fn cephlouk_write(plan: *const u32, list: *mut u8, length: usize) -> Wrote;
 
+    pub(crate) fn cephlouk_find_order(plan: *const u32, list: *mut u16, length: usize) -> Wrote;
+
     pub(crate) fn cephlouk_desk_peak(
         records: *const TaskRecord,
         records_length: usize,

@@ -1,8 +1,9 @@
 //! Cephlouk tells the cooks of a clinic kitchen which step to start each time
 //! a step ends, so that the cold room never overfills and the day never
 //! sticks. This is the safe side of the proved library: a [`Plan`] is kept,
-//! takes one command after another, can be asked how the day stands, and can be
-//! written back out. A panel that has no plan asks [`fullness`] of two numbers.
+//! takes one command after another, can be asked how the day stands, can be
+//! written back out, and finds a good activation order for its steps. A panel
+//! that has no plan asks [`fullness`] of two numbers.
 //!
 //! A command is one byte and operands of fixed width, lowest byte first:
 //!

@@ -215,11 +215,7 @@ impl Plan {
     /// # Ok::<(), Refusal>(())
     /// ```
     pub fn write(&self, list: &mut [u8]) -> Result<usize, Refusal> {
-        let wrote = self.write_with(list);
-        match wrote.refusal() {
-            Some(refusal) => Err(refusal),
-            None => Ok(wrote.count),
-        }
+        self.write_with(list).written()
     }
 
     /// The same, answered in plain numbers.
@@ -227,6 +223,63 @@ impl Plan {
         // SAFETY: commands led to the words, which are only read; the list is
         // lent for writing, and no part of them.
         unsafe { exported::cephlouk_write(self.words.as_ptr(), list.as_mut_ptr(), list.len()) }
+    }
+
+    /// Finds a good activation order from the steps alone, whatever orders were
+    /// given, and writes its step numbers to the front of a list: each step once,
+    /// before its parent, and each subtree finished before its neighbour, children
+    /// by falling (peak of the child's subtree less its out), equal ones by lower
+    /// number. No order that finishes each subtree before its neighbour has a lower
+    /// peak; orders that hop between subtrees may do better. The answer is how many
+    /// entries were written, one for each step; later ones are not touched.
+    ///
+    /// 03 for its entries is taken where no 03 was given yet. An order that was
+    /// given stays, after a refused BEGIN too, until the plan is opened anew.
+    ///
+    /// Refused out of turn until all steps are given, then unless one step alone
+    /// has parent 0, then where some step's chain of parents never reaches it, then
+    /// where the list has fewer entries than there are steps; a refusal touches no
+    /// entry.
+    ///
+    /// ```
+    /// use cephlouk::{Plan, Refusal};
+    ///
+    /// let mut plan = Plan::new();
+    /// let mut order = [0; Plan::MAX_TASKS];
+    /// assert_eq!(plan.find_order(&mut order), Err(Refusal::OutOfTurn));
+    /// plan.command(&[0x01, 3, 0, 1, 7, 0, 0, 0])?; // 3 steps, 1 station, 7 places
+    /// plan.command(&[0x02, 3, 0, 0, 0, 3, 0])?; // step 1 feeds 3, work 0, out 3
+    /// plan.command(&[0x02, 3, 0, 6, 0, 1, 0])?; // step 2 feeds 3, work 6, out 1
+    /// plan.command(&[0x02, 0, 0, 0, 0, 1, 0])?; // step 3 is the last
+    /// assert_eq!(plan.find_order(&mut order[..2]), Err(Refusal::ShortList));
+    ///
+    /// // Step 2 first: behind step 1 it would take 10 places.
+    /// let count = plan.find_order(&mut order)?;
+    /// assert_eq!(order[..count], [2, 1, 3]);
+    /// for step in &order[..count] {
+    ///     let [low, high] = step.to_le_bytes();
+    ///     plan.command(&[0x03, low, high])?;
+    /// }
+    /// assert_eq!(plan.command(&[0x05])?.peak, 7);
+    ///
+    /// for (parent, refusal) in [(1, Refusal::RootUnreached), (0, Refusal::NotOneRoot)] {
+    ///     let mut plan = Plan::new();
+    ///     plan.command(&[0x01, 2, 0, 1, 0, 0, 0, 0])?; // 2 steps, 1 station, no place
+    ///     plan.command(&[0x02, parent, 0, 0, 0, 0, 0])?; // step 1 feeds itself, or is a root
+    ///     plan.command(&[0x02, 0, 0, 0, 0, 0, 0])?; // step 2 is a root
+    ///     assert_eq!(plan.find_order(&mut order), Err(refusal));
+    /// }
+    /// # Ok::<(), Refusal>(())
+    /// ```
+    pub fn find_order(&self, list: &mut [u16]) -> Result<usize, Refusal> {
+        self.find_order_with(list).written()
+    }
+
+    /// The same, answered in plain numbers.
+    pub fn find_order_with(&self, list: &mut [u16]) -> Wrote {
+        // SAFETY: commands led to the words, which are only read; the list is
+        // lent for writing, and no part of them.
+        unsafe { exported::cephlouk_find_order(self.words.as_ptr(), list.as_mut_ptr(), list.len()) }
     }
 
     /// All that it is: to be stored, and taken up again by

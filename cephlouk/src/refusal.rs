@@ -22,8 +22,8 @@ pub enum Refusal {
     /// The byte is none of 01 to 07.
     UnknownByte = 2,
     /// The command, or what the plan is asked, is not in turn: the question why
-    /// a step is not starting outside running, and writing a plan until both
-    /// its orders are complete.
+    /// a step is not starting outside running, writing a plan until both its
+    /// orders are complete, and finding an order until all steps are given.
     OutOfTurn = 3,
     /// n, p, a parent or a step number is outside its limits. At the desk also
     /// lists of unequal lengths, of none or of too many entries.
@@ -43,11 +43,14 @@ pub enum Refusal {
     FewStarts = 10,
     /// The lent list is too short for what is to be written.
     ShortList = 11,
+    /// No order can be found: some step's chain of parents never reaches the
+    /// root, the step with parent 0.
+    RootUnreached = 12,
 }
 
 impl Refusal {
     /// All of them, by their numbers.
-    const ALL: [Refusal; 11] = [
+    const ALL: [Refusal; 12] = [
         Refusal::CutShort,
         Refusal::UnknownByte,
         Refusal::OutOfTurn,
@@ -59,9 +62,10 @@ impl Refusal {
         Refusal::PeakAboveBound,
         Refusal::FewStarts,
         Refusal::ShortList,
+        Refusal::RootUnreached,
     ];
 
-    /// Its number, 1 to 11.
+    /// Its number, 1 to 12.
     pub fn number(self) -> u8 {
         self as u8
     }
@@ -93,6 +97,7 @@ impl Display for Refusal {
             Refusal::PeakAboveBound => "the tray places are fewer than the peak",
             Refusal::FewStarts => "the start list has fewer than 64 entries",
             Refusal::ShortList => "the list is too short for what is to be written",
+            Refusal::RootUnreached => "some step's chain of parents never reaches the root",
         })
     }
 }

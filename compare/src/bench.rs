@@ -1,12 +1,13 @@
-//! Commands, the question why a step is not starting, a plan written out and
-//! fullness timed, the proved functions beside the peer's, and the two day
-//! printers, printed as Markdown. No figure fails anything.
+//! Commands, the question why a step is not starting, a plan written out, an
+//! order found and fullness timed, the proved functions beside the peer's, and
+//! the two day printers, printed as Markdown. No figure fails anything.
 
 use compare::clock::{medians, Batch, Calls, SAMPLES};
 use compare::day::Day;
 use compare::programs::{self, COMMANDS, RUNS};
 use compare::readings::{print_readings, TOGETHER};
-use compare::table::{print_table, Extremes, Pair};
+use compare::table::{print_table, Extremes, Pair, LARGEST};
+use compare::trees::{print_orders, STARS};
 use std::hint::black_box;
 use std::ops::Range;
 
@@ -14,6 +15,8 @@ use std::ops::Range;
 const TASKS_TOGETHER: usize = 512;
 /// So many copies of a plan are fetched together, whatever their tasks.
 const FETCHED_TOGETHER: usize = 8;
+/// The nanoseconds of a millisecond.
+const MILLISECOND: f64 = 1e6;
 
 fn main() {
     print_notes();
@@ -24,11 +27,12 @@ fn main() {
     let setup = print_table("PLAN, STEP, 03 and 04", setup);
     let why = print_table("Why a step is not starting", why);
     let write = print_table("A plan written out, divided by n", write);
+    let orders = print_orders();
     let readings = print_readings();
     let programs = programs::times();
     print_aims(
         [done, begin, setup],
-        [&one_order, &fetch, &why, &write],
+        [&one_order, &fetch, &why, &write, &orders],
         readings,
         programs,
     );
@@ -47,6 +51,8 @@ fn print_notes() {
          and outs are 0 to 20; any running step ends next.\n\
          - Why a step is not starting is asked of every step once half of the reports came; the figure is that of one asking. The \
          plan is written out then too; the figure is that of one step.\n\
+         - An activation order is found for trees of which the root is step 1; works and outs are 0 to 20, but where works rise or fall with \
+         the number of the step, or are 1. Side by side stand {STARS} stars, whose roots feed the root. The figure is that of one step.\n\
          - Fullness is read of {TOGETHER} pairs; the figure is that of one reading.\n\
          - Growth is the figure at n = 1024 over the figure at n = 64."
     );
@@ -110,6 +116,9 @@ fn write(day: &Day) -> Pair {
     let proved = day.led(cephlouk::Plan::new(), day.halfway());
     let peer = day.led(peer::Plan::new(), day.halfway());
     let [mut list, mut list_of_peer] = [(); 2].map(|()| vec![0; peer::Plan::WRITTEN]);
+    let written = proved.write(&mut list).expect("a plan written out");
+    assert_eq!(peer.write(&mut list_of_peer).count, written, "as long");
+    assert_eq!(list, list_of_peer, "the same bytes");
     let times = medians([
         &mut Calls(|| {
             let _ = black_box(proved.write(black_box(&mut list)));
@@ -142,7 +151,7 @@ fn pair_of_copies(day: &Day, places: Range<usize>, led_to: usize, copies: usize)
 /// What is aimed at, and what was measured.
 fn print_aims(
     [done, begin, setup]: [Extremes; 3],
-    [one_order, fetch, why, write]: [&Extremes; 4],
+    [one_order, fetch, why, write, orders]: [&Extremes; 5],
     [least, most]: [f64; 2],
     [printer, peer]: [[f64; 2]; 2],
 ) {
@@ -167,6 +176,7 @@ fn print_aims(
     );
     println!("| why a step is not starting | – | {} |", ratio(why));
     println!("| a plan written out | – | {} |", ratio(write));
+    println!("| an activation order found | – | {} |", ratio(orders));
     println!("| fullness | – | {least:.2} to {most:.2} |");
     for (name, extremes) in [
         ("DONE", done),
@@ -178,6 +188,14 @@ fn print_aims(
             extremes.growth
         );
     }
+    println!(
+        "| an activation order found, the longest at 1,024 steps | at most about 1 ms | {:.3} ms |",
+        orders.longest * LARGEST as f64 / MILLISECOND
+    );
+    println!(
+        "| an activation order found: growth of a step's part from 64 to 1,024 steps | – | at most {:.2} above the peer's |",
+        orders.growth
+    );
     let names = ["user time of the day printer", "its system time"];
     for ((name, aim), (printer, peer)) in names
         .into_iter()

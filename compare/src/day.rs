@@ -1,12 +1,10 @@
 //! Whole days to be timed.
 
 use crate::kept::{give, Kept};
+use crate::records::{any_count, records};
 use peer::generate::{encode, Random, Shape};
-use peer::{desk_peak, Command, Plan, Record};
+use peer::{desk_peak, Command, Plan};
 use std::ops::Range;
-
-/// The largest work and out count.
-const COUNT: u32 = 20;
 
 /// The commands of a day, one after another.
 pub struct Day {
@@ -80,16 +78,8 @@ impl Day {
 /// The commands ahead of BEGIN. Parents have lower numbers than their
 /// children and the activation order falls; the execution order is mixed.
 fn setup(random: &mut Random, shape: Shape, n: usize, p: u8, peaks: u32) -> Vec<Command> {
-    let records: Vec<Record> = (0..n)
-        .map(|node| Record {
-            parent: match node {
-                0 => 0,
-                _ => shape.parent(random, node, n) as u16 + 1,
-            },
-            work: random.between(0, COUNT) as u16,
-            out: random.between(0, COUNT) as u16,
-        })
-        .collect();
+    let parent = |random: &mut Random, node| shape.parent(random, node, n);
+    let records = records(random, n, parent, |random, _| any_count(random));
     let activation: Vec<u16> = (1..=n as u16).rev().collect();
     let mut execution = activation.clone();
     random.shuffle(&mut execution);

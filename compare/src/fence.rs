@@ -45,7 +45,7 @@ pub struct Fence<Number> {
 }
 
 /// What may lie in any bytes.
-pub trait Number: Copy {}
+pub trait Number: Copy + PartialEq {}
 
 impl Number for u8 {}
 impl Number for u16 {}
@@ -97,9 +97,27 @@ impl<N> Drop for Fence<N> {
     }
 }
 
+/// A call that is lent a list right behind a forbidden page, and once more right
+/// ahead of one. Both times it must answer the same and leave the same list.
+pub fn fenced<N: Number, Answer: PartialEq>(
+    lent: &mut [N],
+    call: impl Fn(&mut [N]) -> Answer,
+) -> Answer {
+    let mut fence = Fence::new(lent.len());
+    let [front, back] = [Side::Front, Side::Back].map(|side| {
+        let list = fence.put(lent, side);
+        (call(list), list.to_vec())
+    });
+    assert!(front == back, "the same at either side");
+    let (answer, list) = front;
+    lent.copy_from_slice(&list);
+    answer
+}
+
 #[cfg(test)]
 mod tests {
     use super::*;
+    use std::cell::Cell;
 
     #[test]
     fn a_list_ends_where_the_forbidden_page_begins() {
@@ -111,5 +129,43 @@ mod tests {
         let put = fence.put(list, Side::Front);
         assert_eq!(put, list);
         assert!((put.as_ptr() as usize).is_multiple_of(PAGE));
+    }
+
+    /// Whether a list of an even length and one of an odd length lie at a side
+    /// in one of the two calls.
+    fn comes_to(is_at_side: fn(&[u16]) -> bool) -> [bool; 2] {
+        [2, 3].map(|length| {
+            let came = Cell::new(false);
+            fenced(&mut vec![0; length], |list| {
+                came.set(came.get() || is_at_side(list));
+            });
+            came.get()
+        })
+    }
+
+    #[test]
+    fn every_list_lies_at_both_sides() {
+        let at_front = comes_to(|list| (list.as_ptr() as usize).is_multiple_of(PAGE));
+        let at_back = comes_to(|list| (list.as_ptr_range().end as usize).is_multiple_of(PAGE));
+        assert_eq!([at_front, at_back], [[true; 2]; 2]);
+    }
+
+    #[test]
+    fn entries_written_are_left_in_the_list() {
+        let mut list = [1, 2, 3];
+        assert_eq!(fenced(&mut list, |list: &mut [u16]| list[1] = 7), ());
+        assert_eq!(list, [1, 7, 3]);
+    }
+
+    #[test]
+    #[should_panic(expected = "the same at either side")]
+    fn another_answer_at_one_side_is_told() {
+        fenced(&mut [0u16; 2], |list| list.as_ptr() as usize);
+    }
+
+    #[test]
+    #[should_panic(expected = "the same at either side")]
+    fn another_list_at_one_side_is_told() {
+        fenced(&mut [0u16; 2], |list| list[0] = list.as_ptr() as u16);
     }
 }

@@ -11,6 +11,10 @@ pub trait Kept {
     /// What it answers to every question.
     fn questions(&self) -> Questions;
 
+    /// The number that an order is refused with where there is no list for it:
+    /// 3, 7, 12 or 11.
+    fn order_refusal(&self) -> u8;
+
     /// All that it keeps: a refusal leaves every word as it was.
     fn words(&self) -> &[u32];
 
@@ -54,6 +58,10 @@ impl Kept for cephlouk::Plan {
             standing: self.standing(),
             is_whole: self.write(&mut []) != Err(Refusal::OutOfTurn),
         }
+    }
+
+    fn order_refusal(&self) -> u8 {
+        self.find_order_with(&mut []).number
     }
 
     fn words(&self) -> &[u32] {
@@ -105,6 +113,10 @@ impl Kept for peer::Plan {
             },
             is_whole: is_whole(self),
         }
+    }
+
+    fn order_refusal(&self) -> u8 {
+        self.find_order(&mut []).number
     }
 
     fn words(&self) -> &[u32] {

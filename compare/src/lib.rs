@@ -7,15 +7,20 @@ pub mod feeding;
 pub mod fence;
 pub mod kept;
 pub mod lists;
+#[cfg(test)]
+mod order_kinds;
+pub mod orders;
 pub mod pairs;
 pub mod plans;
 pub mod programs;
 pub mod readings;
 pub mod reasons;
+pub mod records;
 #[cfg(test)]
 mod stand_in;
 pub mod streams;
 pub mod table;
 pub mod tally;
 pub mod tool;
+pub mod trees;
 pub mod turns;

@@ -1,9 +1,9 @@
 //! The desk's peak by the peer: records and an activation list, good ones and
 //! ones with a few flaws.
 
-use crate::tool::Tool;
+use crate::tool::{last_plan, Tool};
 use peer::generate::Random;
-use peer::{decode, Command, Record};
+use peer::{Command, Record};
 
 /// What the desk is asked. Both lists are only read.
 #[derive(Clone, Debug, PartialEq)]
@@ -41,18 +41,12 @@ fn of_commands(commands: &[u8]) -> Lists {
         records: Vec::new(),
         activation: Vec::new(),
     };
-    let mut place = 0;
-    while let Ok((command, used)) = decode(commands, place) {
+    for command in last_plan(commands) {
         match command {
-            Command::Plan { .. } => {
-                given.records.clear();
-                given.activation.clear();
-            }
             Command::Step(record) => given.records.push(record),
             Command::Activation(task) => given.activation.push(task),
             _ => {}
         }
-        place += used;
     }
     given
 }

@@ -1,7 +1,7 @@
 //! Plans written out by the peer, where commands led to them: into lists one
 //! byte short, of exactly the length, and longer, with a mark in each place.
 
-use crate::tool::{led, tasks, Tool};
+use crate::tool::{led, lent_list, tasks, Tool};
 use peer::generate::Random;
 use peer::{Plan, Wrote};
 
@@ -16,15 +16,8 @@ impl Tool for Write {
 
     fn lend(random: &mut Random, commands: &[u8]) -> Vec<u8> {
         let needed = 8 + 13 * usize::from(tasks(commands));
-        let length = match random.between(0, 9) {
-            0..=3 => needed,
-            4 | 5 => needed - 1,
-            6 | 7 => needed + 1,
-            8 => random.below(needed + 100),
-            _ => random.pick(&[0, 1, 8, Plan::WRITTEN]),
-        };
-        let mark = |_| random.between(0, u8::MAX.into()) as u8;
-        (0..length).map(mark).collect()
+        let marks = lent_list(random, needed, Plan::WRITTEN);
+        marks.into_iter().map(|mark| mark as u8).collect()
     }
 
     fn answer(commands: &[u8], lent: &mut Vec<u8>) -> Vec<u64> {

@@ -32,7 +32,7 @@ impl Depths {
     }
 
     /// Every command of a day, every question after it, and the plan written out
-    /// when it is over.
+    /// and an order found when it is over.
     fn note_day(&mut self, day: &Day, plan: &mut Plan) {
         let mut starts = [0; Plan::LEAST_STARTS];
         let mut place = 0;
@@ -50,6 +50,10 @@ impl Depths {
         let mut list = vec![0; Plan::MOST_BYTES];
         self.note("cephlouk_write", || {
             black_box(plan.write(&mut list)).expect("a written plan");
+        });
+        let mut order = [0; Plan::MAX_TASKS];
+        self.note("cephlouk_find_order", || {
+            black_box(plan.find_order(&mut order)).expect("an order");
         });
     }
 

@@ -5,6 +5,8 @@ use peer::generate::Shape;
 
 /// The numbers of tasks.
 const SIZES: [usize; 3] = [64, 256, 1024];
+/// The largest of them.
+pub const LARGEST: usize = SIZES[SIZES.len() - 1];
 
 const TREES: [(&str, Shape); 4] = [
     ("chain", Shape::Chain),
@@ -23,12 +25,20 @@ const PEAKS: [u32; 2] = [1, 2];
 pub type Pair = [f64; 2];
 
 /// The figures of one row: a pair for each number of tasks.
-struct Row {
+pub struct Row {
     name: String,
     figures: [Pair; SIZES.len()],
 }
 
 impl Row {
+    /// Measured for each number of tasks.
+    pub fn new(name: String, measure: impl FnMut(usize) -> Pair) -> Row {
+        Row {
+            name,
+            figures: SIZES.map(measure),
+        }
+    }
+
     fn ratios(&self) -> [f64; SIZES.len()] {
         self.figures.map(|[proved, peer]| proved / peer)
     }
@@ -48,32 +58,46 @@ pub struct Extremes {
     pub highest: f64,
     /// By how much the proved function grows more than the peer, at most.
     pub growth: f64,
+    /// The highest figure of the proved function at the largest number of tasks.
+    pub longest: f64,
 }
 
-/// Prints a table with every tree, p and M: for each number of tasks both
-/// figures and their ratio, and how both grow.
+/// Prints a table with every tree, p and M.
 pub fn print_table(title: &str, measure: fn(&Day) -> Pair) -> Extremes {
+    let cases = TREES.into_iter().flat_map(|tree| {
+        PROCESSORS
+            .into_iter()
+            .flat_map(move |p| PEAKS.map(|peaks| (tree, p, peaks)))
+    });
+    let rows = cases.map(|((tree, shape), p, peaks)| {
+        Row::new(format!("{tree} | {p} | {peaks} × peak"), |n| {
+            measure(&Day::new(shape, n, p, peaks))
+        })
+    });
+    print_rows(title, [("tree", "---"), ("p", "---:"), ("M", "---")], rows)
+}
+
+/// Prints a table, row by row as they are measured: what they are called, in
+/// columns with their alignment, for each number of tasks both figures and their
+/// ratio, and how both grow.
+pub fn print_rows<const NAMES: usize>(
+    title: &str,
+    names: [(&str, &str); NAMES],
+    rows: impl Iterator<Item = Row>,
+) -> Extremes {
     println!("\n## {title}\n");
     let sizes = SIZES.map(|n| format!("n = {n}: proved | peer | ratio"));
     println!(
-        "| tree | p | M | {} | growth: proved | peer |",
+        "| {} | {} | growth: proved | peer |",
+        names.map(|(name, _)| name).join(" | "),
         sizes.join(" | ")
     );
-    println!("|---|---:|---|{}", "---:|".repeat(3 * SIZES.len() + 2));
-    let mut rows = Vec::new();
-    for (tree, shape) in TREES {
-        for p in PROCESSORS {
-            for peaks in PEAKS {
-                let row = Row {
-                    name: format!("{tree} | {p} | {peaks} × peak"),
-                    figures: SIZES.map(|n| measure(&Day::new(shape, n, p, peaks))),
-                };
-                print_row(&row);
-                rows.push(row);
-            }
-        }
-    }
-    extremes(&rows)
+    println!(
+        "|{}|{}",
+        names.map(|(_, alignment)| alignment).join("|"),
+        "---:|".repeat(3 * SIZES.len() + 2)
+    );
+    extremes(&rows.inspect(print_row).collect::<Vec<_>>())
 }
 
 fn print_row(row: &Row) {
@@ -91,6 +115,7 @@ fn extremes(rows: &[Row]) -> Extremes {
         at_largest: [f64::INFINITY, 0.0],
         highest: 0.0,
         growth: f64::NEG_INFINITY,
+        longest: 0.0,
     };
     for row in rows {
         let ratios = row.ratios();
@@ -100,6 +125,8 @@ fn extremes(rows: &[Row]) -> Extremes {
         extremes.at_largest[1] = extremes.at_largest[1].max(largest);
         extremes.highest = ratios.into_iter().fold(extremes.highest, f64::max);
         extremes.growth = extremes.growth.max(proved - peer);
+        let [.., [proved, _]] = row.figures;
+        extremes.longest = extremes.longest.max(proved);
     }
     extremes
 }

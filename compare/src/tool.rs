@@ -6,11 +6,17 @@ use peer::generate::{stream, Random};
 use peer::{decode, Command, Plan};
 use std::collections::BTreeMap;
 use std::fmt::Debug;
+use std::panic::{catch_unwind, AssertUnwindSafe};
 
 /// A tool, as the peer has it.
 pub trait Tool {
     /// Its operands and lists. A list that is lent for writing holds marks.
     type Lent: Clone + Debug + PartialEq;
+
+    /// The commands that lead to the plan of a case.
+    fn commands(random: &mut Random, seed: u64) -> Vec<u8> {
+        cut_anywhere(random, seed)
+    }
 
     /// What is lent where these commands led to a plan, some of it with flaws.
     fn lend(random: &mut Random, commands: &[u8]) -> Self::Lent;
@@ -26,11 +32,16 @@ pub trait Tool {
 /// is three.
 const MOMENTS: usize = 8;
 
+/// The least length that 16 bits do not hold.
+const PAST_16_BITS: usize = 1 << 16;
+/// A list of any length has fewer than so many entries more than needed.
+const MORE: usize = 100;
+
 /// How many answers had which first number.
 pub type Tally = BTreeMap<u64, u64>;
 
 /// Compares the answers and all that was lent, afterwards. An error tells the
-/// first difference.
+/// first difference, or the first case that panics.
 pub fn compare<T: Tool>(
     proved: impl Fn(&[u8], &mut T::Lent) -> Vec<u64>,
     cases: u64,
@@ -38,16 +49,17 @@ pub fn compare<T: Tool>(
     let mut tally = Tally::new();
     for seed in 0..cases {
         let random = &mut Random::new(!seed);
-        let commands = cut(random, &stream(seed));
+        let commands = T::commands(random, seed);
         let lent = T::lend(random, &commands);
         let (mut left, mut left_by_peer) = (lent.clone(), lent.clone());
-        let got = proved(&commands, &mut left);
+        let case = format!("seed {seed}, after {} bytes of commands", commands.len());
+        let got = catch_unwind(AssertUnwindSafe(|| proved(&commands, &mut left)))
+            .map_err(|_| format!("{case}: a panic"))?;
         let wanted = T::answer(&commands, &mut left_by_peer);
         if (&got, &left) != (&wanted, &left_by_peer) {
             return Err(format!(
-                "seed {seed}, after {} bytes of commands, given {lent:?}\n\
-                 proved: {got:?}, leaving {left:?}\npeer:   {wanted:?}, leaving {left_by_peer:?}",
-                commands.len()
+                "{case}, given {lent:?}\n\
+                 proved: {got:?}, leaving {left:?}\npeer:   {wanted:?}, leaving {left_by_peer:?}"
             ));
         }
         for answer in wanted.chunks(T::NUMBERS) {
@@ -68,22 +80,47 @@ pub fn led<P: Kept>(mut plan: P, commands: &[u8]) -> P {
     plan
 }
 
-/// How many tasks the last plan has.
-pub fn tasks(commands: &[u8]) -> u16 {
-    let mut tasks = 0;
+/// A list to be written to, with a mark in each place, where so many entries
+/// are needed, and `most` by any plan. Mostly it has exactly so many, one fewer or
+/// one more; else any number, none, one, the most, or more than 16 bits hold.
+pub fn lent_list(random: &mut Random, needed: usize, most: usize) -> Vec<u16> {
+    let length = match random.between(0, 9) {
+        0..=3 => needed,
+        4 | 5 => needed.saturating_sub(1),
+        6 | 7 => needed + 1,
+        8 => random.below(needed + MORE),
+        _ => random.pick(&[0, 1, most, PAST_16_BITS]),
+    };
+    let mark = |_| random.between(0, u16::MAX.into()) as u16;
+    (0..length).map(mark).collect()
+}
+
+/// The commands of the last plan, its PLAN the first.
+pub fn last_plan(commands: &[u8]) -> Vec<Command> {
+    let mut last = Vec::new();
     let mut place = 0;
     while let Ok((command, used)) = decode(commands, place) {
-        if let Command::Plan { tasks: n, .. } = command {
-            tasks = n;
+        if let Command::Plan { .. } = command {
+            last.clear();
         }
+        last.push(command);
         place += used;
     }
-    tasks
+    last
+}
+
+/// How many tasks the last plan has.
+pub fn tasks(commands: &[u8]) -> u16 {
+    match last_plan(commands)[..] {
+        [Command::Plan { tasks, .. }, ..] => tasks,
+        _ => 0,
+    }
 }
 
 /// A stream's commands up to any of those that an empty plan accepts. Each
 /// moment that it comes to is as likely as the others.
-fn cut(random: &mut Random, stream: &[u8]) -> Vec<u8> {
+pub fn cut_anywhere(random: &mut Random, seed: u64) -> Vec<u8> {
+    let stream = &stream(seed);
     let mut plan = Plan::new();
     let mut ends = [const { Vec::new() }; MOMENTS];
     let mut place = 0;
@@ -114,10 +151,12 @@ fn moment(plan: &Plan) -> usize {
 mod tests {
     use super::*;
     use crate::lists::DeskPeak;
+    use crate::orders::FindOrder;
     use crate::plans::Write;
     use crate::reasons::{kind, Why};
     use std::cell::RefCell;
     use std::collections::BTreeSet;
+    use std::ops::BitXorAssign;
 
     /// What is told of the peer with a fault in its answers or lists.
     fn told<T: Tool>(fault: impl Fn(&mut Vec<u64>, &mut T::Lent)) -> String {
@@ -159,7 +198,7 @@ mod tests {
     #[test]
     fn commands_are_cut_at_every_moment() {
         let moments = (0..200).map(|seed| {
-            let commands = cut(&mut Random::new(seed), &stream(seed));
+            let commands = cut_anywhere(&mut Random::new(seed), seed);
             moment(&led(Plan::new(), &commands))
         });
         let moments: BTreeSet<usize> = moments.collect();
@@ -172,49 +211,73 @@ mod tests {
         assert_eq!(tally.into_keys().collect::<Vec<_>>(), [0, 3, 11]);
     }
 
-    /// A fault in the lists of the writer's answers of one number.
-    fn written_told(number: u64, fault: fn(&mut [u8], usize)) -> String {
-        told::<Write>(|answer, lent| {
+    /// A fault in one entry of the lists where answers have one number: in the
+    /// entry at the place that is told of the count.
+    fn entry_told<T, Entry>(number: u64, place: fn(usize) -> usize) -> String
+    where
+        T: Tool<Lent = Vec<Entry>>,
+        Entry: BitXorAssign + From<u8>,
+    {
+        told::<T>(|answer, lent| {
             if answer[0] == number {
-                fault(lent, answer[1] as usize);
+                if let Some(entry) = lent.get_mut(place(answer[1] as usize)) {
+                    *entry ^= 1.into();
+                }
             }
         })
     }
 
     #[test]
-    fn another_byte_written_is_told() {
-        let told = written_told(0, |list, count| list[count / 2] ^= 1);
+    fn another_entry_written_is_told() {
+        let middle = |count| count / 2;
+        let told = entry_told::<Write, u8>(0, middle);
         assert!(told.starts_with("seed "), "{told}");
+        entry_told::<FindOrder, u16>(0, middle);
     }
 
     #[test]
-    fn a_byte_touched_behind_is_told() {
-        written_told(0, |list, count| {
-            if let Some(behind) = list.get_mut(count) {
-                *behind ^= 1;
+    fn an_entry_touched_behind_is_told() {
+        entry_told::<Write, u8>(0, |count| count);
+        entry_told::<FindOrder, u16>(0, |count| count);
+    }
+
+    #[test]
+    fn an_entry_touched_by_a_refusal_is_told() {
+        for number in [3, 11] {
+            entry_told::<Write, u8>(number, |_| 0);
+        }
+        for number in [3, 7, 11, 12] {
+            entry_told::<FindOrder, u16>(number, |_| 0);
+        }
+    }
+
+    #[test]
+    fn another_count_of_entries_is_told() {
+        told::<Write>(|answer, _| answer[1] += u64::from(answer[0] == 0));
+        told::<FindOrder>(|answer, _| answer[1] += u64::from(answer[0] == 0));
+    }
+
+    /// BEGIN's number and peak stand behind the count.
+    #[test]
+    fn another_begin_is_told() {
+        told::<FindOrder>(|answer, _| answer[3] += u64::from(answer[3] > 0));
+        told::<FindOrder>(|answer, _| {
+            if answer[2] == 9 {
+                answer[2] = 0;
             }
         });
     }
 
     #[test]
-    fn a_byte_touched_by_a_refusal_is_told() {
-        for number in [3, 11] {
-            written_told(number, |list, _| {
-                if let Some(first) = list.first_mut() {
-                    *first ^= 1;
-                }
-            });
-        }
+    fn a_panic_is_told() {
+        let told = told::<FindOrder>(|_, _| panic!("a fault"));
+        assert!(told.starts_with("seed "), "{told}");
     }
 
     #[test]
-    fn another_count_of_bytes_is_told() {
-        told::<Write>(|answer, _| answer[1] += u64::from(answer[0] == 0));
-    }
-
-    #[test]
-    fn a_short_list_told_as_out_of_turn_is_told() {
+    fn another_refusal_to_write_is_told() {
         told::<Write>(|answer, _| answer[0] = answer[0].min(3));
+        told::<FindOrder>(|answer, _| answer[0] = answer[0].min(11));
     }
 
     /// A reason is a refusal, which one it is, a task and a lack.

@@ -4,10 +4,13 @@
 //! a case of fullness many pairs.
 
 mod desk;
+mod find;
 mod why;
 mod write;
+mod written;
 
 use compare::lists::DeskPeak;
+use compare::orders::FindOrder;
 use compare::pairs::compare_readings;
 use compare::plans::Write;
 use compare::reasons::Why;
@@ -18,9 +21,12 @@ use std::process::ExitCode;
 type Comparison = fn(u64) -> Result<String, String>;
 
 /// Each tool.
-const TOOLS: [(&str, Comparison); 4] = [
+const TOOLS: [(&str, Comparison); 5] = [
     ("desk", |cases| {
         compare::<DeskPeak>(desk::peak, cases).map(|tally| answers(cases, &tally))
+    }),
+    ("find_order", |cases| {
+        compare::<FindOrder>(find::order, cases).map(|tally| answers(cases, &tally))
     }),
     ("fullness", |cases| {
         let pairs = PAIRS * cases;

@@ -6,6 +6,7 @@ use crate::kept::{Kept, Questions};
 use crate::tally::Tally;
 use cephlouk::{Answer, Plan};
 use peer::generate::{many_askings, Asking, Random};
+use peer::{decode, Command};
 use std::vec::IntoIter;
 
 /// How many plans are open at once.
@@ -69,6 +70,9 @@ struct Outcome {
     answer: Answer,
     starts: Vec<u16>,
     questions: Questions,
+    /// The number that refuses an order, after a BEGIN that was refused. After
+    /// every asking it would take most of the time.
+    order: Option<u8>,
 }
 
 /// The lists that an asking lends, between forbidden pages.
@@ -184,16 +188,24 @@ impl Outcome {
 
     /// With lists that are lent.
     fn within(plan: &mut impl Kept, bytes: &[u8], place: usize, starts: &mut [u16]) -> Outcome {
+        let answer = plan.command(bytes, place, starts);
+        let is_begin = matches!(decode(bytes, place), Ok((Command::Begin, _)));
+        let is_refused_begin = is_begin && answer.number != 0;
         Outcome {
-            answer: plan.command(bytes, place, starts),
+            answer,
             starts: starts.to_vec(),
             questions: plan.questions(),
+            order: is_refused_begin.then(|| plan.order_refusal()),
         }
     }
 
     /// Of the start list only what was written.
     fn tell(&self) -> String {
-        let mut told = format!("{:?} {:?}, start list", self.answer, self.questions);
+        let mut told = format!("{:?} {:?}", self.answer, self.questions);
+        if let Some(number) = self.order {
+            told += &format!(", an order refused {number}");
+        }
+        told += ", start list";
         let marks = marks(self.starts.len());
         for (place, (entry, mark)) in self.starts.iter().zip(marks).enumerate() {
             if *entry != mark {
@@ -247,6 +259,7 @@ mod tests {
     use super::*;
     use cephlouk::Phase;
     use std::cell::Cell;
+    use std::collections::BTreeSet;
     use std::rc::Rc;
 
     /// Among so many askings there is one of those looked for.
@@ -259,6 +272,7 @@ mod tests {
         Offers,
         StartList,
         Finished,
+        Order,
         Word,
     }
 
@@ -279,7 +293,7 @@ mod tests {
                     Fault::Offers => answer.offers += 1,
                     Fault::StartList => starts[63] = 9,
                     Fault::Word => self.words[1] = 1,
-                    Fault::None | Fault::Finished => {}
+                    Fault::None | Fault::Finished | Fault::Order => {}
                 }
             }
             self.asked += 1;
@@ -292,6 +306,14 @@ mod tests {
                 questions.standing.finished += 1;
             }
             questions
+        }
+
+        fn order_refusal(&self) -> u8 {
+            let number = self.plan.order_refusal();
+            match (self.fault, self.asked == self.at + 1) {
+                (Fault::Order, true) => number + 1,
+                _ => number,
+            }
         }
 
         fn words(&self) -> &[u32] {
@@ -318,14 +340,14 @@ mod tests {
     }
 
     /// The first asking of a seed, from one on, that has a start list of entries
-    /// enough and is one of those looked for, by the phase ahead of it and the
-    /// number of its answer.
-    fn first(seed: u64, from: usize, is_such: fn(Phase, u8) -> bool) -> usize {
+    /// enough and is one of those looked for, by the phase ahead of it and what
+    /// comes of it.
+    fn first(seed: u64, from: usize, is_such: fn(Phase, &Outcome) -> bool) -> usize {
         let mut plan = peer::Plan::new();
         let answered = many_askings(seed, from + MORE).into_iter().map(|asking| {
             let phase = plan.questions().phase;
             let outcome = Outcome::of(&mut plan, &asking);
-            is_such(phase, outcome.answer.number) && outcome.starts.len() >= Plan::LEAST_STARTS
+            is_such(phase, &outcome) && outcome.starts.len() >= Plan::LEAST_STARTS
         });
         let mut places = answered.enumerate().skip(from);
         places
@@ -334,16 +356,20 @@ mod tests {
             .0
     }
 
-    fn is_refused(_: Phase, number: u8) -> bool {
-        number != 0
+    fn is_refused(_: Phase, outcome: &Outcome) -> bool {
+        outcome.answer.number != 0
     }
 
-    fn is_refused_in_ready(phase: Phase, number: u8) -> bool {
-        phase == Phase::Ready && number != 0
+    fn is_refused_in_ready(phase: Phase, outcome: &Outcome) -> bool {
+        phase == Phase::Ready && outcome.answer.number != 0
     }
 
-    fn is_fetch(phase: Phase, number: u8) -> bool {
-        phase == Phase::Ready && number == 0
+    fn is_fetch(phase: Phase, outcome: &Outcome) -> bool {
+        phase == Phase::Ready && outcome.answer.number == 0
+    }
+
+    fn is_refused_begin(_: Phase, outcome: &Outcome) -> bool {
+        outcome.order.is_some()
     }
 
     #[test]
@@ -380,6 +406,23 @@ mod tests {
     }
 
     #[test]
+    fn a_wrong_refusal_of_an_order_is_told() {
+        let at = first(7, 20, is_refused_begin);
+        let told = told(7, at, Fault::Order);
+        assert!(told.starts_with(&format!("seed 7, asking {at} ")), "{told}");
+    }
+
+    #[test]
+    fn every_refusal_of_an_order_comes() {
+        let mut plan = peer::Plan::new();
+        let numbers: BTreeSet<u8> = many_askings(0, 50_000)
+            .iter()
+            .filter_map(|asking| Outcome::of(&mut plan, asking).order)
+            .collect();
+        assert_eq!(numbers, [3, 7, 11, 12].into());
+    }
+
+    #[test]
     fn a_word_that_a_refusal_changes_is_told() {
         for is_such in [is_refused, is_refused_in_ready] {
             let at = first(8, 20, is_such);
@@ -407,6 +450,10 @@ mod tests {
 
         fn questions(&self) -> Questions {
             self.plan.questions()
+        }
+
+        fn order_refusal(&self) -> u8 {
+            self.plan.order_refusal()
         }
 
         fn words(&self) -> &[u32] {

@@ -36,11 +36,25 @@ pub struct DeskAnswer {
     pub peak: u32,
 }
 
-/// The answer to whoever has a plan written out.
+/// The answer to whoever has a plan or a found order written into a lent list.
 #[derive(Clone, Copy, Debug, Default, PartialEq, Eq)]
 pub struct Wrote {
     /// 0 when written, else the number of the ground for refusing.
     pub number: u8,
-    /// How many bytes were written; 0 on a refusal.
+    /// How many bytes of a plan, or entries of an order, were written; 0 on a
+    /// refusal.
     pub count: usize,
+}
+
+impl Wrote {
+    /// So many were written, or none on a refusal.
+    pub(crate) fn of(written: Result<usize, Refusal>) -> Wrote {
+        match written {
+            Ok(count) => Wrote { number: 0, count },
+            Err(refusal) => Wrote {
+                number: refusal.number(),
+                count: 0,
+            },
+        }
+    }
 }

@@ -1,8 +1,9 @@
 //! An independent writing of the rules in document 01: the plan, the booking
-//! and the day; and of requests 01 to 05 in document 02: why a step isn't
+//! and the day; and of requests 01 to 06 in document 02: why a step isn't
 //! starting, a plan written back out, a plan without an execution order, the
-//! trolley that stands until it is fetched, and fullness, whose readings stay the
-//! same. It shares nothing with the tool it is compared with.
+//! trolley that stands until it is fetched, fullness, whose readings stay the
+//! same, and a good activation order, found as in source document 002. It shares
+//! nothing with the tool it is compared with.
 //!
 //! Terms follow research report RR-8966: a step is a task, a station a
 //! processor, the tray places the memory bound, and booked trays are booked
@@ -20,6 +21,7 @@ mod encode;
 mod feed;
 mod fetch;
 mod figures;
+mod find;
 mod fullness;
 pub mod generate;
 pub mod listening;
@@ -28,6 +30,7 @@ mod peak;
 mod phase;
 mod plan;
 pub mod plan_text;
+mod postorder;
 pub mod printer;
 mod record;
 mod refusal;

@@ -26,6 +26,8 @@ pub enum Refusal {
     ShortStartList = 10,
     /// The lent list is too short.
     ShortList = 11,
+    /// Some step's chain of parents never reaches the root.
+    NeverReachesRoot = 12,
 }
 
 impl Refusal {

@@ -18,19 +18,10 @@ impl Plan {
     /// touches none: 3 unless both orders are complete, then 11 if the list is
     /// too short.
     pub fn write(&self, list: &mut [u8]) -> Wrote {
-        match self.room(list) {
-            Ok(room) => {
-                self.fill(room);
-                Wrote {
-                    number: 0,
-                    count: room.len(),
-                }
-            }
-            Err(refusal) => Wrote {
-                number: refusal.number(),
-                count: 0,
-            },
-        }
+        Wrote::of(self.room(list).map(|room| {
+            self.fill(room);
+            room.len()
+        }))
     }
 
     /// The checks, then the front of the list, as long as the written plan.

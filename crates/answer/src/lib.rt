@@ -40,7 +40,8 @@ impl Answer {
     }
 }
 
-// "It answers how many bytes it wrote": a tool that writes to the front of a lent list.
+// What is answered by a tool that writes to the front of a lent list: how many entries it wrote, bytes of
+// a plan or step numbers of an order.
 #[repr(C)]
 pub struct Wrote {
     pub number: u8,

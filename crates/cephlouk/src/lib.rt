@@ -1,6 +1,7 @@
 // The library for programs in C, C++ and Rust: a plan that the caller keeps as an array of words.
 ghost use mathlib.Core.Path.{_≡_};
 ghost use lib.ListN.{replicate};
+ghost use Rattle.rules.specs.Find as orders;
 ghost use Rattle.rules.specs.Question as questions;
 ghost use Rattle.rules.specs.Why as reasons;
 ghost use Rattle.rules.specs.Write as writing;
@@ -11,6 +12,7 @@ ghost use Rattle.reason.specs.Meaning.{reasonOf};
 ghost use Rattle.cephlouk.specs.Flat.{flat};
 use answer::Answer;
 use answer::Wrote;
+use finding::find_order;
 use plan::command;
 use question::booked;
 use question::fullness;
@@ -184,4 +186,14 @@ pub extern "C" fn cephlouk_write(plan: &[u32; Plan::WORDS], list: &mut [u8]) -> 
     ensures { λ r. ⌜ wroteOf r (now (list .exit)) ≡ writing.write (planOf (now (plan .entry))) (now (list .entry)) ⌝ }
 {
     write(plan, list)
+}
+
+// "Find a good activation order": to the front of a lent list of step numbers, which a refusal leaves as
+// it was.
+#[no_mangle]
+pub extern "C" fn cephlouk_find_order(plan: &[u32; Plan::WORDS], list: &mut [u16]) -> Wrote
+    requires { ⌜ ValidPlan (now plan) ⌝ }
+    ensures { λ r. ⌜ wroteOf r (now (list .exit)) ≡ orders.findOrder (planOf (now (plan .entry))) (now (list .entry)) ⌝ }
+{
+    find_order(plan, list)
 }

@@ -2,7 +2,7 @@
 ghost use mathlib.Core.Path.{_≡_};
 ghost use Rattle.rules.specs.Command as rules;
 ghost use Rattle.rules.specs.Phase;
-ghost use Rattle.rules.specs.Obey.{rootOf};
+ghost use Rattle.rules.specs.State.{rootOf};
 ghost use Rattle.words.specs.Contents.{contents};
 ghost use Rattle.answer.specs.Meaning.{planOf};
 ghost use Rattle.answer.specs.ValidPlan.{ValidPlan, Obeyed};

@@ -16,11 +16,15 @@ use Rattle.rules.specs.Why.{Reason, why}
 use Rattle.rules.specs.Reasons.{ReasonHolds}
 use Rattle.rules.specs.Write.{Wrote, write}
 use Rattle.rules.specs.Restored.{WriteHolds}
+use Rattle.rules.specs.Find.{findOrder}
+use Rattle.rules.specs.FoundOrder.{FindHolds}
+use Rattle.rules.specs.Reachable.{Reachable}
 use Rattle.rules.specs.Day as days
 use Rattle.rules.specs.Obey.{completed}
 use Rattle.rules.specs.Theorem.{DayHolds, OrdersHold, SamePlan}
 use Rattle.rules.proofs.Reasons.{every-reason-holds}
 use Rattle.rules.proofs.Written.{every-write-holds}
+use Rattle.rules.proofs.Find.{every-find-holds}
 use Rattle.rules.proofs.Theorem.{after-append, theorem}
 use Rattle.answer.specs.Meaning.{planOf}
 use Rattle.answer.specs.ValidPlan.{ValidPlan, NewPlan}
@@ -28,6 +32,7 @@ use Rattle.demand.specs.Calls.{
   Call,
   CallContract,
   Calls,
+  Entries,
   Answers,
   leftBy,
   received,
@@ -43,6 +48,7 @@ use Rattle.demand.specs.Demand.{AnswersHold, DayOfCalls, OpenedWith, Eve
 use Rattle.plan.proofs.NewPlan.{new-empty, new-valid}
 use Rattle.demand.proofs.Opened.{opened-first, opened-stays}
 use Rattle.demand.proofs.ReadBack.{read-back}
+use Rattle.demand.proofs.Given.{order-given, order-begins}
 
 -- one call: whether it is accepted, opens a day or a plan, and what happened, is what the rules have
 module _ {w : List ℕ} {c : Call} (e : CallContract w c) where
@@ -207,6 +213,12 @@ module _ {w : List ℕ} (new : NewPlan w) (earlier : List Call) (opening : Call)
       ∙ sym (next-plan-is later (opening .left) (parts .1 .1))
       ∙ next))
 
+-- what the order finder answers
+finding-holds :
+    (w : List ℕ) → Reachable (planOf w) → (q : Answers w) (list : List ℕ) → Entries list → FindHolds (planOf w) list (q .found list)
+finding-holds w reached q list fits =
+    subst (λ (r : Wrote). FindHolds (planOf w) list r) (sym (q .found-is list fits)) (every-find-holds .lists (planOf w) reached list)
+
 pub every-call-holds : EveryCallHolds
 every-call-holds w new calls e =
     let leaves : planOf (leftBy w calls) ≡ days.after none (asked calls) =
@@ -226,6 +238,7 @@ every-call-holds w new calls e =
             q .standing-is ∙ ap questions.standing leaves,
             λ i fits. q .reason-is i fits ∙ ap (λ (s : State). why s i) leaves,
             λ list fits. q .wrote-is list fits ∙ ap (λ (s : State). write s list) leaves,
+            λ list fits. q .found-is list fits ∙ ap (λ (s : State). findOrder s list) leaves,
           );
       reasons =
           λ q i fits.
@@ -236,6 +249,14 @@ every-call-holds w new calls e =
           subst (λ (r : Wrote). WriteHolds (planOf (leftBy w calls)) list r) (sym (q .wrote-is list fits))
           (every-write-holds .lists (planOf (leftBy w calls)) reached list);
       restored = λ q list fits. read-back reached list (q .wrote-is list fits);
+      finds = finding-holds (leftBy w calls) reached;
+      gives =
+          λ q list fits granted now.
+          order-given (leftBy w calls) list (q .found list) (finding-holds (leftBy w calls) reached q list fits) granted
+          (sym (q .phase-is) ∙ now);
+      begins =
+          λ q list fits granted.
+          order-begins (leftBy w calls) list (q .found list) (finding-holds (leftBy w calls) reached q list fits) granted;
       plans =
           λ earlier opening later n p m used split granted bytes next.
           subst (λ (l : List Call). OpenedWith n p m (planOf (leftBy w l))) (sym split)

@@ -7,13 +7,11 @@ use native.Mathlib.Nat.{zero-add}
 use native.Mathlib.Omega.{arith}
 use lib.Dec.{eqb}
 use lib.ListN.{length, take, drop, length-append, take-append-drop}
-use borrow.Author.Tests.{eqb-true, eq-eqb}
+use borrow.Author.Tests.{eqb-true}
 use Rattle.rules.specs.Phase
 use Rattle.rules.specs.State.{State, none}
 use Rattle.rules.specs.Command.{Command, bytes, read, decode}
 use Rattle.rules.specs.Grounds.{ground}
-use Rattle.rules.specs.Obey.{obey}
-use Rattle.rules.specs.Answer as rules
 use Rattle.rules.specs.Stream.{obeyAll, acceptsAll}
 use Rattle.rules.specs.Instance.{instanceOf, unbegun, commands, written}
 use Rattle.rules.specs.Write.{Wrote, write}
@@ -21,32 +19,14 @@ use Rattle.rules.specs.Reachable.{Reachable}
 use Rattle.rules.specs.Restored.{WriteHolds}
 use Rattle.rules.proofs.Tests.{and-true, and-both}
 use Rattle.rules.proofs.Bytes.{decode-bytes-at}
-use Rattle.rules.proofs.Stream.{granted-answer, FitAll}
+use Rattle.rules.proofs.Stream.{FitAll}
 use Rattle.rules.proofs.Instance.{commands-lead, proper}
 use Rattle.rules.proofs.Written.{every-write-holds, granted-whole}
 use Rattle.answer.specs.Meaning.{planOf}
 use Rattle.answer.specs.ValidPlan.{NewPlan}
 use Rattle.plan.proofs.NewPlan.{new-empty}
-use Rattle.demand.specs.Calls.{Call, CallContract, Calls, leftBy, accepted, allAccepted, Reads}
-
--- what is received from a call that asks a command against which there is no ground
-record Followed (w : List ℕ) (c : Call) (k : Command) : Type 0 where
-  accepts : accepted c ≡ true
-  used : c .answer .used ≡ length (bytes k)
-  left : planOf (c .left) ≡ obey (planOf w) k .state
-
-followed :
-    {w : List ℕ} {c : Call} (k : Command)
-    → CallContract w c
-    → rules.command (planOf w) (c .asking) ≡ rules.accept (obey (planOf w) k) (length (bytes k)) (c .asking .list)
-    → Followed w c k
-unfolding rules.accept
-followed {w} {c} k e answered =
-    record {
-      accepts = eq-eqb (c .answer .number) 0 (ap (λ (a : rules.Answered). a .answer .number) (e .same ∙ answered));
-      used = ap (λ (a : rules.Answered). a .answer .used) (e .same ∙ answered);
-      left = ap (λ (a : rules.Answered). a .state) (e .same ∙ answered);
-    }
+use Rattle.demand.specs.Calls.{Call, Calls, leftBy, accepted, allAccepted, Reads}
+use Rattle.demand.proofs.Followed.{followed}
 
 -- calls that read the bytes of commands that are accepted in turn, wherever they stand
 through :
@@ -72,15 +52,15 @@ through (k ∷ cs) (c ∷ later) w before rest stream is fit grants e reads =
     (decode-bytes-at before k (flatMap bytes cs ++ rest) (fit .0))
     in
     let o =
-    followed k (e .0)
-    (granted-answer (planOf w) (c .asking) k (length (bytes k)) found (eqb-true (ground (planOf w) k) 0 (granted .0)) (reads .2))
+    followed (e .0) (record { used = length (bytes k); bytes = found; long = reads .2 })
+    (eqb-true (ground (planOf w) k) 0 (granted .0))
     in
     let next =
     through cs later (c .left) (before ++ bytes k) rest stream split (fit .1)
     (subst (λ (s : State). acceptsAll s cs ≡ true) (sym (o .left)) (granted .1))
     (e .1)
     (subst₂ (λ (place end : ℕ). Reads stream place end later)
-    (ap (λ (u : ℕ). length before + u) (o .used) ∙ sym (length-append before (bytes k)))
+    (ap (λ (u : ℕ). length before + u) (o .used-is) ∙ sym (length-append before (bytes k)))
     (omega (arith, length-append before (bytes k), length-append (bytes k) (flatMap bytes cs)))
     (reads .4))
     in (

@@ -1,7 +1,7 @@
 -- A worked list of calls on a new plan, one refused and one accepted: what is promised of every list of calls is not empty.
 use mathlib.Core.Path.{_≡_, refl, sym, ap, subst}
 use mathlib.Core.List.{List, [], _∷_, map}
-use Prim.Native.Nat.{ℕ, _+_}
+use Prim.Native.Nat.{ℕ, _+_, _<_}
 use native.Mathlib.Omega.{arith}
 use lib.ListN.{set, replicate}
 use Rattle.rules.specs.Phase
@@ -15,7 +15,7 @@ use Rattle.words.specs.Layout.{words, headBase}
 use Rattle.words.specs.Contents.{contents}
 use Rattle.answer.specs.Meaning.{planOf}
 use Rattle.answer.specs.ValidPlan.{Judged, NewPlan}
-use Rattle.demand.specs.Calls.{Call, CallContract, Calls, leftBy, allReceived, nextPlan}
+use Rattle.demand.specs.Calls.{Call, CallContract, Calls, Entries, Answers, leftBy, asked, allReceived, nextPlan}
 use Rattle.demand.specs.Demand.{OpenedWith, CallsHold}
 use Rattle.answer.proofs.Obeying.{refused, accepted, acceptance}
 use Rattle.opening.proofs.Opening.{opening-contents, opening-sound, opening-means, open-free}
@@ -89,3 +89,13 @@ pub worked-plan : OpenedWith 3 2 7 (planOf (leftBy (replicate words 0) (worked (
 unfolding worked opens ask computing nextPlan
 worked-plan =
     worked-hold .plans (unknown (replicate words 0) ∷ []) (opens (replicate words 0)) [] 3 2 7 8 refl refl refl refl
+
+-- not all tasks are given yet, so no order is found
+pub worked-finds :
+    (q : Answers (leftBy (replicate words 0) (worked (replicate words 0)))) (list : List ℕ)
+    → Entries list
+    → q .found list .number ≡ 3
+unfolding worked unknown opens ask reading asked computing
+worked-finds q list fits =
+    worked-hold .finds q list fits .early
+    (subst (λ (s : State). s .phase < Phase.orders) (sym (worked-hold .leaves)) (omega arith))

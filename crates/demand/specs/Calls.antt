@@ -4,12 +4,14 @@ use mathlib.Core.Bool.{Bool, true, false, _&&_, _||_}
 use mathlib.Core.List.{List, [], _∷_, _++_, map}
 use Prim.Native.Nat.{ℕ, _+_, _^_, _≤_, _<_}
 use lib.ListN.{length}
+use Rattle.rules.specs.Command.{Command, read, decode}
 use Rattle.rules.specs.Answer as rules
 use Rattle.rules.specs.Question as questions
 use Rattle.rules.specs.Limits.{leastStarts}
-use Rattle.rules.specs.Lists.{AllBytes}
+use Rattle.rules.specs.Lists.{at}
 use Rattle.rules.specs.Why.{Reason, why}
 use Rattle.rules.specs.Write.{Wrote, write}
+use Rattle.rules.specs.Find.{findOrder}
 use Rattle.rules.specs.Day as days
 use Rattle.words.specs.Contents.{contents}
 use Rattle.answer.specs.declared.Answer.{Answer}
@@ -76,15 +78,35 @@ Reads stream place end (c ∷ later) =
     × (place < end)
     × Reads stream (place + c .answer .used) end later
 
+-- a call that asks this command, with a start list that is long enough
+pub record Asks (k : Command) (c : Call) : Type 0 where
+  pub used : ℕ
+  pub bytes : decode (c .asking .stream) (c .asking .place) ≡ read k used
+  pub long : leastStarts ≤ length (c .asking .list)
+
+-- calls that ask these commands, one after another
+unfoldable pub AskEach : List Command → List Call → Type 0
+AskEach [] [] = Unit {0}
+AskEach [] (c ∷ later) = ⊥
+AskEach (k ∷ ks) [] = ⊥
+AskEach (k ∷ ks) (c ∷ later) = Asks k c × AskEach ks later
+
 -- what happened with a list of calls, in order
 unfoldable pub history : List Call → List days.Event
 history [] = []
 history (c ∷ later) = days.happens (c .asking) (received c) ++ history later
 
--- a list of bytes that can be lent: its entries have 8 bits, and their number 64
-pub record Bytes (list : List ℕ) : Type 0 where
-  pub small : AllBytes list
+-- a list that can be lent: its entries have so many bits, and their number 64
+pub record Lent (bits : ℕ) (list : List ℕ) : Type 0 where
+  pub small : (k : ℕ) → at list k < 2 ^ bits
   pub few : length list < 2 ^ 64
+
+-- "a lent list of bytes", and "a lent list of step numbers"
+abbrev pub Bytes : List ℕ → Type 0
+Bytes list = Lent 8 list
+
+abbrev pub Entries : List ℕ → Type 0
+Entries list = Lent 16 list
 
 -- answers to the questions, asked of the words w, as each question ensures its own
 pub record Answers (w : List ℕ) : Type 0 where
@@ -97,6 +119,8 @@ pub record Answers (w : List ℕ) : Type 0 where
   pub reason : ℕ → Reason
   -- what the writer answers and leaves of each list that is lent to it
   pub wrote : List ℕ → Wrote
+  -- what the order finder answers and leaves of each list that is lent to it
+  pub found : List ℕ → Wrote
   pub phase-is : phase ≡ planOf w .phase
   pub booked-is : booked ≡ questions.booked (planOf w)
   pub in-use-is : inUse ≡ questions.inUse (planOf w)
@@ -104,3 +128,4 @@ pub record Answers (w : List ℕ) : Type 0 where
   pub standing-is : standing ≡ questions.standing (planOf w)
   pub reason-is : (i : ℕ) → i < 2 ^ 16 → reason i ≡ why (planOf w) i
   pub wrote-is : (list : List ℕ) → Bytes list → wrote list ≡ write (planOf w) list
+  pub found-is : (list : List ℕ) → Entries list → found list ≡ findOrder (planOf w) list

@@ -2,7 +2,7 @@
 use mathlib.Core.Path.{_≡_}
 use mathlib.Core.Bool.{true, false}
 use mathlib.Core.Logic.{_↔_}
-use mathlib.Core.List.{List, [], _∷_, _++_}
+use mathlib.Core.List.{List, [], _∷_, _++_, map}
 use Prim.Native.Nat.{ℕ, _^_, _≤_, _<_}
 use lib.ListN.{length, take}
 use Rattle.rules.specs.Sums.{Task, countTo}
@@ -11,21 +11,26 @@ use Rattle.rules.specs.Phase
 use Rattle.rules.specs.Standing
 use Rattle.rules.specs.State.{State, none}
 use Rattle.rules.specs.Command as rules
+use Rattle.rules.specs.Grounds.{inTurn}
 use Rattle.rules.specs.Question as questions
 use Rattle.rules.specs.Why.{why}
 use Rattle.rules.specs.Reasons.{ReasonHolds}
 use Rattle.rules.specs.Instance.{instanceOf, unbegun}
 use Rattle.rules.specs.Write.{write}
 use Rattle.rules.specs.Restored.{WriteHolds}
+use Rattle.rules.specs.Find.{findOrder}
+use Rattle.rules.specs.FoundOrder.{SameTasks, BeginsUnlessNoneFits, FindHolds}
 use Rattle.rules.specs.Day.{Event, ends, isFetched, after, answers}
-use Rattle.rules.specs.Obey.{completed}
+use Rattle.rules.specs.Obey.{withOrders, completed}
 use Rattle.rules.specs.Theorem.{DayHolds, OrdersHold, SamePlan, runs, usedBy}
 use Rattle.answer.specs.Meaning.{planOf}
 use Rattle.answer.specs.ValidPlan.{ValidPlan, NewPlan}
 use Rattle.demand.specs.Calls.{
   Call,
+  CallContract,
   Calls,
   Bytes,
+  Entries,
   Answers,
   leftBy,
   asked,
@@ -35,6 +40,8 @@ use Rattle.demand.specs.Calls.{
   nextPlan,
   allAccepted,
   Reads,
+  Asks,
+  AskEach,
   history,
 }
 
@@ -97,6 +104,7 @@ pub record CallsHold (w : List ℕ) (calls : List Call) : Type 0 where
       × (q .standing ≡ questions.standing (after none (asked calls)))
       × ((i : ℕ) → i < 2 ^ 16 → q .reason i ≡ why (after none (asked calls)) i)
       × ((list : List ℕ) → Bytes list → q .wrote list ≡ write (after none (asked calls)) list)
+      × ((list : List ℕ) → Entries list → q .found list ≡ findOrder (after none (asked calls)) list)
   -- and why a task is not starting is told by the first reason that is true
   pub reasons : (q : Answers (leftBy w calls)) (i : ℕ) → i < 2 ^ 16 → ReasonHolds (planOf (leftBy w calls)) i (q .reason i)
   -- all that is promised of writing the plan holds of every list that is lent
@@ -112,6 +120,35 @@ pub record CallsHold (w : List ℕ) (calls : List Call) : Type 0 where
       → Calls w′ reading
       → Reads stream 0 (q .wrote list .count) reading
       → (allAccepted reading ≡ true) × (planOf (leftBy w′ reading) ≡ unbegun (instanceOf (planOf (leftBy w calls))))
+  -- all that is promised of finding an order holds of every list that is lent
+  pub finds : (q : Answers (leftBy w calls)) (list : List ℕ) → Entries list → FindHolds (planOf (leftBy w calls)) list (q .found list)
+  -- where one is found before any 03, calls that give 03 for each of its entries are all accepted, and it is the activation order then
+  pub gives :
+      (q : Answers (leftBy w calls)) (list : List ℕ)
+      → Entries list
+      → q .found list .number ≡ 0
+      → q .phase ≡ Phase.orders
+      → planOf (leftBy w calls) .activation ≡ []
+      → (giving : List Call)
+      → Calls (leftBy w calls) giving
+      → AskEach (map rules.activation (take (q .found list .count) (q .found list .list))) giving
+      → (allAccepted giving ≡ true)
+      × (planOf (leftBy (leftBy w calls) giving)
+      ≡ withOrders (planOf (leftBy w calls)) (take (q .found list .count) (q .found list .list)) (planOf (leftBy w calls) .execution))
+  -- where words are a plan of the same tasks with this activation order, whatever led to it, a call that asks BEGIN in turn is accepted,
+  -- or refused with 9 and no order of that kind is within the bound
+  pub begins :
+      (q : Answers (leftBy w calls)) (list : List ℕ)
+      → Entries list
+      → q .found list .number ≡ 0
+      → (w′ : List ℕ)
+      → SameTasks (planOf (leftBy w calls)) (planOf w′)
+      → planOf w′ .activation ≡ take (q .found list .count) (q .found list .list)
+      → inTurn (planOf w′) rules.begin ≡ true
+      → (opening : Call)
+      → CallContract w′ opening
+      → Asks rules.begin opening
+      → BeginsUnlessNoneFits (planOf w′) (opening .answer .number)
   -- a call that opens a plan: as long as no next plan is opened, n, p and M are those that its bytes gave
   pub plans :
       (earlier : List Call) (opening : Call) (later : List Call) (n p m used : ℕ)

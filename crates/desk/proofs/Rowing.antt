@@ -1,9 +1,9 @@
 -- Laws of the entries of tasks in a column, and a loop that writes the rows of the tasks one after the other.
-use mathlib.Core.Path.{_≡_, refl, sym, ap, _∙_}
-use mathlib.Core.Bool.{Bool, true, false}
+use mathlib.Core.Path.{_≡_, sym, ap, _∙_}
+use mathlib.Core.Bool.{true, false}
 use mathlib.Core.Logic.{⊎-elim}
 use mathlib.Core.List.{List}
-use Prim.Native.Nat.{ℕ, zero, suc, _+_, _*_, _≤_, _<_}
+use Prim.Native.Nat.{ℕ, _+_, _*_, _≤_, _<_}
 use native.Mathlib.Omega.{arith}
 use lib.Dec.{leb}
 use lib.ListN.{length, set, replicate, length-replicate, getD-replicate, List·getD-eq-default}
@@ -12,8 +12,8 @@ use Rattle.rules.specs.Sums.{everyTo}
 use Rattle.rules.specs.Lists.{at}
 use Rattle.rules.specs.Limits.{maxTasks}
 use Rattle.rules.specs.Grounds.{within}
-use Rattle.rules.proofs.Tests.{decide, clash, fails, same-or-not, le-or-lt, and-true, and-both}
-use Rattle.rules.proofs.Sums.{Task, only-true, only-false}
+use Rattle.rules.proofs.Tests.{decide, clash, fails, same-or-not, le-or-lt}
+use Rattle.rules.proofs.Sums.{Task, only-true, only-false, every-to, every-one}
 use Rattle.rules.proofs.Orders.{within-task, task-within}
 use Rattle.words.specs.Layout.{row, rows, words}
 use Rattle.words.specs.Views.{column}
@@ -31,21 +31,6 @@ of-task n l i t = only-true (within i n) (at l i) (task-within n i t)
 pub of-other : (n : ℕ) (l : List ℕ) (i : ℕ) → (Task n i → ⊥) → ofTask n l i ≡ 0
 unfolding ofTask
 of-other n l i other = only-false (within i n) (at l i) (fails (within i n) (λ e. other (within-task n i e)))
-
--- each task passes the test, one by one and as a whole
-every-to : (test : ℕ → Bool) (n : ℕ) → ((i : ℕ) → Task n i → test i ≡ true) → everyTo test n ≡ true
-unfolding everyTo
-every-to test zero h = refl
-every-to test (suc n) h =
-    and-both (everyTo test n) (test (suc n)) (every-to test n (λ i t. h i (omega arith))) (h (suc n) (omega arith))
-
-pub every-one : (test : ℕ → Bool) (n i : ℕ) → everyTo test n ≡ true → Task n i → test i ≡ true
-unfolding everyTo
-every-one test zero i all t = absurd (omega (arith, t .low, t .high))
-every-one test (suc n) i all t =
-    let both = and-true (everyTo test n) (test (suc n)) all in
-    ⊎-elim (λ (e : i ≡ suc n). ap test e ∙ both .1)
-    (λ d. every-one test n i (both .0) (record { low = t .low; high = let high = t .high in omega arith })) (same-or-not i (suc n))
 
 -- one row is written
 pub row-written :

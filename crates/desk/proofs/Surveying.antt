@@ -13,6 +13,7 @@ use Rattle.rules.specs.Limits.{maxTasks}
 use Rattle.rules.specs.Peak
 use Rattle.rules.specs.Grounds.{within}
 use Rattle.rules.specs.Desk.{deskGround, deskAnswer}
+use Rattle.rules.proofs.Sums.{every-one}
 use Rattle.rules.proofs.Orders.{within-task}
 use Rattle.words.specs.Layout.{words, headBase}
 use Rattle.words.specs.Contents.{Contents, contents, withHead, storeWithHead}
@@ -21,7 +22,6 @@ use Rattle.survey.specs.Survey as survey
 use Rattle.survey.specs.Survey.{RankedIn, orderGround, groundOf, peakOf}
 use Rattle.desk.specs.Columns.{ofTask}
 use Rattle.desk.specs.Room.{RowsWritten, MayWriteOrder, Ranked, OrderWritten}
-use Rattle.desk.proofs.Rowing.{every-one}
 
 -- n tasks with parents in their limits, and an order of n of them
 pub record InLimits (n : ℕ) (par : ℕ → ℕ) (order : List ℕ) : Type 0 where

@@ -14,7 +14,7 @@ use Rattle.rules.specs.Booking.{Books, total, missing, misses, allows, b
 use Rattle.rules.specs.Invariant.{Valid, rankIn, Tree, Shape, FirstWaiting, Roomy, Stocked, Good}
 use Rattle.rules.proofs.Tests.{decide, same-or-not, or-cases}
 use Rattle.rules.proofs.Sums.{Task}
-use Rattle.rules.proofs.Orders.{mem-append, mem-rest, nobody}
+use Rattle.rules.proofs.Orders.{mem-append, mem-one}
 use Rattle.rules.proofs.Ranks.{stands, entry, same-rank, in-front}
 use Rattle.rules.proofs.Shape.{Moved}
 use Rattle.rules.proofs.Balance.{missing-is}
@@ -101,7 +101,7 @@ module _ (n : ℕ) (par : ℕ → ℕ) (order : List ℕ) (valid : Valid n par o
   one-more pre x k busy d j m w =
       ⊎-elim (λ (e : mem j pre ≡ true). busy j e w)
       (λ (e : mem j (x ∷ []) ≡ true).
-      ⊎-elim (λ q. d (ap (at (k .standings)) (sym q) ∙ w)) (λ v. nobody j (mem-rest j x [] e v)) (same-or-not j x))
+      d (ap (at (k .standings)) (sym (mem-one j x e)) ∙ w))
       (or-cases (mem j pre) (mem j (x ∷ [])) (sym (mem-append j pre (x ∷ [])) ∙ m))
 
   -- once x is booked nobody in front of the rest waits

@@ -4,7 +4,7 @@ use Rattle.rules.specs.Sums.{sumTo, everyTo, countTo, lowestTo}
 use Rattle.rules.specs.Lists.{mem, first, largest}
 use Rattle.rules.specs.Need.{children, need, resident, inProcess, trolley}
 use Rattle.rules.specs.Need
-use Rattle.rules.specs.Peak.{sums, peak, roots, ordered}
+use Rattle.rules.specs.Peak.{sums, peak, roots, root, ordered}
 use Rattle.rules.specs.Standing.{count}
 use Rattle.rules.specs.Command.{
   forms,
@@ -62,7 +62,6 @@ use Rattle.rules.specs.Obey.{
   shared,
   ended,
   phaseAfter,
-  rootOf,
   unloaded,
   obey,
 }
@@ -71,6 +70,9 @@ use Rattle.rules.specs.Question.{isRunning, booked, inUse, fullnessOf, f
 use Rattle.rules.specs.Why.{firstWaiting, lackIn, unendedChild, why}
 use Rattle.rules.specs.Instance.{tasksTo, commands, written}
 use Rattle.rules.specs.Write.{untouched, atFront, isWhole, writtenLength, write}
+use Rattle.rules.specs.Postorder.{childrenOf, insert, byFalling, peakLessOut, bestPostorder}
+use Rattle.rules.specs.Find.{allReach, foundBelow, found, findGround}
+use Rattle.rules.specs.Find
 use Rattle.rules.specs.Day.{after, answers, accepted, acceptedOnly, isPlan, isBegin, reported, events, isFetched, log, opensDay, opensPlan, nextPlan}
 use Rattle.rules.specs.Day
 use Rattle.rules.specs.Theorem.{runs, usedBy}
@@ -108,6 +110,7 @@ unfolding
     sums
     peak
     roots
+    root
     ordered
     count
     forms
@@ -165,7 +168,6 @@ unfolding
     shared
     ended
     phaseAfter
-    rootOf
     unloaded
     obey
     refuse
@@ -190,6 +192,16 @@ unfolding
     isWhole
     writtenLength
     write
+    childrenOf
+    insert
+    byFalling
+    peakLessOut
+    bestPostorder
+    allReach
+    foundBelow
+    found
+    findGround
+    Find.findOrder
     after
     answers
     accepted

@@ -1,15 +1,12 @@
 -- Laws of counts over the tasks 1 to n: one more of them, one more that passes, and a count of all.
-use mathlib.Core.Path.{_≡_, refl, sym, ap, _∙_}
-use mathlib.Core.Bool.{Bool, true, false, not, _&&_}
+use mathlib.Core.Path.{_≡_, refl, ap, _∙_}
+use mathlib.Core.Bool.{Bool, true, false, not}
 use mathlib.Core.Logic.{⊎-elim}
 use Prim.Native.Nat.{ℕ, zero, suc, _+_}
 use native.Mathlib.Omega.{arith}
-use native.Mathlib.Nat.{add-zero}
 use native.Mathlib.Numerals.{add-one}
-use lib.Dec.{eqb, leb, ltb}
-use borrow.Author.Tests.{ne-eqb, le-leb, lt-leb, le-ltb, lt-ltb}
-use Rattle.rules.specs.Sums.{only, sumTo, everyTo, countTo}
-use Rattle.rules.proofs.Tests.{decide, le-or-lt, and-none}
+use Rattle.rules.specs.Sums.{only, sumTo, countTo}
+use Rattle.rules.proofs.Tests.{decide}
 use Rattle.rules.proofs.Sums.{Task, sum-cong, sum-add, sum-change, term-le, only-true, only-false}
 
 -- one task more, which passes or does not
@@ -20,26 +17,6 @@ count-yes test n e = rw (add-one n) (omega (arith, only-true (test (suc n)) 1 (r
 pub count-no : (test : ℕ → Bool) (n : ℕ) → test (n + 1) ≡ false → countTo test (n + 1) ≡ countTo test n
 unfolding countTo sumTo
 count-no test n e = rw (add-one n) (omega (arith, only-false (test (suc n)) 1 (rw (add-one n) at e)))
-
--- each is at most a limit where none above it is counted
-pub none-above : (f : ℕ → ℕ) (limit n : ℕ) → everyTo (λ i. leb (f i) limit) n ≡ eqb (countTo (λ i. ltb limit (f i)) n) 0
-unfolding everyTo countTo sumTo
-none-above f limit zero = refl
-none-above f limit (suc n) =
-    rw (none-above f limit n)
-    (⊎-elim
-    (λ low.
-    rw (le-leb (f (suc n)) limit low, le-ltb limit (f (suc n)) low, add-zero)
-    (and-yes (eqb (countTo (λ i. ltb limit (f i)) n) 0)))
-    (λ high.
-    rw (lt-leb (f (suc n)) limit high, lt-ltb limit (f (suc n)) high)
-    (and-none (eqb (countTo (λ i. ltb limit (f i)) n) 0)
-    ∙ sym (ne-eqb (countTo (λ i. ltb limit (f i)) n + 1) 0 (λ e. omega arith))))
-    (le-or-lt (f (suc n)) limit))
-  where
-    and-yes : (b : Bool) → (b && true) ≡ b
-    and-yes true = refl
-    and-yes false = refl
 
 -- where the tests agree as many are counted
 pub count-cong :

@@ -10,17 +10,17 @@ use lib.ListN.{length, set}
 use borrow.Author.Tests.{eqb-true, eq-eqb, ne-eqb}
 use Rattle.rules.specs.Lists.{at, first}
 use Rattle.rules.specs.Phase
-use Rattle.rules.specs.State.{State}
+use Rattle.rules.specs.State.{State, rootOf}
 use Rattle.rules.specs.Command.{fetch}
 use Rattle.rules.specs.Grounds.{within, inTurn}
 use Rattle.rules.specs.Booking.{total}
-use Rattle.rules.specs.Obey.{withBooks, rootOf, obey}
+use Rattle.rules.specs.Obey.{withBooks, obey}
 use Rattle.rules.specs.Obey
 use Rattle.rules.specs.Day.{Event, fetched, isFetched}
 use Rattle.rules.specs.Invariant.{rankIn}
 use Rattle.rules.proofs.Tests.{clash, same-or-not, or-right}
 use Rattle.rules.proofs.Sums.{Task, sum-zero, only-false}
-use Rattle.rules.proofs.Roots.{some-root, one-root}
+use Rattle.rules.proofs.Roots.{root-task, root-parent, one-root}
 use Rattle.rules.proofs.Orders.{within-task, mem-at, every-mem, place-of}
 use Rattle.rules.proofs.Ranks.{stands}
 use Rattle.rules.proofs.Tree.{parent-task}
@@ -30,30 +30,31 @@ use Rattle.rules.proofs.Log.{fetched-append, fetched-in-order, fetched-
 use Rattle.rules.proofs.Formed.{Accepted}
 use Rattle.rules.proofs.InDay.{Planned, InDay, Closed, Course, goes, closed, tree, books-planned}
 
-abbrev isRoot : State → ℕ → Bool
-isRoot s i = eqb (at (s .parents) i) 0
-
 -- the root of a plan is a task without a parent
 pub root-found : (s : State) → Planned s → Task (s .size) (rootOf s) × (at (s .parents) (rootOf s) ≡ 0)
-unfolding rootOf
-root-found s p = go (first (isRoot s) (s .activation)) refl
+root-found s p = (root-task (s .size) (at (s .parents)) (p .rooted), root-parent (s .size) (at (s .parents)) (p .rooted))
+
+-- the first in the activation order without a parent is that task: there is no other
+pub root-first : (s : State) → Planned s → first (λ i. eqb (at (s .parents) i) 0) (s .activation) ≡ rootOf s
+root-first s p = go (first isRoot (s .activation)) refl
   where
-    go :
-        (r : ℕ)
-        → first (isRoot s) (s .activation) ≡ r
-        → Task (s .size) (first (isRoot s) (s .activation)) × (at (s .parents) (first (isRoot s) (s .activation)) ≡ 0)
+    isRoot : ℕ → Bool
+    isRoot i = eqb (at (s .parents) i) 0
+
+    go : (r : ℕ) → first isRoot (s .activation) ≡ r → first isRoot (s .activation) ≡ rootOf s
     go zero e =
-        let k = some-root (s .size) (at (s .parents)) (p .rooted) in
+        let r = root-found s p in
         absurd
-        (clash (eq-eqb (at (s .parents) (k .0)) 0 (k .2))
-        (first-none (isRoot s) (s .size) (s .activation) (p .valid .inside) e (k .0)
-        (stands (s .size) (at (s .parents)) (s .activation) (p .valid) (k .0) (k .1))))
+        (clash (eq-eqb (at (s .parents) (rootOf s)) 0 (r .1))
+        (first-none isRoot (s .size) (s .activation) (p .valid .inside) e (rootOf s)
+        (stands (s .size) (at (s .parents)) (s .activation) (p .valid) (rootOf s) (r .0))))
     go (suc i) e =
-        let h = first-passes (isRoot s) (s .activation) i e in
-        rw e (
-          within-task (s .size) (suc i) (every-mem (λ k. within k (s .size)) (s .activation) (suc i) (p .valid .inside) (h .0)),
-          eqb-true (at (s .parents) (suc i)) 0 (h .1),
-        )
+        let h = first-passes isRoot (s .activation) i e in
+        let r = root-found s p in
+        e
+        ∙ one-root (s .size) (at (s .parents)) (p .rooted) (suc i) (rootOf s)
+        (within-task (s .size) (suc i) (every-mem (λ k. within k (s .size)) (s .activation) (suc i) (p .valid .inside) (h .0)))
+        (r .0) (eqb-true (at (s .parents) (suc i)) 0 (h .1)) (r .1)
 
 -- it stands last in the activation order: its parent would stand behind it
 pub last-is-root : (s : State) → Planned s → at (s .activation) (s .size - 1) ≡ rootOf s

@@ -3,9 +3,9 @@ use mathlib.Core.Path.{_≡_, refl, sym, ap, subst, _∙_}
 use mathlib.Core.Bool.{true, false, not, cond, _&&_}
 use mathlib.Core.Logic.{⊎-elim}
 use mathlib.Core.List.{List, [], _∷_, _++_, map}
-use Prim.Native.Nat.{ℕ, zero, suc, _+_, _≤_, _<_}
+use Prim.Native.Nat.{ℕ, zero, suc, _≤_, _<_}
 use native.Mathlib.Omega.{arith}
-use borrow.Author.Tests.{eqb-true, eq-eqb, ne-eqb, le-leb, lt-ltb}
+use borrow.Author.Tests.{eqb-true, eq-eqb, ne-eqb, le-leb}
 use lib.Dec.{eqb}
 use lib.ListN.{length, take}
 use lib.Seq.{take-suc, take-all, length-take-le}
@@ -25,7 +25,7 @@ use Rattle.rules.proofs.Orders.{task-within}
 use Rattle.rules.proofs.Judging.{ground-own}
 use Rattle.rules.proofs.Reaching.{lives}
 use Rattle.rules.proofs.Staged.{staged}
-use Rattle.rules.proofs.Leading.{Leads, stays, obeyed-first, _then_, Order, order-leads, executions-lead}
+use Rattle.rules.proofs.Leading.{Leads, stays, obeyed-first, _then_, Order, activations-lead, executions-lead}
 
 -- a column: an entry for nobody, and one in its limit for each of n tasks
 record Column (n limit : ℕ) (l : List ℕ) : Type 0 where
@@ -115,14 +115,8 @@ module _ (m : Instance) (g : Proper m) where
   -- the two orders of a plan in orders
   activation-leads :
       Leads (withOrders (unbegun m) [] []) (map activation (m .activation)) (withOrders (unbegun m) (m .activation) [])
-  unfolding inTurn inLimits ownGround obey withOrders unbegun widthsOf find forms byteOf operandsOf
-  activation-leads =
-      let most = g .tasks .high in
-      order-leads (m .size) activation (λ l. withOrders (unbegun m) l [])
-      (λ i t. let high = t .high in (omega arith, tt))
-      (λ l i more t new.
-      ground-own _ (activation i) (lt-ltb (length l) (m .size) more) (task-within (m .size) i t) ∙ rw new refl)
-      (λ l i. refl) [] (m .activation) (g .activation)
+  unfolding withOrders unbegun
+  activation-leads = activations-lead (unbegun m) (m .activation) [] refl (g .tasks .high) (g .activation)
 
   execution-leads :
       Leads (withOrders (unbegun m) (m .activation) []) (map execution (m .execution)) (unbegun m)

@@ -2,7 +2,7 @@
 use mathlib.Core.Path.{_≡_, refl, sym, subst, _∙_}
 use mathlib.Core.Bool.{true, false}
 use mathlib.Core.List.{List, [], _∷_, _++_, map, append-nil, append-assoc}
-use Prim.Native.Nat.{ℕ, _+_, _≤_, _<_}
+use Prim.Native.Nat.{ℕ, _≤_, _<_}
 use native.Mathlib.Omega.{arith}
 use borrow.Author.Tests.{eqb-true, eq-eqb, lt-ltb}
 use lib.Dec.{eqb}
@@ -12,7 +12,7 @@ use Rattle.rules.specs.Sums.{Task}
 use Rattle.rules.specs.Lists.{mem, every, distinct}
 use Rattle.rules.specs.Phase
 use Rattle.rules.specs.State.{State}
-use Rattle.rules.specs.Command.{Command, execution, forms, find, byteOf, operandsOf, widthsOf}
+use Rattle.rules.specs.Command.{Command, activation, execution, forms, find, byteOf, operandsOf, widthsOf}
 use Rattle.rules.specs.Grounds.{within, inTurn, inLimits, ownGround, ground}
 use Rattle.rules.specs.Obey.{withOrders, obey}
 use Rattle.rules.specs.Stream.{obeyAll, acceptsAll}
@@ -66,7 +66,7 @@ pub record Order (n : ℕ) (l : List ℕ) : Type 0 where
   pub whole : length l ≡ n
 
 -- its commands, given to a plan that has the front of it: `with` is the plan with a front, and `next` the command
-pub order-leads :
+order-leads :
     (n : ℕ) (next : ℕ → Command) (with : List ℕ → State)
     → ((i : ℕ) → Task n i → fits (next i))
     → ((l : List ℕ) (i : ℕ) → length l < n → Task n i → mem i l ≡ false → ground (with l) (next i) ≡ 0)
@@ -113,3 +113,20 @@ unfolding obey withOrders widthsOf find forms byteOf operandsOf
 executions-lead s act exec now most order =
     order-leads (s .size) execution (withOrders s act) (λ i t. let high = t .high in (omega arith, tt))
     (λ l i more t new. execution-granted s act l i now more t new) (λ l i. refl) [] exec order
+
+-- 03 for each entry of an order, to a plan that has no activation order yet
+pub activations-lead :
+    (s : State) (act exec : List ℕ)
+    → s .phase ≡ Phase.orders
+    → s .size ≤ maxTasks
+    → Order (s .size) act
+    → Leads (withOrders s [] exec) (map activation act) (withOrders s act exec)
+unfolding obey withOrders inTurn inLimits ownGround widthsOf find forms byteOf operandsOf
+activations-lead s act exec now most order =
+    order-leads (s .size) activation (λ l. withOrders s l exec) (λ i t. let high = t .high in (omega arith, tt))
+    (λ l i more t new.
+    ground-own _ (activation i)
+    (and-both _ _ (eq-eqb (s .phase) Phase.orders now) (lt-ltb (length l) (s .size) more))
+    (task-within (s .size) i t)
+    ∙ rw new refl)
+    (λ l i. refl) [] act order

@@ -64,13 +64,34 @@ pub mod Stream
 pub mod Staged
 pub mod Leading
 pub mod Instance
+pub mod Concatenated
+pub mod Alike
 pub mod Written
 pub mod OneOrder
 pub mod AsBefore
+-- an activation order that is found
+pub mod Sorting
+pub mod Siblings
+pub mod Exchange
+pub mod Subtrees
+pub mod Nested
+pub mod Keeping
+pub mod TakenApart
+pub mod Groups
+pub mod TogetherOrders
+pub mod FinishedOrders
+pub mod Levels
+pub mod Costs
+pub mod BestOrder
+pub mod Taking
+pub mod Ascending
+pub mod FoundOrder
+pub mod Find
 -- the day printer
 pub mod Lengths
 pub mod Parts
 pub mod Printed
 pub mod Stepped
--- a worked day
+-- a worked day, and worked orders
 pub mod Worked
+pub mod WorkedOrder

@@ -8,7 +8,6 @@ use native.Mathlib.Omega.{arith}
 use lib.Dec.{eqb, leb}
 use lib.ListN.{length, set, length-set}
 use borrow.Author.Tests.{eq-eqb, ne-eqb, lt-leb}
-use Rattle.rules.specs.Sums.{countTo}
 use Rattle.rules.specs.Lists.{at, mem, every, distinct}
 use Rattle.rules.specs.Grounds.{within}
 use Rattle.rules.specs.Standing.{activated, running, finished, count}
@@ -18,7 +17,7 @@ use Rattle.rules.specs.Theorem.{runs}
 use Rattle.rules.proofs.Tests.{same-or-not, or-right, or-none, eqb-above}
 use Rattle.rules.proofs.Sums.{Task, count-all}
 use Rattle.rules.proofs.Counts.{count-cong}
-use Rattle.rules.proofs.Orders.{mem-append, mem-here, mem-later, mem-none, every-snoc, distinct-snoc, task-within, sum-members, sum-length}
+use Rattle.rules.proofs.Orders.{mem-append, mem-here, mem-later, mem-none, every-snoc, distinct-snoc, task-within, length-counts}
 use Rattle.rules.proofs.Entries.{at-set, at-other}
 use Rattle.rules.proofs.Starts.{Startable}
 
@@ -235,10 +234,9 @@ logged-runs n st happened h i t four =
 -- the reports are those that have ended, and n where all have
 pub reports :
     (n : ℕ) (st : ℕ → ℕ) (happened : List Event) → Logged n st happened → length (ends happened) ≡ count n st finished
-unfolding count countTo
+unfolding count
 reports n st happened h =
-    sym (sum-length (ends happened))
-    ∙ sum-members (λ _. 1) n (ends happened) (h .inside) (h .apart)
+    length-counts n (ends happened) (h .inside) (h .apart)
     ∙ count-cong (λ i. mem i (ends happened)) (λ i. eqb (st i) finished) n (h .done)
 
 pub all-reported :

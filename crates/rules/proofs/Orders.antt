@@ -2,17 +2,18 @@
 use mathlib.Core.Path.{_≡_, refl, sym, ap, _∙_}
 use mathlib.Core.Bool.{Bool, true, false, not, _&&_, _||_, and-assoc, or-assoc, or-comm, or-true}
 use mathlib.Core.List.{List, [], _∷_, _++_}
-use mathlib.Core.Logic.{⊎-elim}
-use Prim.Native.Nat.{ℕ, zero, suc, _+_, _<_}
+use mathlib.Core.Logic.{_⊎_, ⊎-elim}
+use Prim.Native.Nat.{ℕ, zero, suc, _+_, _-_, _≤_, _<_}
 use native.Mathlib.Omega.{arith}
 use lib.Dec.{eqb, leb}
 use lib.ListN.{length, getD}
+use lib.Seq.{getD-append-add}
 use borrow.Author.Tests.{eq-eqb, ne-eqb, leb-true, le-leb, not-true}
 use Rattle.rules.specs.Sums.{only, sumTo, countTo}
 use Rattle.rules.specs.Lists.{mem, every, distinct, place}
 use Rattle.rules.specs.Peak.{EachOnce, ordered}
 use Rattle.rules.specs.Grounds.{within}
-use Rattle.rules.proofs.Tests.{clash, fails, same-or-not, or-false, and-true, and-both}
+use Rattle.rules.proofs.Tests.{clash, fails, same-or-not, or-cases, or-left, or-right, or-false, and-true, and-both}
 use Rattle.rules.proofs.Sums.{
   Task,
   sum-cong,
@@ -20,6 +21,8 @@ use Rattle.rules.proofs.Sums.{
   sum-change,
   only-true,
   only-false,
+  count-le,
+  count-all,
 }
 use Rattle.rules.proofs.Counts.{count-full}
 
@@ -53,6 +56,10 @@ nobody i e = clash e (mem-none i)
 pub mem-rest : (i x : ℕ) (l : List ℕ) → mem i (x ∷ l) ≡ true → (i ≡ x → ⊥) → mem i l ≡ true
 mem-rest i x l e d = sym (mem-later i x l d) ∙ e
 
+-- whoever stands in a list of one is that one
+pub mem-one : (i x : ℕ) → mem i (x ∷ []) ≡ true → i ≡ x
+mem-one i x e = ⊎-elim (λ q. q) (λ d. absurd (nobody i (mem-rest i x [] e d))) (same-or-not i x)
+
 -- whoever stands in a list stands in a longer one
 pub mem-more : (i x : ℕ) (l : List ℕ) → mem i l ≡ true → mem i (x ∷ l) ≡ true
 unfolding mem
@@ -75,6 +82,21 @@ pub mem-append : (i : ℕ) (l m : List ℕ) → mem i (l ++ m) ≡ (mem i l || m
 unfolding mem
 mem-append i [] m = refl
 mem-append i (x ∷ l) m = rw (mem-append i l m) (sym (or-assoc (eqb i x) (mem i l) (mem i m)))
+
+pub mem-both : (i : ℕ) (l m : List ℕ) → mem i (l ++ m) ≡ true → (mem i l ≡ true) ⊎ (mem i m ≡ true)
+mem-both i l m e = or-cases (mem i l) (mem i m) (sym (mem-append i l m) ∙ e)
+
+pub mem-left : (i : ℕ) (l m : List ℕ) → mem i l ≡ true → mem i (l ++ m) ≡ true
+mem-left i l m e = mem-append i l m ∙ or-left (mem i l) (mem i m) e
+
+pub mem-right : (i : ℕ) (l m : List ℕ) → mem i m ≡ true → mem i (l ++ m) ≡ true
+mem-right i l m e = mem-append i l m ∙ or-right (mem i l) (mem i m) e
+
+-- the entries of the second list
+pub getD-second : (l m : List ℕ) (k : ℕ) → length l ≤ k → getD (l ++ m) k 0 ≡ getD m (k - length l) 0
+getD-second l m k h =
+    let far : k ≡ length l + (k - length l) = omega arith in
+    ap (λ (z : ℕ). getD (l ++ m) z 0) far ∙ getD-append-add l m (k - length l) 0
 
 -- whether x stands among others or before them
 pub mem-among : (i x : ℕ) (l m : List ℕ) → mem i (l ++ x ∷ m) ≡ mem i (x ∷ l ++ m)
@@ -119,6 +141,17 @@ every-mem test (y ∷ l) x h e =
     let both = and-true (test y) (every test l) h in
     ⊎-elim (λ q. ap test q ∙ both .0) (λ d. every-mem test l x (both .1) (mem-rest x y l e d)) (same-or-not x y)
 
+-- and where any one of them passes, each does
+pub every-all : (test : ℕ → Bool) (l : List ℕ) → ((x : ℕ) → mem x l ≡ true → test x ≡ true) → every test l ≡ true
+unfolding every
+every-all test [] h = refl
+every-all test (x ∷ l) h =
+    and-both (test x) (every test l) (h x (mem-here x x l refl)) (every-all test l (λ y e. h y (mem-more y x l e)))
+
+-- so each entry is in the limits where each is a task
+pub every-within : (n : ℕ) (l : List ℕ) → ((x : ℕ) → mem x l ≡ true → Task n x) → every (λ i. within i n) l ≡ true
+every-within n l tasks = every-all (λ i. within i n) l (λ x e. task-within n x (tasks x e))
+
 pub every-append :
     (test : ℕ → Bool) (l m : List ℕ) → every test (l ++ m) ≡ (every test l && every test m)
 unfolding every
@@ -144,6 +177,11 @@ distinct-cons x l e =
     let both = and-true (not (mem x l)) (distinct l) e in
     record { new = not-true (mem x l) (both .0); later = both .1 }
 
+-- and with one that stands nowhere there is still none twice
+pub distinct-more : (x : ℕ) (l : List ℕ) → mem x l ≡ false → distinct l ≡ true → distinct (x ∷ l) ≡ true
+unfolding distinct
+distinct-more x l new once = rw new once
+
 -- two lists, one after the other, with no entry twice
 pub record Apart (l m : List ℕ) : Type 0 where
   pub first : distinct l ≡ true
@@ -166,16 +204,36 @@ distinct-append (x ∷ l) m e =
           ⊎-elim (λ q. ap (λ t. mem t m) q ∙ h .1) (λ d. a .apart i (mem-rest i x l k d)) (same-or-not i x);
     }
 
+-- two lists that share nobody have none twice
+pub distinct-join :
+    (l m : List ℕ)
+    → distinct l ≡ true
+    → distinct m ≡ true
+    → ((i : ℕ) → mem i l ≡ true → mem i m ≡ false)
+    → distinct (l ++ m) ≡ true
+distinct-join [] m once other apart = other
+distinct-join (x ∷ l) m once other apart =
+    let fresh = distinct-cons x l once in
+    distinct-more x (l ++ m) (mem-append x l m ∙ rw (fresh .new, apart x (mem-here x x l refl)))
+    (distinct-join l m (fresh .later) other (λ i e. apart i (mem-more i x l e)))
+
+-- whether x stands among others or before them, none stands twice
+pub distinct-among :
+    (x : ℕ) (pre post : List ℕ) → distinct (pre ++ x ∷ post) ≡ true → distinct (x ∷ pre ++ post) ≡ true
+distinct-among x [] post once = once
+distinct-among x (y ∷ pre) post once =
+    let fresh = distinct-cons y (pre ++ x ∷ post) once in
+    let rest = distinct-cons x (pre ++ post) (distinct-among x pre post (fresh .later)) in
+    let out = mem-out y x (pre ++ post) (sym (mem-among y x pre post) ∙ fresh .new) in
+    distinct-more x (y ∷ pre ++ post) (mem-later x y (pre ++ post) (λ q. out .0 (sym q)) ∙ rest .new)
+    (distinct-more y (pre ++ post) (out .1) (rest .later))
+
 -- one entry more, which is new
 pub distinct-snoc : (l : List ℕ) (x : ℕ) → distinct l ≡ true → mem x l ≡ false → distinct (l ++ x ∷ []) ≡ true
-unfolding distinct mem
-distinct-snoc [] x once new = refl
-distinct-snoc (y ∷ l) x once new =
-    let fresh = distinct-cons y l once in
-    let out = mem-out x y l new in
-    let alone : mem y (l ++ x ∷ []) ≡ false
-    = mem-append y l (x ∷ []) ∙ rw (fresh .new, ne-eqb y x (λ q. out .0 (sym q))) in
-    rw alone (distinct-snoc l x (fresh .later) (out .1))
+unfolding distinct
+distinct-snoc l x once new =
+    distinct-join l (x ∷ []) once (distinct-more x [] (mem-none x) refl)
+    (λ i e. mem-later i x [] (mem-other i x l e new) ∙ mem-none i)
 
 -- such a list taken apart at x: x does not stand in front
 pub new-behind : (pre : List ℕ) (x : ℕ) (post : List ℕ) → distinct (pre ++ x ∷ post) ≡ true → mem x pre ≡ false
@@ -237,6 +295,13 @@ place-second x (y ∷ l) m e =
     let rest : place x (l ++ m) ≡ length l + place x m = place-second x l m (out .1) in
     omega (arith, place-later x y (l ++ m) (out .0))
 
+-- whoever stands in the first of two lists stands ahead of whoever stands in the second
+pub place-ahead :
+    (l m : List ℕ) (x y : ℕ) → distinct (l ++ m) ≡ true → mem x l ≡ true → mem y m ≡ true → place x (l ++ m) < place y (l ++ m)
+place-ahead l m x y once e f =
+    let out = fails (mem y l) (λ h. clash f (distinct-append l m once .apart y h)) in
+    omega (arith, place-first x l m e, place-lt x l e, place-second y l m out)
+
 -- the place where a list is taken apart
 pub place-split :
     (x : ℕ) (pre post : List ℕ) → mem x pre ≡ false → place x (pre ++ x ∷ post) ≡ length pre
@@ -268,10 +333,28 @@ sum-members f n (x ∷ l) inside once =
     omega arith
 
 -- a sum of ones counts
-pub sum-length : (l : List ℕ) → sumOver (λ _. 1) l ≡ length l
+sum-length : (l : List ℕ) → sumOver (λ _. 1) l ≡ length l
 unfolding sumOver
 sum-length [] = refl
 sum-length (x ∷ l) = omega (arith, sum-length l)
+
+-- entries in the limits with none twice are as many as the tasks that stand there
+pub length-counts :
+    (n : ℕ) (l : List ℕ) → every (λ i. within i n) l ≡ true → distinct l ≡ true → length l ≡ countTo (λ i. mem i l) n
+unfolding countTo
+length-counts n l inside once = sym (sum-length l) ∙ sum-members (λ _. 1) n l inside once
+
+-- so they are n at most, and n where each task stands there
+pub length-within : (n : ℕ) (l : List ℕ) → every (λ i. within i n) l ≡ true → distinct l ≡ true → length l ≤ n
+length-within n l inside once = omega (arith, length-counts n l inside once, count-le (λ i. mem i l) n)
+
+pub length-all :
+    (n : ℕ) (l : List ℕ)
+    → every (λ i. within i n) l ≡ true
+    → distinct l ≡ true
+    → ((i : ℕ) → Task n i → mem i l ≡ true)
+    → length l ≡ n
+length-all n l inside once each = length-counts n l inside once ∙ count-all (λ i. mem i l) n each
 
 -- the pigeonhole: n entries in the limits with none twice are all the tasks
 pub all-in :
@@ -282,9 +365,7 @@ pub all-in :
     → (i : ℕ)
     → Task n i
     → mem i l ≡ true
-unfolding countTo
-all-in n l inside once whole =
-    count-full (λ i. mem i l) n (sym (sum-members (λ _. 1) n l inside once) ∙ sum-length l ∙ whole)
+all-in n l inside once whole = count-full (λ i. mem i l) n (sym (length-counts n l inside once) ∙ whole)
 
 -- so such a list holds each task once
 pub each-once :
@@ -315,6 +396,26 @@ sum-along f n l inside once whole =
 pub record Rises (par : ℕ → ℕ) (x : ℕ) (l : List ℕ) : Type 0 where
   pub member : mem (par x) l ≡ true
   pub rises : place x l < place (par x) l
+
+-- so it does in a longer list
+pub rises-first : (par : ℕ → ℕ) (x : ℕ) (l m : List ℕ) → mem x l ≡ true → Rises par x l → Rises par x (l ++ m)
+rises-first par x l m e r =
+    record {
+      member = mem-left (par x) l m (r .member);
+      rises = omega (arith, r .rises, place-first x l m e, place-first (par x) l m (r .member));
+    }
+
+pub rises-second :
+    (par : ℕ → ℕ) (x : ℕ) (l m : List ℕ)
+    → mem x l ≡ false
+    → mem (par x) l ≡ false
+    → Rises par x m
+    → Rises par x (l ++ m)
+rises-second par x l m e f r =
+    record {
+      member = mem-right (par x) l m (r .member);
+      rises = omega (arith, r .rises, place-second x l m e, place-second (par x) l m f);
+    }
 
 -- in an order in which each task stands before its parent, places rise towards the root
 pub ordered-rises :

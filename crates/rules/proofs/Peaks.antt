@@ -3,17 +3,18 @@ use mathlib.Core.Path.{_≡_, refl, sym, ap, ap₂, _∙_}
 use mathlib.Core.Bool.{Bool, not, _&&_, _||_, and-false}
 use mathlib.Core.List.{List, [], _∷_, _++_, append-nil}
 use mathlib.Core.Logic.{⊎-elim}
-use Prim.Native.Nat.{ℕ, _+_, _-_, _≤_, max}
+use Prim.Native.Nat.{ℕ, _+_, _-_, _*_, _^_, _≤_, _<_, max}
 use native.Mathlib.Omega.{arith}
 use lib.Dec.{eqb}
 use borrow.Author.Tests.{eq-eqb, ne-eqb}
 use Rattle.rules.specs.Sums.{only}
 use Rattle.rules.specs.Lists.{mem, largest}
-use Rattle.rules.specs.Need.{children, need, resident}
+use Rattle.rules.specs.Limits.{maxTasks, maxCount}
+use Rattle.rules.specs.Need.{isChild, children, need, resident}
 use Rattle.rules.specs.Peak.{sums, peak}
 use Rattle.rules.specs.Invariant.{Valid}
 use Rattle.rules.proofs.Tests.{same-or-not}
-use Rattle.rules.proofs.Sums.{Task, sum-cong, sum-add, sum-zero, sum-change}
+use Rattle.rules.proofs.Sums.{Task, sum-cong, sum-add, sum-zero, sum-change, sum-most, only-le}
 use Rattle.rules.proofs.Orders.{mem-here, mem-later, mem-among}
 use Rattle.rules.proofs.Turns.{Left, Turn, left-split, left-next, left-turn}
 
@@ -153,12 +154,47 @@ running-is n par work out ended (x ∷ later) r =
     (running-is n par work out (x ∷ ended) later (left-next n par ended x later r)
     ∙ ap (λ h. running n par work out h later) after)
 
--- the peak of a valid order, by the level that runs along it
+-- the peak of an order in which each task has its children ahead of it, by the level that runs along it
+pub peak-alone :
+    (n : ℕ) (par work out : ℕ → ℕ) (order : List ℕ)
+    → Left n par [] order
+    → peak n par work out order ≡ running n par work out 0 order
+unfolding peak
+peak-alone n par work out order r =
+    running-is n par work out [] order r ∙ ap (λ h. running n par work out h order) (level-first n par out)
+
+-- so of a valid one
 pub peak-running :
     (n : ℕ) (par work out : ℕ → ℕ) (order : List ℕ)
     → Valid n par order
     → peak n par work out order ≡ running n par work out 0 order
+peak-running n par work out order v = peak-alone n par work out order (left-split n par [] order v)
+
+-- no peak is above what all tasks of a plan can leave and need
+sums-most :
+    (n : ℕ) (par work out : ℕ → ℕ)
+    → ((c : ℕ) → work c ≤ maxCount)
+    → ((c : ℕ) → out c ≤ maxCount)
+    → (ended l : List ℕ)
+    → largest (sums n par work out ended l) ≤ 2 * maxCount * n + 2 * maxCount
+unfolding largest sums need children resident
+sums-most n par work out works outs ended [] = omega arith
+sums-most n par work out works outs ended (x ∷ l) =
+    let later = sums-most n par work out works outs (x ∷ ended) l in
+    let w = works x in
+    let o = outs x in
+    let most : (t : ℕ → Bool) (c : ℕ) → only (t c) (out c) ≤ maxCount
+    = λ t c. let some = only-le (t c) (out c) in let light = outs c in omega arith in
+    let from = sum-most (λ c. only (isChild par x c) (out c)) n maxCount (λ c _. most (isChild par x) c) in
+    let left : ℕ → Bool = λ c. mem c ended && not (eqb (par c) 0) && not (mem (par c) (x ∷ ended)) in
+    let there = sum-most (λ c. only (left c) (out c)) n maxCount (λ c _. most left c) in
+    omega arith
+
+pub peak-most :
+    (n : ℕ) (par work out : ℕ → ℕ) (l : List ℕ)
+    → n ≤ maxTasks
+    → ((c : ℕ) → work c ≤ maxCount)
+    → ((c : ℕ) → out c ≤ maxCount)
+    → peak n par work out l < 2 ^ 32
 unfolding peak
-peak-running n par work out order v =
-    running-is n par work out [] order (left-split n par [] order v)
-    ∙ ap (λ h. running n par work out h order) (level-first n par out)
+peak-most n par work out l small works outs = let most = sums-most n par work out works outs [] l in omega arith

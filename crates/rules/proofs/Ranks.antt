@@ -18,12 +18,14 @@ module _ (n : ℕ) (par : ℕ → ℕ) (order : List ℕ) (valid : Valid n par o
   pub stands : (i : ℕ) → Task n i → mem i order ≡ true
   stands = all-in n order (valid .inside) (valid .once) (valid .whole)
 
+  -- whoever stands in the order is a task
+  pub member-task : (x : ℕ) → mem x order ≡ true → Task n x
+  member-task x m = within-task n x (every-mem (λ i. within i n) order x (valid .inside) m)
+
   -- an entry of the order is a task
   pub entry : (pre : List ℕ) (x : ℕ) (later : List ℕ) → order ≡ pre ++ x ∷ later → Task n x
   entry pre x later e =
-      within-task n x
-      (every-mem (λ i. within i n) order x (valid .inside)
-      (rw e (mem-among x x pre later ∙ mem-here x x (pre ++ later) refl)))
+      member-task x (rw e (mem-among x x pre later ∙ mem-here x x (pre ++ later) refl))
 
   -- two tasks of one rank are one
   pub same-rank : (i j : ℕ) → Task n i → Task n j → rankIn order i ≡ rankIn order j → i ≡ j

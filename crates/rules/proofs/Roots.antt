@@ -6,20 +6,26 @@ use Prim.Native.Nat.{ℕ, zero, suc, _+_, _≤_}
 use native.Mathlib.Omega.{arith}
 use lib.Dec.{eqb}
 use borrow.Author.Tests.{eqb-true, eq-eqb, ne-eqb}
-use Rattle.rules.specs.Peak.{roots}
+use Rattle.rules.specs.Peak.{roots, root}
 use Rattle.rules.specs.Standing.{finished}
 use Rattle.rules.specs.Invariant.{Tree, Shape}
 use Rattle.rules.proofs.Tests.{clash, same-or-not}
-use Rattle.rules.proofs.Sums.{Task, counted, none-counted}
+use Rattle.rules.proofs.Sums.{Task, none-counted}
 use Rattle.rules.proofs.Counts.{count-change}
+use Rattle.rules.proofs.Lowest.{lowest-found}
 use Rattle.rules.proofs.Tree.{parent-task}
 
--- there is a root
+-- the root is a task without a parent
+pub root-task : (n : ℕ) (par : ℕ → ℕ) → roots n par ≡ 1 → Task n (root n par)
+unfolding roots root
+root-task n par one = lowest-found (λ i. eqb (par i) 0) n (omega arith) .task
+
+pub root-parent : (n : ℕ) (par : ℕ → ℕ) → roots n par ≡ 1 → par (root n par) ≡ 0
+unfolding roots root
+root-parent n par one = eqb-true (par (root n par)) 0 (lowest-found (λ i. eqb (par i) 0) n (omega arith) .passes)
+
 pub some-root : (n : ℕ) (par : ℕ → ℕ) → roots n par ≡ 1 → (r : ℕ) × Task n r × (par r ≡ 0)
-unfolding roots
-some-root n par one =
-    let k = counted (λ i. eqb (par i) 0) n (omega arith) in
-    (k .0, k .1, eqb-true (par (k .0)) 0 (k .2))
+some-root n par one = (root n par, root-task n par one, root-parent n par one)
 
 -- one root only
 pub one-root :

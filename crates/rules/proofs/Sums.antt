@@ -2,13 +2,14 @@
 use mathlib.Core.Path.{_≡_, refl, sym, ap, _∙_}
 use mathlib.Core.Bool.{Bool, true, false, _&&_}
 use mathlib.Core.Logic.{_⊎_, inl, inr, ⊎-elim}
-use Prim.Native.Nat.{ℕ, zero, suc, _+_, _≤_}
+use Prim.Native.Nat.{ℕ, zero, suc, _+_, _*_, _≤_}
+use native.Mathlib.Nat.{mul-suc}
 use native.Mathlib.Omega.{arith}
 use lib.Dec.{eqb}
 use borrow.Author.Tests.{eq-eqb, ne-eqb}
-use Rattle.rules.specs.Sums.{only, sumTo, countTo}
+use Rattle.rules.specs.Sums.{only, sumTo, everyTo, countTo}
 pub use Rattle.rules.specs.Sums.{Task}
-use Rattle.rules.proofs.Tests.{decide, same-or-not}
+use Rattle.rules.proofs.Tests.{decide, clash, same-or-not, and-true, and-both, and-false}
 
 -- sums of equal terms are equal
 pub sum-cong : (f g : ℕ → ℕ) (n : ℕ) → ((i : ℕ) → Task n i → f i ≡ g i) → sumTo f n ≡ sumTo g n
@@ -135,6 +136,15 @@ sum-swap f (suc m) n =
     = sum-add (λ j. sumTo (λ i. f i j) m) (f (suc m)) n in
     omega arith
 
+-- a sum of n terms, none above b
+pub sum-most : (f : ℕ → ℕ) (n b : ℕ) → ((i : ℕ) → Task n i → f i ≤ b) → sumTo f n ≤ b * n
+unfolding sumTo
+sum-most f zero b most = omega arith
+sum-most f (suc n) b most =
+    let before : sumTo f n ≤ b * n = sum-most f n b (λ i t. most i (omega arith)) in
+    let here : f (suc n) ≤ b = most (suc n) (omega arith) in
+    omega (arith, mul-suc b n)
+
 -- a positive sum has a positive term
 pub sum-positive : (f : ℕ → ℕ) (n : ℕ) → 1 ≤ sumTo f n → (i : ℕ) × Task n i × (1 ≤ f i)
 unfolding sumTo
@@ -183,3 +193,24 @@ count-all test (suc n) h =
     let k = count-all test n (λ i t. h i (omega arith)) in
     let o = only-true (test (suc n)) 1 (h (suc n) (omega arith)) in
     omega arith
+
+-- each task passes the test, as a whole and one by one, or one does not
+pub every-to : (test : ℕ → Bool) (n : ℕ) → ((i : ℕ) → Task n i → test i ≡ true) → everyTo test n ≡ true
+unfolding everyTo
+every-to test zero h = refl
+every-to test (suc n) h =
+    and-both (everyTo test n) (test (suc n)) (every-to test n (λ i t. h i (omega arith))) (h (suc n) (omega arith))
+
+pub every-one : (test : ℕ → Bool) (n i : ℕ) → everyTo test n ≡ true → Task n i → test i ≡ true
+unfolding everyTo
+every-one test zero i all t = absurd (omega arith)
+every-one test (suc n) i all t =
+    let both = and-true (everyTo test n) (test (suc n)) all in
+    ⊎-elim (λ (e : i ≡ suc n). ap test e ∙ both .1) (λ d. every-one test n i (both .0) (omega arith)) (same-or-not i (suc n))
+
+pub not-every : (test : ℕ → Bool) (n : ℕ) → everyTo test n ≡ false → (i : ℕ) × Task n i × (test i ≡ false)
+unfolding everyTo
+not-every test zero e = absurd (clash refl e)
+not-every test (suc n) e =
+    ⊎-elim (λ f. let k = not-every test n f in (k .0, omega (arith, k .1), k .2)) (λ f. (suc n, omega arith, f))
+    (and-false (everyTo test n) (test (suc n)) e)

@@ -2,11 +2,11 @@
 use mathlib.Core.Path.{_≡_, refl, sym, ap, ap₂, _∙_}
 use mathlib.Core.Bool.{true, false}
 use mathlib.Core.Logic.{⊎-elim}
-use mathlib.Core.List.{List, [], _∷_, _++_, map, flatMap, append-nil, append-assoc}
+use mathlib.Core.List.{List, [], _∷_, _++_, map, flatMap, append-nil}
 use Prim.Native.Nat.{ℕ, zero, suc, _+_, _*_, _≤_, _<_}
 use native.Mathlib.Omega.{arith}
 use borrow.Author.Tests.{lt-ltb, le-ltb}
-use lib.ListN.{length, drop, length-append, length-drop, take-append-drop}
+use lib.ListN.{length, take, drop, length-append, length-drop}
 use lib.Seq.{take-append-seam, drop-append-seam}
 use Rattle.rules.specs.Phase
 use Rattle.rules.specs.State.{State, none}
@@ -19,6 +19,8 @@ use Rattle.rules.specs.Instance.{Instance, instanceOf, unbegun, openingO
 use Rattle.rules.specs.Write.{Wrote, untouched, atFront, isWhole, writtenLength, write}
 use Rattle.rules.specs.Restored.{WrittenHolds, WriteHolds, EveryWriteHolds}
 use Rattle.rules.proofs.Tests.{decide, clash, le-or-lt}
+use Rattle.rules.proofs.Concatenated.{flatMap-append}
+use Rattle.rules.proofs.Alike.{refused-alike, granted-alike}
 use Rattle.rules.proofs.Number.{length-littles}
 use Rattle.rules.proofs.Stream as streams
 use Rattle.rules.proofs.Staged.{staged}
@@ -26,9 +28,7 @@ use Rattle.rules.proofs.Instance.{Proper, commands-lead, whole-given, p
 
 -- the bytes of commands, one list behind another
 pub bytes-append : (a b : List Command) → flatMap bytes (a ++ b) ≡ flatMap bytes a ++ flatMap bytes b
-unfolding flatMap
-bytes-append [] b = refl
-bytes-append (c ∷ a) b = ap (λ (l : List ℕ). bytes c ++ l) (bytes-append a b) ∙ sym (append-assoc (bytes c) _ _)
+bytes-append = flatMap-append bytes
 
 pub bytes-one : (c : Command) → flatMap bytes (c ∷ []) ≡ bytes c
 unfolding flatMap
@@ -202,43 +202,16 @@ granted-whole s list w h e =
     ⊎-elim (λ whole. whole) (λ early. let three = h .early early in absurd (omega arith)) (decide (isWhole s))
 
 -- no other answer and no other list would do
-refused-alike :
-    (s : State) (list : List ℕ) (w w′ : Wrote) (k : ℕ)
-    → (k ≡ 0 → ⊥)
-    → w .number ≡ k
-    → w′ .number ≡ k
-    → WriteHolds s list w
-    → WriteHolds s list w′
-    → w ≡ w′
-refused-alike s list w w′ k some e e′ h h′ =
-    let a = h .refusal (λ z. some (sym e ∙ z)) in
-    let b = h′ .refusal (λ z. some (sym e′ ∙ z)) in
-    λ z.
-    record {
-      number = (e ∙ sym e′) z;
-      count = (a .0 ∙ sym (b .0)) z;
-      list = (a .1 ∙ sym (b .1)) z;
-    }
-
-granted-alike :
-    (s : State) (list : List ℕ) (w w′ : Wrote)
-    → w .number ≡ 0
-    → w′ .number ≡ 0
-    → WriteHolds s list w
-    → WriteHolds s list w′
-    → w ≡ w′
-granted-alike s list w w′ e e′ h h′ =
-    let counts : w .count ≡ w′ .count = h .count e ∙ sym (h′ .count e′) in
-    let whole : w .list ≡ w′ .list =
-    sym (take-append-drop (w .count) (w .list))
-    ∙ ap₂ (λ (a b : List ℕ). a ++ b) (h .front e ∙ sym (h′ .front e′)) (h .past ∙ ap (λ (k : ℕ). drop k list) counts ∙ sym (h′ .past))
-    ∙ take-append-drop (w′ .count) (w′ .list)
-    in
-    λ z. record { number = (e ∙ sym e′) z; count = counts z; list = whole z }
-
 pub one-write : (s : State) (list : List ℕ) (w w′ : Wrote) → WriteHolds s list w → WriteHolds s list w′ → w ≡ w′
 one-write s list w w′ h h′ =
     by-case s list
-    (λ early. refused-alike s list w w′ 3 (λ e. omega arith) (h .early early) (h′ .early early) h h′)
-    (λ whole short. refused-alike s list w w′ 11 (λ e. omega arith) (h .short whole short) (h′ .short whole short) h h′)
-    (λ whole room. granted-alike s list w w′ (h .granted whole room) (h′ .granted whole room) h h′)
+    (λ early. refused-alike w w′ list 3 (λ e. omega arith) (h .early early) (h′ .early early) (h .refusal) (h′ .refusal))
+    (λ whole short.
+    refused-alike w w′ list 11 (λ e. omega arith) (h .short whole short) (h′ .short whole short) (h .refusal) (h′ .refusal))
+    (λ whole room.
+    let e = h .granted whole room in
+    let e′ = h′ .granted whole room in
+    let counts : w .count ≡ w′ .count = h .count e ∙ sym (h′ .count e′) in
+    granted-alike w w′ (w .count) (e ∙ sym e′) counts
+    (h .front e ∙ sym (ap (λ (k : ℕ). take k (w′ .list)) counts ∙ h′ .front e′))
+    (h .past ∙ ap (λ (k : ℕ). drop k list) counts ∙ sym (ap (λ (k : ℕ). drop k (w′ .list)) counts ∙ h′ .past)))

@@ -19,6 +19,8 @@ pub mod Question
 pub mod Why
 pub mod Instance
 pub mod Write
+pub mod Postorder
+pub mod Find
 pub mod Desk
 pub mod Text
 pub mod Printer
@@ -31,4 +33,5 @@ pub mod Reasons
 pub mod Stream
 pub mod Restored
 pub mod OneOrder
+pub mod FoundOrder
 pub mod Marked

@@ -4,10 +4,10 @@ use mathlib.Core.List.{List, [], _∷_, _++_}
 use Prim.Native.Nat.{ℕ, suc}
 use lib.Dec.{eqb}
 use lib.ListN.{length, set, replicate}
-use Rattle.rules.specs.Lists.{at, first}
+use Rattle.rules.specs.Lists.{at}
 use Rattle.rules.specs.Phase
 use Rattle.rules.specs.Standing
-use Rattle.rules.specs.State.{State, needs}
+use Rattle.rules.specs.State.{State, rootOf, needs}
 use Rattle.rules.specs.Command.{Command, plan, task, activation, execution, begin, done, fetch}
 use Rattle.rules.specs.Grounds.{noExecution, peakOf}
 use Rattle.rules.specs.Booking.{Books, Climbed, activate, starts, start, free, dispatch}
@@ -153,10 +153,6 @@ ended s j = record { standings = endedStandings s j; booked = shared s j .share 
 -- when the root ends "the phase is a new one, ready"
 unfoldable pub phaseAfter : State → ℕ → ℕ
 phaseAfter s j = cond (eqb (at (s .parents) j) 0) Phase.ready Phase.running
-
--- the root: the step without a parent
-unfoldable pub rootOf : State → ℕ
-rootOf s = first (λ i. eqb (at (s .parents) i) 0) (s .activation)
 
 -- the plan once its trolley is fetched: FETCH "frees it", the out of the root, "and leads to over"
 unfoldable pub unloaded : State → State

@@ -4,7 +4,7 @@ use mathlib.Core.Bool.{Bool, true, _&&_, _||_}
 use mathlib.Core.List.{List, [], _∷_}
 use Prim.Native.Nat.{ℕ, _+_}
 use lib.Dec.{eqb}
-use Rattle.rules.specs.Sums.{Task, countTo}
+use Rattle.rules.specs.Sums.{Task, countTo, lowestTo}
 use Rattle.rules.specs.Lists.{mem, distinct, largest}
 use Rattle.rules.specs.Need.{need, resident}
 
@@ -29,6 +29,10 @@ pub record EachOnce (n : ℕ) (order : List ℕ) : Type 0 where
 -- how many tasks have no parent; exactly one is a plan's root
 unfoldable pub roots : (n : ℕ) (par : ℕ → ℕ) → ℕ
 roots n par = countTo (λ i. eqb (par i) 0) n
+
+-- the root: the task without a parent, the lowest where there are several, and 0 where there is none
+unfoldable pub root : (n : ℕ) (par : ℕ → ℕ) → ℕ
+root n par = lowestTo (λ i. eqb (par i) 0) n
 
 -- "In the activation order each step stands before its parent."
 unfoldable pub ordered : (par : ℕ → ℕ) → List ℕ → Bool

@@ -3,6 +3,7 @@ use mathlib.Core.List.{List, []}
 use Prim.Native.Nat.{ℕ}
 use Rattle.rules.specs.Lists.{at}
 use Rattle.rules.specs.Need
+use Rattle.rules.specs.Peak.{root}
 use Rattle.rules.specs.Phase
 
 -- one store: its places and, for each task, its counts there
@@ -43,6 +44,10 @@ none =
       standings = [];
       chilled = record { bound = 0; works = []; outs = []; booked = [] };
     }
+
+-- the root of a plan
+abbrev pub rootOf : State → ℕ
+rootOf s = root (s .size) (at (s .parents))
 
 -- the needs of the tasks of a plan in a store
 abbrev pub needsIn : State → Store → ℕ → ℕ

@@ -1,8 +1,7 @@
 -- Laws of BEGIN's figures: needs and children, summed up task by task.
 use mathlib.Core.Path.{_≡_, refl, ap, _∙_}
 use mathlib.Core.List.{List}
-use Prim.Native.Nat.{ℕ, zero, suc, _+_, _*_, _≤_, _<_}
-use native.Mathlib.Nat.{mul-suc}
+use Prim.Native.Nat.{ℕ, _+_, _*_, _≤_, _<_}
 use native.Mathlib.Numerals.{add-one}
 use native.Mathlib.Omega.{arith}
 use mathlib.Core.Logic.{⊎-elim}
@@ -12,22 +11,13 @@ use borrow.Author.Tests.{ne-eqb}
 use Rattle.rules.specs.Sums.{Task, only, sumTo, countTo}
 use Rattle.rules.specs.Lists.{at}
 use Rattle.rules.specs.Need.{children, need}
-use Rattle.rules.proofs.Sums.{sum-add, sum-zero, sum-single, count-le, only-le, only-false}
+use Rattle.rules.proofs.Sums.{sum-add, sum-zero, sum-single, sum-most, count-le, only-le, only-false}
 use Rattle.rules.proofs.Tests.{same-or-not, le-or-lt}
 use Rattle.words.specs.Layout.{rows}
 use Rattle.words.specs.Contents.{Contents}
 use Rattle.store.proofs.Entries.{set-more}
 use Rattle.rules.specs.Limits.{maxCount}
 use Rattle.survey.specs.Prepare.{withNeeds, withFigures, plus, weighed, MayWeigh, MayPrepare}
-
--- a sum of k terms, none above b
-sum-most : (f : ℕ → ℕ) (k b : ℕ) → ((c : ℕ) → Task k c → f c ≤ b) → sumTo f k ≤ b * k
-unfolding sumTo
-sum-most f zero b most = omega arith
-sum-most f (suc k) b most =
-    let before : sumTo f k ≤ b * k = sum-most f k b (λ c t. most c (omega arith)) in
-    let here : f (suc k) ≤ b = most (suc k) (omega arith) in
-    omega (arith, mul-suc b k)
 
 -- a sum with its last term apart
 sum-last : (f : ℕ → ℕ) (k : ℕ) → sumTo f (k + 1) ≡ sumTo f k + f (k + 1)

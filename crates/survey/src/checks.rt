@@ -13,7 +13,7 @@ use cells::cell;
 use words::plan::Plan;
 
 // How many tasks have no parent.
-fn roots(plan: &[u32; Plan::WORDS], n: usize) -> usize
+pub fn roots(plan: &[u32; Plan::WORDS], n: usize) -> usize
     requires { ⌜ n ≤ maxTasks ⌝ }
     ensures { λ r. ⌜ r ≡ Peak.roots n (at (contents (now (plan .entry)) .parents)) ⌝ }
 {

@@ -3,6 +3,7 @@ mod checks;
 mod figures;
 mod level;
 
+pub use checks::roots;
 pub use figures::prepare;
 ghost use mathlib.Core.Path.{_≡_};
 ghost use Rattle.words.specs.Contents.{contents};

@@ -1,8 +1,9 @@
 -- Laws of views of an array: over any view first, then over columns and parts.
 use mathlib.Core.Path.{_≡_, refl, sym, ap, _∙_}
 use mathlib.Core.Logic.{⊎-elim}
-use mathlib.Core.List.{List}
+use mathlib.Core.List.{List, [], _∷_, _++_}
 use Prim.Native.Nat.{ℕ, zero, suc, _+_, _*_, _<_}
+use native.Mathlib.Numerals.{add-one}
 use native.Mathlib.Omega.{arith}
 use lib.ListN.{length, set, length-set}
 use lib.Seq.{getD-set-same, getD-set-other, ext-getD}
@@ -21,6 +22,11 @@ unfolding tabulate
 at-tabulate zero f i h = absurd (omega arith)
 at-tabulate (suc count) f zero h = refl
 at-tabulate (suc count) f (suc i) h = at-tabulate count (λ k. f (suc k)) i (omega arith)
+
+tabulate-more : (count : ℕ) (f : ℕ → ℕ) → tabulate (suc count) f ≡ tabulate count f ++ f count ∷ []
+unfolding tabulate
+tabulate-more zero f = refl
+tabulate-more (suc count) f = ap (λ (l : List ℕ). f 0 ∷ l) (tabulate-more count (λ i. f (suc i)))
 
 -- any view
 module _ (count : ℕ) (word : ℕ → ℕ) where
@@ -98,6 +104,11 @@ part-length base count w = view-length count (λ i. base + i) w
 
 pub part-at : (base count : ℕ) (w : List ℕ) (i : ℕ) → i < count → at w (base + i) ≡ at (part base count w) i
 part-at base count w i h = view-at count (λ j. base + j) w i (base + i) h refl
+
+-- one word more
+pub part-more : (base count : ℕ) (w : List ℕ) → part base (count + 1) w ≡ part base count w ++ at w (base + count) ∷ []
+unfolding view
+part-more base count w = ap (λ (k : ℕ). part base k w) (add-one count) ∙ tabulate-more count (λ i. at w (base + i))
 
 pub part-set :
     (base count : ℕ) (w : List ℕ) (i x : ℕ)

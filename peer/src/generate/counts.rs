@@ -2,13 +2,17 @@
 
 use super::random::Random;
 
-/// How large the counts of one plan are.
+/// The largest count.
+const MOST: u32 = u16::MAX as u32;
+
+/// How large the counts of one plan, or of some of its tasks, are.
 #[derive(Clone, Copy)]
 pub(crate) enum Counts {
     Zero,
     UpTo(u16),
     Large,
     Extreme,
+    Most,
     Mixed,
 }
 
@@ -32,10 +36,11 @@ impl Counts {
         let count = match self {
             Counts::Zero => 0,
             Counts::UpTo(most) => random.between(0, most.into()),
-            Counts::Large => random.between(60_000, 65_535),
-            Counts::Extreme => random.pick(&[0, 65_535]),
+            Counts::Large => random.between(60_000, MOST),
+            Counts::Extreme => random.pick(&[0, MOST]),
+            Counts::Most => MOST,
             Counts::Mixed => {
-                let most = random.pick(&[0, 3, 30, 3000, 65_535]);
+                let most = random.pick(&[0, 3, 30, 3000, MOST]);
                 random.between(0, most)
             }
         };

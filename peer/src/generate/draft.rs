@@ -1,8 +1,9 @@
 //! A plan to be sent, with both orders or the activation order alone.
 
 use super::counts::Counts;
+use super::orders;
 use super::random::Random;
-use super::{orders, tree};
+use super::tree::Shape;
 use crate::command::Command;
 use crate::desk::desk_peak;
 use crate::encode::encode;
@@ -24,11 +25,12 @@ pub(crate) struct Draft {
 }
 
 impl Draft {
+    /// A plan of any size and plain shape.
     pub fn random(random: &mut Random) -> Draft {
         let n = size(random);
         let counts = Counts::random(random);
-        let parents = tree::parents(random, n);
-        let records: Vec<Record> = parents
+        let parents = Shape::random(random).parents(random, n);
+        let records = parents
             .into_iter()
             .map(|parent| Record {
                 parent,
@@ -36,9 +38,14 @@ impl Draft {
                 out: out(random, counts, parent),
             })
             .collect();
+        Draft::of(random, records)
+    }
+
+    /// These steps, which form a tree, with any orders, p and M.
+    pub fn of(random: &mut Random, records: Vec<Record>) -> Draft {
         let activation = orders::activation(random, &records);
         Draft {
-            tasks: n as u16,
+            tasks: records.len() as u16,
             processors: processors(random),
             memory_bound: memory_bound(random, &records, &activation),
             execution: execution(random, &activation),
@@ -49,6 +56,14 @@ impl Draft {
 
     /// The commands that send this plan, BEGIN the last.
     pub fn commands(&self, random: &mut Random) -> Vec<Vec<u8>> {
+        let mut commands = self.steps();
+        commands.extend(self.mixed_orders(random));
+        commands.push(encode(Command::Begin));
+        commands
+    }
+
+    /// PLAN and the steps.
+    pub fn steps(&self) -> Vec<Vec<u8>> {
         let mut commands = vec![encode(Command::Plan {
             tasks: self.tasks,
             processors: self.processors,
@@ -59,8 +74,6 @@ impl Draft {
                 .iter()
                 .map(|&record| encode(Command::Step(record))),
         );
-        commands.extend(self.mixed_orders(random));
-        commands.push(encode(Command::Begin));
         commands
     }
 

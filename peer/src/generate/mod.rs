@@ -1,5 +1,6 @@
 //! Seeded input: streams whole and cut, lists of askings that go on after
-//! refusals, and pairs for fullness. The same seed always gives the same input.
+//! refusals, steps alone to find an order for, and pairs for fullness. The same
+//! seed always gives the same input.
 
 mod askings;
 mod counts;
@@ -11,6 +12,8 @@ mod nuisance;
 mod orders;
 mod pairs;
 mod random;
+mod siblings;
+mod steps_only;
 mod stream;
 mod tree;
 
@@ -19,5 +22,6 @@ pub use askings::{askings, many_askings, Asking};
 pub use cut::cut_stream;
 pub use pairs::booked_and_bound;
 pub use random::Random;
+pub use steps_only::steps_only;
 pub use stream::stream;
 pub use tree::Shape;

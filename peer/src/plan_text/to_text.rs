@@ -9,7 +9,7 @@ const PER_LINE: usize = 16;
 /// A whole command of a stream.
 #[derive(Clone, Copy)]
 pub(super) struct Whole<'a> {
-    form: &'static Form,
+    pub form: &'static Form,
     operands: &'a [u8],
 }
 

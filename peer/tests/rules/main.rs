@@ -1,4 +1,4 @@
-//! The rules of document 01, and requests 01 to 05 of document 02, tried on
+//! The rules of document 01, and requests 01 to 06 of document 02, tried on
 //! this implementation.
 
 mod against_naive;
@@ -6,12 +6,17 @@ mod astray;
 mod day;
 mod desk;
 mod fetch;
+mod find;
+mod find_days;
+mod find_every;
+mod find_large;
 mod fullness;
 mod fullness_astray;
 mod fullness_line;
 mod generator;
 mod generator_fetch;
 mod generator_fullness;
+mod generator_steps;
 mod grounds;
 mod limits;
 mod menu;
@@ -20,9 +25,11 @@ mod one_order;
 mod plan_a;
 mod plan_c;
 mod plan_text;
+mod plan_text_order;
 mod plan_text_program;
 mod plan_text_typed;
 mod plan_text_written;
+mod postorder;
 mod printer;
 mod table;
 mod watch;

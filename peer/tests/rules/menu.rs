@@ -2,6 +2,7 @@
 
 use peer::generate::encode;
 use peer::{Answer, Command, Phase, Plan, Reason, Record, Wrote};
+use std::fmt::Debug;
 
 /// What unused entries of a start list hold before a command.
 pub const MARK: u16 = 0xbeef;
@@ -206,9 +207,25 @@ pub fn bytes_of(n: usize) -> usize {
 /// Has a plan written into a list of so many bytes: those that were written, or
 /// the number that refuses. All others must stay untouched, whatever they are.
 pub fn written(plan: &Plan, list_len: usize) -> Result<Vec<u8>, u8> {
-    let [over_zeros, over_ones] = [0x00, 0xff].map(|mark| {
+    lent([0x00, 0xff], list_len, |list| plan.write(list))
+}
+
+/// Has an order found into a list of so many entries: those that were written, or
+/// the number that refuses. All others must stay untouched, whatever they are.
+pub fn found(plan: &Plan, list_len: usize) -> Result<Vec<u16>, u8> {
+    lent([0x0000, 0xffff], list_len, |list| plan.find_order(list))
+}
+
+/// Lends a list of so many entries, once full of each mark: what was written, which
+/// is the same, or the number that refuses.
+fn lent<Entry: Copy + PartialEq + Debug>(
+    marks: [Entry; 2],
+    list_len: usize,
+    write: impl Fn(&mut [Entry]) -> Wrote,
+) -> Result<Vec<Entry>, u8> {
+    let [over_zeros, over_ones] = marks.map(|mark| {
         let mut list = vec![mark; list_len];
-        let Wrote { number, count } = plan.write(&mut list);
+        let Wrote { number, count } = write(&mut list);
         let later = list.split_off(count);
         assert_eq!(later, vec![mark; list_len - count]);
         if number == 0 {
@@ -221,8 +238,9 @@ pub fn written(plan: &Plan, list_len: usize) -> Result<Vec<u8>, u8> {
     over_zeros
 }
 
-/// Everything that can be asked of a plan; it is written out if it is small.
-pub fn answers(plan: &Plan) -> impl PartialEq + std::fmt::Debug {
+/// Everything that can be asked of a plan, but for an order found, which takes its
+/// time; it is written out if it is small.
+pub fn answers(plan: &Plan) -> impl PartialEq + Debug {
     let booked_by: Vec<u32> = (1..=ASKED).map(|task| plan.booked_by(task)).collect();
     let whys: Vec<Reason> = (1..=ASKED).map(|task| plan.why(task)).collect();
     (

@@ -189,6 +189,7 @@ fn help_and_usage() {
         &["--back", "a", "b"],
         &["--offsets", "a", "b"],
         &["--written", "a", "b"],
+        &["--order", "a", "b"],
     ] {
         let (output, errors, status) = run(arguments, b"");
         assert!(

@@ -7,7 +7,7 @@ use peer::{decode, fullness, needs, Answer, Command, Phase, Plan, Record};
 /// the starts, the ends and the fetch alone.
 #[derive(Default)]
 pub struct Watch {
-    tasks: usize,
+    pub tasks: usize,
     pub processors: usize,
     pub memory_bound: u32,
     pub records: Vec<Record>,

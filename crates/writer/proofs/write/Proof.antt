@@ -10,8 +10,8 @@ use Rattle.rules.specs.Answer.{front}
 use Rattle.rules.specs.Write as writing
 use Rattle.rules.proofs.Written.{every-write-holds, write-early, write-short, write-whole}
 use Rattle.words.specs.Contents.{contents}
-use Rattle.answer.specs.declared.Wrote.{Wrote}
-use Rattle.answer.specs.Meaning.{planOf, wroteOf}
+use Rattle.answer.specs.Meaning.{planOf}
+use Rattle.answer.proofs.Unwritten.{unwritten}
 use Rattle.put.proofs.Pieces.{with-room}
 use Rattle.writer.specs.Writing.{WholePlan}
 use Rattle.writer.proofs.write.Statement.{statement}
@@ -33,11 +33,6 @@ room-is :
     → 8 + 13 * c .cell .result ≡ writing.writtenLength (instanceOf (planOf (start (c .before .before) .args .plan .now)))
 unfolding contents writing.writtenLength
 room-is c = ap (λ (n : ℕ). 8 + 13 * n) (c .cell .ensures)
-
--- the answer of a refusal, with the list that was lent
-unwritten : (r : Wrote) (k : ℕ) (list : List ℕ) → r ≡ record { number = k; count = 0 } → wroteOf r list ≡ writing.untouched k list
-unfolding writing.untouched
-unwritten r k list e = ap (λ (x : Wrote). wroteOf x list) e
 
 -- an order is not complete
 returns : tie.Need-returns

@@ -1,0 +1,79 @@
+// The order of a task's subtree: its children's orders one after another, and then the task.
+ghost use mathlib.Core.Path.{_≡_};
+ghost use Prim.Native.Nat.{max};
+ghost use lib.ListN.{length};
+ghost use Rattle.rules.specs.Lists.{at};
+ghost use Rattle.words.specs.Contents.{contents};
+ghost use Rattle.finding.specs.Scratch.{cells};
+ghost use Rattle.finding.specs.Joining.{Linked, peakAlong, MayWeigh, Joined};
+ghost use Rattle.finding.specs.Arranging.{MayJoin, HasJoined};
+use crate::scratch::AFTER;
+use crate::scratch::CELLS;
+use crate::scratch::FIRST;
+use crate::scratch::HEAD;
+use crate::scratch::SIBLING;
+use crate::scratch::SUBTREE_PEAK;
+use crate::scratch::get;
+use crate::scratch::put;
+use crate::sorting::sort_children;
+use cells::cell;
+use words::plan::Plan;
+
+// The larger of two numbers.
+fn larger(a: usize, b: usize) -> usize
+    ensures { λ r. ⌜ r ≡ max a b ⌝ }
+{
+    if a < b { b } else { a }
+}
+
+// The peak of a subtree: each child's order begins at the level that those before it leave.
+fn subtree_peak(plan: &[u32; Plan::WORDS], scratch: &[u32; CELLS], task: usize) -> usize
+    requires { ⌜ MayWeigh (at (contents (now plan) .chilled .works)) (at (contents (now plan) .chilled .outs)) (now scratch) task ⌝ }
+    ensures { λ r. ⌜ r ≡ peakAlong (at (contents (now (plan .entry)) .chilled .works)) (at (contents (now (plan .entry)) .chilled .outs))
+        (now (scratch .entry)) task ⌝ }
+{
+    let mut best = 0;
+    let mut level = 0;
+    let mut child = get(scratch, FIRST, task);
+    while child != 0 {
+        best = larger(best, level + get(scratch, SUBTREE_PEAK, child));
+        level += cell(plan, child, Plan::CHILLED + Plan::OUT) as usize;
+        child = get(scratch, SIBLING, child);
+    }
+    let work = cell(plan, task, Plan::CHILLED + Plan::WORK) as usize;
+    let out = cell(plan, task, Plan::CHILLED + Plan::OUT) as usize;
+    larger(best, level + work + out)
+}
+
+// The orders of the children are linked one behind the other, from nobody's entry on, and the task
+// behind them. An order ends with its own task, so that its last entry is known.
+fn link_orders(scratch: &mut [u32; CELLS], task: usize)
+    requires { ⌜ Linked (now scratch) task × (length (now scratch) ≡ cells) ⌝ }
+    ensures { λ _. ⌜ Joined (now (scratch .entry)) task (now (scratch .exit)) ⌝ }
+{
+    let mut last = 0;
+    let mut child = get(scratch, FIRST, task);
+    while child != 0 {
+        let head = get(scratch, HEAD, child);
+        put(scratch, AFTER, last, head);
+        last = child;
+        child = get(scratch, SIBLING, child);
+    }
+    put(scratch, AFTER, last, task);
+    let head = get(scratch, AFTER, 0);
+    put(scratch, HEAD, task, head);
+}
+
+// A task's turn, where its children have had theirs: the order and the peak of its subtree.
+pub(crate) fn join(plan: &[u32; Plan::WORDS], scratch: &mut [u32; CELLS], task: usize)
+    requires { ⌜ MayJoin (contents (now plan) .size) (at (contents (now plan) .parents)) (at (contents (now plan) .chilled .works))
+        (at (contents (now plan) .chilled .outs)) task (now scratch) ⌝ }
+    ensures { λ _. ⌜ HasJoined (contents (now (plan .entry)) .size) (at (contents (now (plan .entry)) .parents))
+        (at (contents (now (plan .entry)) .chilled .works)) (at (contents (now (plan .entry)) .chilled .outs)) task
+        (now (scratch .entry)) (now (scratch .exit)) ⌝ }
+{
+    sort_children(plan, scratch, task);
+    link_orders(scratch, task);
+    let peak = subtree_peak(plan, scratch, task);
+    put(scratch, SUBTREE_PEAK, task, peak);
+}
