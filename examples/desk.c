@@ -3,7 +3,8 @@
        rt staticlib desk
        cc -Iinclude examples/desk.c target/staticlib/libdesk.a -o target/desk && target/desk
 
-   It asks how many places a plan needs at its peak, in one activation order and in another. The lists are only read. */
+   It asks how many places a plan needs at its peak and which step needs them, in one activation order and in another. The lists are only
+   read. */
 #include "cephlouk.h"
 #include <stdio.h>
 
@@ -13,7 +14,7 @@ enum { TASKS = 3 };
 static const struct cephlouk_record records[TASKS] = {{3, 5, 1}, {3, 1, 4}, {0, 0, 1}};
 
 static const uint16_t orders[][TASKS] = {
-    {1, 2, 3}, /* much work first, with nothing else in the cold room */
+    {1, 2, 3}, /* much work first, with nothing else in the cold room: each step needs as much, and the first is told */
     {2, 1, 3}, /* much out first, which is still there meanwhile */
     {1, 2, 2}, /* 2 twice */
     {1, 3, 2}, /* 3 stands ahead of 2, which feeds it */
@@ -29,7 +30,7 @@ static void tell(const uint16_t *order, size_t length)
     for (size_t i = 0; i < length; i++)
         printf("%d ", order[i]);
     if (answer.number == CEPHLOUK_ACCEPTED)
-        printf("peak %llu\n", (unsigned long long)answer.peak);
+        printf("peak %llu by step %d\n", (unsigned long long)answer.peak, answer.by);
     else
         printf("refused %d\n", answer.number);
 }

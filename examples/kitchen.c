@@ -71,7 +71,7 @@ static void give(uint32_t *plan, const uint8_t *command, size_t length)
     if (is_refused(answer.number))
         return;
     if (command[0] == CEPHLOUK_BEGIN)
-        printf("peak %lu, ", (unsigned long)answer.peak);
+        printf("peak %lu by step %d, ", (unsigned long)answer.peak, answer.by);
     if (command[0] == CEPHLOUK_BEGIN || command[0] == CEPHLOUK_DONE) {
         printf("start");
         for (size_t k = 0; k < answer.starts; k++)

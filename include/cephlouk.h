@@ -77,6 +77,7 @@ struct cephlouk_answer {
     size_t used;    /* the bytes of the command */
     size_t starts;  /* how many steps start now: they stand at the front of the start list, in order */
     uint64_t peak;  /* of BEGIN: the most trays that the activation order needs, one step after another */
+    uint16_t by;    /* of BEGIN: the step that sets the peak, the earliest in the activation order where several are equal; else 0 */
     size_t offers;  /* of DONE: to how many steps freed trays were offered */
 };
 
@@ -108,7 +109,8 @@ struct cephlouk_wrote {
     size_t count;   /* how many entries were written; 0 in a refusal */
 };
 
-/* CEPHLOUK_PLAN_WORDS, as the library has it: a program that was compiled with another header may ask. */
+/* CEPHLOUK_PLAN_WORDS, as the library has it: a program that was compiled with another header may ask. It tells the words of a plan alone,
+   and not whether the answers are the same. */
 size_t cephlouk_plan_words(void);
 
 /* Makes an array of CEPHLOUK_PLAN_WORDS words the empty plan, whatever was in it: all its words are 0 then. */
@@ -147,8 +149,8 @@ struct cephlouk_wrote cephlouk_write(const uint32_t *plan, uint8_t *list, size_t
    given yet; an order that was given stays, after a refused BEGIN too, until the plan is opened anew. */
 struct cephlouk_wrote cephlouk_find_order(const uint32_t *plan, uint16_t *list, size_t length);
 
-/* The planners' desk, in libdesk.a: the peak of the caller's own records in an activation order, with no plan. A record stands for a
-   task: the first is task 1. */
+/* The planners' desk, in libdesk.a: the peak of the caller's own records in an activation order and the step that sets it, with no plan. A
+   record stands for a step: the first is step 1. */
 struct cephlouk_record {
     uint16_t parent, work, out;
 };
@@ -157,6 +159,7 @@ struct cephlouk_desk_answer {
     uint8_t number; /* CEPHLOUK_ACCEPTED, OUTSIDE_LIMITS (also lists of unequal lengths, none or too many), REPEATED, NOT_ONE_ROOT or
                        PARENT_FIRST */
     uint64_t peak;  /* 0 in a refusal */
+    uint16_t by;    /* the step that sets the peak, the earliest in the order where several are equal; 0 in a refusal */
 };
 
 /* Both lists are only read. `room` is an array of CEPHLOUK_PLAN_WORDS words to work in: it may hold anything, and is left an empty plan. */

@@ -12,6 +12,9 @@ pub struct Accepted<'a> {
     /// Of BEGIN: the most trays that the activation order needs, one step
     /// after another.
     pub peak: u64,
+    /// Of BEGIN: the step that sets the peak, the earliest in the activation
+    /// order where several are equal; 0 of any other command.
+    pub by: u16,
     /// Of DONE: to how many steps freed trays were offered.
     pub offers: usize,
 }
@@ -29,6 +32,8 @@ pub struct Answer {
     pub starts: usize,
     /// Of BEGIN: the peak of the activation order.
     pub peak: u64,
+    /// Of BEGIN: the step that sets it.
+    pub by: u16,
     /// Of DONE: how many offers were made.
     pub offers: usize,
 }

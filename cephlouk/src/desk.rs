@@ -17,19 +17,29 @@ pub struct TaskRecord {
     pub out: u16,
 }
 
-/// How many places an activation order needs, one step after another. The
-/// first record is step 1.
+/// How many places an activation order needs, and where.
+#[derive(Clone, Copy, Debug, PartialEq, Eq)]
+pub struct DeskPeak {
+    /// The most trays that the order needs, one step after another.
+    pub peak: u64,
+    /// The step that sets the peak, the earliest in the order where several are
+    /// equal.
+    pub by: u16,
+}
+
+/// How many places an activation order needs, one step after another, and the
+/// step that needs them. The first record is step 1.
 ///
 /// ```
-/// use cephlouk::{desk_peak, Refusal, TaskRecord};
+/// use cephlouk::{desk_peak, DeskPeak, Refusal, TaskRecord};
 ///
 /// let record = |parent, work, out| TaskRecord { parent, work, out };
 /// let records = [record(3, 5, 1), record(3, 1, 4), record(0, 0, 1)];
-/// assert_eq!(desk_peak(&records, &[1, 2, 3]), Ok(6));
-/// assert_eq!(desk_peak(&records, &[2, 1, 3]), Ok(10));
+/// assert_eq!(desk_peak(&records, &[1, 2, 3]), Ok(DeskPeak { peak: 6, by: 1 }));
+/// assert_eq!(desk_peak(&records, &[2, 1, 3]), Ok(DeskPeak { peak: 10, by: 1 }));
 /// assert_eq!(desk_peak(&records, &[1, 3, 2]), Err(Refusal::ParentFirst));
 /// ```
-pub fn desk_peak(records: &[TaskRecord], activation: &[u16]) -> Result<u64, Refusal> {
+pub fn desk_peak(records: &[TaskRecord], activation: &[u16]) -> Result<DeskPeak, Refusal> {
     let room = vec![0; Plan::WORDS].into_boxed_slice();
     let mut room: Box<[u32; Plan::WORDS]> = room.try_into().expect("as many words as a plan has");
     desk_peak_in(records, activation, &mut room)
@@ -41,7 +51,7 @@ pub fn desk_peak_in(
     records: &[TaskRecord],
     activation: &[u16],
     room: &mut [u32; Plan::WORDS],
-) -> Result<u64, Refusal> {
+) -> Result<DeskPeak, Refusal> {
     // SAFETY: two lists, each as a pointer and a length, are only read, and the
     // words are as many as a plan has.
     let answer = unsafe {
@@ -54,7 +64,10 @@ pub fn desk_peak_in(
         )
     };
     match Refusal::of_number(answer.number) {
-        None => Ok(answer.peak),
+        None => Ok(DeskPeak {
+            peak: answer.peak,
+            by: answer.by,
+        }),
         Some(refusal) => Err(refusal),
     }
 }

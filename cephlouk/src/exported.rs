@@ -10,6 +10,7 @@ use crate::reason::FlatReason;
 pub(crate) struct DeskAnswer {
     pub number: u8,
     pub peak: u64,
+    pub by: u16,
 }
 
 extern "C" {

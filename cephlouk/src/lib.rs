@@ -33,7 +33,7 @@
 //! }
 //!
 //! let begun = plan.command(&[0x05])?;
-//! assert_eq!(begun.peak, 7);
+//! assert_eq!((begun.peak, begun.by), (7, 2)); // 7 places, while step 2 runs
 //! assert_eq!(begun.starts, [1]);
 //! assert_eq!(plan.booked(), 6);
 //! assert_eq!(plan.fullness(), 857); // thousandths of the 7 places
@@ -65,7 +65,7 @@ mod reason;
 mod refusal;
 
 pub use answer::{Accepted, Answer, Wrote};
-pub use desk::{desk_peak, desk_peak_in, TaskRecord};
+pub use desk::{desk_peak, desk_peak_in, DeskPeak, TaskRecord};
 pub use fullness::fullness;
 pub use phase::{Phase, Standing};
 pub use plan::Plan;

@@ -94,6 +94,7 @@ impl Plan {
                 used: answer.used,
                 starts: &self.starts[..answer.starts],
                 peak: answer.peak,
+                by: answer.by,
                 offers: answer.offers,
             }),
         }

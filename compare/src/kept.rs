@@ -87,6 +87,7 @@ impl Kept for peer::Plan {
             used: answer.used,
             starts: answer.starts,
             peak: answer.peak.into(),
+            by: answer.peak_task,
             offers: answer.offers,
         }
     }

@@ -11,6 +11,7 @@ pub mod lists;
 mod order_kinds;
 pub mod orders;
 pub mod pairs;
+pub mod peaks;
 pub mod plans;
 pub mod programs;
 pub mod readings;

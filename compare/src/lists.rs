@@ -1,5 +1,5 @@
-//! The desk's peak by the peer: records and an activation list, good ones and
-//! ones with a few flaws.
+//! The desk's peak by the peer, with its task: records and an activation list,
+//! good ones and ones with a few flaws.
 
 use crate::tool::{last_plan, Tool};
 use peer::generate::Random;
@@ -13,12 +13,13 @@ pub struct Lists {
 }
 
 /// The desk's peak.
-pub struct DeskPeak;
+pub struct Desk;
 
-impl Tool for DeskPeak {
+impl Tool for Desk {
     type Lent = Lists;
 
-    const NUMBERS: usize = 2;
+    /// The number, the peak and its task.
+    const NUMBERS: usize = 3;
 
     fn lend(random: &mut Random, commands: &[u8]) -> Lists {
         let given = if random.chance(50) {
@@ -31,12 +32,16 @@ impl Tool for DeskPeak {
 
     fn answer(_commands: &[u8], lent: &mut Lists) -> Vec<u64> {
         let answer = peer::desk_peak(&lent.records, &lent.activation);
-        vec![answer.number.into(), answer.peak.into()]
+        vec![
+            answer.number.into(),
+            answer.peak.into(),
+            answer.peak_task.into(),
+        ]
     }
 }
 
 /// The tasks and the activation order of the last plan, as far as given.
-fn of_commands(commands: &[u8]) -> Lists {
+pub fn of_commands(commands: &[u8]) -> Lists {
     let mut given = Lists {
         records: Vec::new(),
         activation: Vec::new(),

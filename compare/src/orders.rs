@@ -23,9 +23,9 @@ impl Tool for FindOrder {
         }
     }
 
-    /// The number, how many entries were written, and BEGIN's number and peak
-    /// with that order.
-    const NUMBERS: usize = 4;
+    /// The number, how many entries were written, and BEGIN's number, its peak
+    /// and the peak's task with that order.
+    const NUMBERS: usize = 5;
 
     fn lend(random: &mut Random, commands: &[u8]) -> Vec<u16> {
         lent_list(random, tasks(commands).into(), Plan::TASKS)
@@ -33,17 +33,17 @@ impl Tool for FindOrder {
 
     fn answer(commands: &[u8], lent: &mut Vec<u16>) -> Vec<u64> {
         let Wrote { number, count } = led(Plan::new(), commands).find_order(lent);
-        let [begin, peak] = begun(Plan::new(), commands, &lent[..count]);
-        vec![number.into(), count as u64, begin, peak]
+        let [begin, peak, by] = begun(Plan::new(), commands, &lent[..count]);
+        vec![number.into(), count as u64, begin, peak, by]
     }
 }
 
-/// BEGIN's number and peak where an empty plan gets the opening and the tasks of
-/// the last plan, and an order by 03; 0 and 0 where there is no order. An entry
-/// that is not taken leaves BEGIN out of turn.
-pub fn begun<P: Kept>(mut plan: P, commands: &[u8], order: &[u16]) -> [u64; 2] {
+/// BEGIN's number, its peak and the peak's task where an empty plan gets the
+/// opening and the tasks of the last plan, and an order by 03; zeros where there
+/// is no order. An entry that is not taken leaves BEGIN out of turn.
+pub fn begun<P: Kept>(mut plan: P, commands: &[u8], order: &[u16]) -> [u64; 3] {
     if order.is_empty() {
-        return [0; 2];
+        return [0; 3];
     }
     let last = last_plan(commands).into_iter();
     let tasks = last.filter(|command| matches!(command, Command::Plan { .. } | Command::Step(_)));
@@ -52,5 +52,5 @@ pub fn begun<P: Kept>(mut plan: P, commands: &[u8], order: &[u16]) -> [u64; 2] {
     for command in tasks.chain(entries).chain([Command::Begin]) {
         answer = plan.command(&encode(command), 0, &mut [0; Plan::STARTS]);
     }
-    [answer.number.into(), answer.peak]
+    [answer.number.into(), answer.peak, answer.by.into()]
 }

@@ -1,6 +1,8 @@
 //! Counts over all askings compared.
 
 use crate::kept::Questions;
+use crate::lists::of_commands;
+use crate::peaks::Peaks;
 use cephlouk::{Answer, Phase, Plan, Refusal};
 use peer::generate::Asking;
 use peer::{decode, Command};
@@ -36,22 +38,34 @@ pub struct Tally {
     fetched_in_vain: u64,
     /// FETCHes refused 10 where one stood, with a start list one entry short.
     short_fetches: u64,
+    /// The peaks of the days that began.
+    peaks: Peaks,
 }
 
 /// So many askings come to every kind of day.
 const ENOUGH: u64 = 50_000;
 
 impl Tally {
-    /// Counts an asking by its answer, and what the plan answers before and after
-    /// it.
-    pub fn add(&mut self, asking: &Asking, answer: &Answer, before: &Questions, after: &Questions) {
+    /// Counts an asking by its answer, what the plan answers before and after it,
+    /// and the plan after it.
+    pub fn add(
+        &mut self,
+        asking: &Asking,
+        answer: &Answer,
+        before: &Questions,
+        after: &Questions,
+        plan: &peer::Plan,
+    ) {
         self.askings += 1;
         self.by_number[usize::from(answer.number)] += 1;
         self.amid_days += u64::from(answer.number != 0 && after.phase == Phase::Running);
         match (before.phase, after.phase) {
-            (Phase::Orders, Phase::Running) if !before.is_whole => {
-                self.one_order += 1;
-                self.largest_with_one_order += u64::from(is_largest(after));
+            (Phase::Orders, Phase::Running) => {
+                self.add_peak(plan);
+                if !before.is_whole {
+                    self.one_order += 1;
+                    self.largest_with_one_order += u64::from(is_largest(after));
+                }
             }
             (Phase::Running, Phase::Ready) => {
                 self.days += 1;
@@ -66,6 +80,13 @@ impl Tally {
         if let Some(refusal) = answer.refusal() {
             self.add_refused(asking, refusal, before.phase);
         }
+    }
+
+    /// Counts the peak of a day that has begun.
+    fn add_peak(&mut self, plan: &peer::Plan) {
+        let mut written = vec![0; Plan::MOST_BYTES];
+        let count = plan.write(&mut written).count;
+        self.peaks.add(&of_commands(&written[..count]));
     }
 
     /// Counts a whole command that is refused in a phase.
@@ -97,7 +118,7 @@ impl Tally {
             self.fetched_in_vain,
             self.short_fetches,
         ];
-        self.askings >= ENOUGH && kinds.contains(&0)
+        self.askings >= ENOUGH && (kinds.contains(&0) || self.peaks.lack_a_kind())
     }
 }
 
@@ -121,7 +142,7 @@ impl Display for Tally {
             "; {} refused in the middle of days; {} days to their end, {} of them of {} steps; \
              {} begun with one order, {} of them of as many; {} fetched, {} of them with no trays; \
              refused 3 in ready {} PLANs and {} DONEs, elsewhere {} FETCHes; \
-             refused 10 in ready {} FETCHes with a list one short",
+             refused 10 in ready {} FETCHes with a list one short; peaks {}",
             self.amid_days,
             self.days,
             self.largest_days,
@@ -133,7 +154,8 @@ impl Display for Tally {
             self.plans_in_ready,
             self.reports_in_ready,
             self.fetched_in_vain,
-            self.short_fetches
+            self.short_fetches,
+            self.peaks
         )
     }
 }

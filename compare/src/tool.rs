@@ -150,7 +150,7 @@ fn moment(plan: &Plan) -> usize {
 #[cfg(test)]
 mod tests {
     use super::*;
-    use crate::lists::DeskPeak;
+    use crate::lists::Desk;
     use crate::orders::FindOrder;
     use crate::plans::Write;
     use crate::reasons::{kind, Why};
@@ -171,24 +171,33 @@ mod tests {
 
     #[test]
     fn the_peer_is_like_itself() {
-        let tally = compare::<DeskPeak>(DeskPeak::answer, 1_000).expect("no difference");
+        let tally = compare::<Desk>(Desk::answer, 1_000).expect("no difference");
         assert_eq!(tally.into_keys().collect::<Vec<_>>(), [0, 4, 5, 7, 8]);
     }
 
     #[test]
     fn a_wrong_count_is_told() {
-        let told = told::<DeskPeak>(|answer, _| answer[1] += u64::from(answer[0] == 0));
+        let told = told::<Desk>(|answer, _| answer[1] += u64::from(answer[0] == 0));
         assert!(told.starts_with("seed "), "{told}");
+    }
+
+    /// The peak's task stands last.
+    #[test]
+    fn another_task_is_told() {
+        told::<Desk>(|answer, _| answer[2] += u64::from(answer[0] == 0));
+        // Told with a refusal; not told with a peak of 0.
+        told::<Desk>(|answer, _| answer[2] = answer[2].max(answer[0].min(1)));
+        told::<Desk>(|answer, _| answer[2] *= u64::from(answer[1] > 0));
     }
 
     #[test]
     fn a_wrong_refusal_is_told() {
-        told::<DeskPeak>(|answer, _| answer[0] = answer[0].min(7));
+        told::<Desk>(|answer, _| answer[0] = answer[0].min(7));
     }
 
     #[test]
     fn a_touched_entry_is_told() {
-        told::<DeskPeak>(|_, lent| {
+        told::<Desk>(|_, lent| {
             if let Some(last) = lent.activation.last_mut() {
                 *last ^= 1;
             }
@@ -257,10 +266,11 @@ mod tests {
         told::<FindOrder>(|answer, _| answer[1] += u64::from(answer[0] == 0));
     }
 
-    /// BEGIN's number and peak stand behind the count.
+    /// BEGIN's number, its peak and the peak's task stand behind the count.
     #[test]
     fn another_begin_is_told() {
         told::<FindOrder>(|answer, _| answer[3] += u64::from(answer[3] > 0));
+        told::<FindOrder>(|answer, _| answer[4] += u64::from(answer[4] > 0));
         told::<FindOrder>(|answer, _| {
             if answer[2] == 9 {
                 answer[2] = 0;

@@ -9,7 +9,7 @@ mod why;
 mod write;
 mod written;
 
-use compare::lists::DeskPeak;
+use compare::lists::Desk;
 use compare::orders::FindOrder;
 use compare::pairs::compare_readings;
 use compare::plans::Write;
@@ -23,7 +23,7 @@ type Comparison = fn(u64) -> Result<String, String>;
 /// Each tool.
 const TOOLS: [(&str, Comparison); 5] = [
     ("desk", |cases| {
-        compare::<DeskPeak>(desk::peak, cases).map(|tally| answers(cases, &tally))
+        compare::<Desk>(desk::peak, cases).map(|tally| answers(cases, &tally))
     }),
     ("find_order", |cases| {
         compare::<FindOrder>(find::order, cases).map(|tally| answers(cases, &tally))

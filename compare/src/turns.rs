@@ -151,7 +151,8 @@ impl<P: Kept> Pair<P> {
         } else if self.plan.words() != self.words {
             return Err(self.tell(asking, "a refusal changed words of the plan"));
         }
-        tally.add(asking, &wanted.answer, &before, &wanted.questions);
+        let (answer, after) = (&wanted.answer, &wanted.questions);
+        tally.add(asking, answer, &before, after, &self.peer);
         self.asked += 1;
         Ok(())
     }
@@ -270,6 +271,7 @@ mod tests {
     enum Fault {
         None,
         Offers,
+        By,
         StartList,
         Finished,
         Order,
@@ -291,6 +293,7 @@ mod tests {
             if self.asked == self.at {
                 match self.fault {
                     Fault::Offers => answer.offers += 1,
+                    Fault::By => answer.by += 1,
                     Fault::StartList => starts[63] = 9,
                     Fault::Word => self.words[1] = 1,
                     Fault::None | Fault::Finished | Fault::Order => {}
@@ -368,6 +371,10 @@ mod tests {
         phase == Phase::Ready && outcome.answer.number == 0
     }
 
+    fn is_begin(phase: Phase, outcome: &Outcome) -> bool {
+        phase == Phase::Orders && outcome.questions.phase == Phase::Running
+    }
+
     fn is_refused_begin(_: Phase, outcome: &Outcome) -> bool {
         outcome.order.is_some()
     }
@@ -382,6 +389,15 @@ mod tests {
     fn a_wrong_count_is_told_with_its_seed_and_asking() {
         let told = told(5, 70, Fault::Offers);
         assert!(told.starts_with("seed 5, asking 70 "), "{told}");
+    }
+
+    #[test]
+    fn another_task_of_the_peak_is_told() {
+        for is_such in [is_begin, is_refused, is_refused_begin, is_fetch] {
+            let at = first(7, 20, is_such);
+            let told = told(7, at, Fault::By);
+            assert!(told.starts_with(&format!("seed 7, asking {at} ")), "{told}");
+        }
     }
 
     #[test]

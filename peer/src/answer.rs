@@ -13,6 +13,9 @@ pub struct Answer {
     pub starts: usize,
     /// The peak of the activation order; by BEGIN only.
     pub peak: u32,
+    /// The task that sets the peak, the earliest in the activation order where
+    /// several are equal; 0 where no peak is answered.
+    pub peak_task: u16,
     /// Offers made while sharing out; by DONE only.
     pub offers: usize,
 }
@@ -34,6 +37,9 @@ pub struct DeskAnswer {
     pub number: u8,
     /// The peak of the desk's activation list; 0 on a refusal.
     pub peak: u32,
+    /// The task that sets the peak, the earliest in the list where several are
+    /// equal; 0 on a refusal.
+    pub peak_task: u16,
 }
 
 /// The answer to whoever has a plan or a found order written into a lent list.

@@ -19,7 +19,7 @@ impl Plan {
         let records = &self.records[..self.tasks];
         check_tree(records, &self.activation)?;
         let needs = needs(records);
-        let peak = peak(records, &needs, self.activation.entries());
+        let (peak, peak_task) = peak(records, &needs, self.activation.entries());
         if peak > self.memory_bound {
             return Err(Refusal::PeakAboveBound);
         }
@@ -32,6 +32,7 @@ impl Plan {
         Ok(Answer {
             starts: self.start(starts),
             peak,
+            peak_task,
             ..Answer::default()
         })
     }

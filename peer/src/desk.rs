@@ -1,4 +1,4 @@
-//! The planners' desk: the peak of the caller's own records.
+//! The planners' desk: the peak of the caller's own records, and its task.
 
 use crate::answer::DeskAnswer;
 use crate::order::Order;
@@ -8,19 +8,24 @@ use crate::record::Record;
 use crate::refusal::Refusal;
 use crate::tree::check_tree;
 
-/// The peak of the desk's activation list over its step records.
+/// The peak of the desk's activation list over its step records, and the task
+/// that sets it.
 pub fn desk_peak(records: &[Record], activation: &[u16]) -> DeskAnswer {
     match checked_peak(records, activation) {
-        Ok(peak) => DeskAnswer { number: 0, peak },
+        Ok((peak, peak_task)) => DeskAnswer {
+            number: 0,
+            peak,
+            peak_task,
+        },
         Err(refusal) => DeskAnswer {
             number: refusal.number(),
-            peak: 0,
+            ..DeskAnswer::default()
         },
     }
 }
 
 /// The desk's checks: 4, 5, 7 and 8.
-fn checked_peak(records: &[Record], activation: &[u16]) -> Result<u32, Refusal> {
+fn checked_peak(records: &[Record], activation: &[u16]) -> Result<(u32, u16), Refusal> {
     check_limits(records, activation)?;
     let mut order = Order::new();
     for &task in activation {

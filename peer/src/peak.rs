@@ -1,4 +1,4 @@
-//! Needs, and the peak of an activation order.
+//! Needs, and the peak of an activation order with the task that sets it.
 
 use crate::plan::Plan;
 use crate::record::{index, Record};
@@ -17,9 +17,12 @@ pub fn needs(records: &[Record]) -> [u32; Plan::TASKS] {
 }
 
 /// The peak: the most that is held while the tasks run one at a time in an
-/// activation order in which each stands before its parent.
-pub(crate) fn peak(records: &[Record], needs: &[u32], activation: &[u16]) -> u32 {
-    let mut peak = 0;
+/// activation order in which each stands before its parent. With it comes the
+/// task that sets it: the one that runs then, the earliest in the order where
+/// several are equal.
+pub(crate) fn peak(records: &[Record], needs: &[u32], activation: &[u16]) -> (u32, u16) {
+    // Task 0 stands for none.
+    let (mut peak, mut peak_task) = (0, 0);
     // Outs of finished tasks whose parent has not run.
     let mut held = 0;
     for &task in activation {
@@ -27,8 +30,11 @@ pub(crate) fn peak(records: &[Record], needs: &[u32], activation: &[u16]) -> u32
         let (work, out) = (u32::from(record.work), u32::from(record.out));
         let need = needs[index(task)];
         held -= need - work - out;
-        peak = peak.max(held + need);
+        // The first sets a peak of 0, too; an equal later one sets none.
+        if peak_task == 0 || held + need > peak {
+            (peak, peak_task) = (held + need, task);
+        }
         held += out;
     }
-    peak
+    (peak, peak_task)
 }

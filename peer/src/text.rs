@@ -6,7 +6,7 @@ use std::io::{self, Write};
 
 /// The line of an accepted BEGIN, asked of the plan right after it.
 pub fn begin(to: &mut impl Write, plan: &Plan, answer: &Answer, starts: &[u16]) -> io::Result<()> {
-    write!(to, "begin peak={}", answer.peak)?;
+    write!(to, "begin peak={} by={}", answer.peak, answer.peak_task)?;
     standing(to, plan, &starts[..answer.starts])
 }
 

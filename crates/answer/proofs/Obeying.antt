@@ -15,10 +15,10 @@ use Rattle.answer.specs.ValidPlan.{Judged, Obeyed}
 
 -- the answer of a refusal, and of a command that starts nothing
 abbrev pub refused : ℕ → Answer
-refused k = record { number = k; used = 0; starts = 0; peak = 0; offers = 0 }
+refused k = record { number = k; used = 0; starts = 0; peak = 0; by = 0; offers = 0 }
 
 abbrev pub accepted : ℕ → Answer
-accepted used = record { number = 0; used = used; starts = 0; peak = 0; offers = 0 }
+accepted used = record { number = 0; used = used; starts = 0; peak = 0; by = 0; offers = 0 }
 
 -- a refusal leaves the plan and the start list
 pub refuses :

@@ -42,7 +42,13 @@ planOf w = meaning (contents w)
 
 abbrev pub answerOf : Answer → rules.Answer
 answerOf a =
-    record { number = a .number; used = a .used; starts = a .starts; peak = a .peak; offers = a .offers }
+    record {
+      number = a .number;
+      used = a .used;
+      starts = a .starts;
+      peak = record { trays = a .peak; task = a .by };
+      offers = a .offers;
+    }
 
 -- an answer, with the plan and the start list afterwards
 abbrev pub answeredOf : Answer → Contents → List ℕ → rules.Answered

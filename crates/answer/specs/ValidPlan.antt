@@ -39,7 +39,7 @@ pub record Responded (w : List ℕ) (d : rules.Decoded) (list : List ℕ) (a : A
 
 -- any command, asked in bytes: all that its caller receives
 pub record Commanded (w : List ℕ) (asking : answers.Asking) (a : Answer) (w′ list′ : List ℕ) : Type 0 where
-  -- the number, bytes used, starts, peak, offers, the plan and the whole start list are those of the rules
+  -- the number, bytes used, starts, the peak with its task, offers, the plan and the whole start list are those of the rules
   pub same : answeredOf a (contents w′) list′ ≡ answers.command (planOf w) asking
   -- commands led to the plan that is left
   pub valid : ValidPlan w′

@@ -2,39 +2,43 @@
 ghost use mathlib.Core.Path.{_≡_};
 
 // "An accepted command answers number 0, the bytes used and how many steps it starts. The peak is
-// answered by BEGIN only, offers by DONE only; elsewhere both are 0."
+// answered by BEGIN only, offers by DONE only; elsewhere both are 0." "The peak shall always come with
+// its step": `by` is the task that sets it, and 0 where no peak is answered.
 #[repr(C)]
 pub struct Answer {
     pub number: u8,
     pub used: usize,
     pub starts: usize,
     pub peak: u64,
+    pub by: u16,
     pub offers: usize,
 }
 
 impl Answer {
     // "A refusal answers its number, with bytes used, starts and every other count 0"
     pub fn refused(number: u8) -> Self
-        ensures { λ r. ⌜ r ≡ record { number = number; used = 0; starts = 0; peak = 0; offers = 0 } ⌝ }
+        ensures { λ r. ⌜ r ≡ record { number = number; used = 0; starts = 0; peak = 0; by = 0; offers = 0 } ⌝ }
     {
         Answer {
             number,
             used: 0,
             starts: 0,
             peak: 0,
+            by: 0,
             offers: 0,
         }
     }
 
     // A command that starts nothing.
     pub fn plain(used: usize) -> Self
-        ensures { λ r. ⌜ r ≡ record { number = 0; used = used; starts = 0; peak = 0; offers = 0 } ⌝ }
+        ensures { λ r. ⌜ r ≡ record { number = 0; used = used; starts = 0; peak = 0; by = 0; offers = 0 } ⌝ }
     {
         Answer {
             number: 0,
             used,
             starts: 0,
             peak: 0,
+            by: 0,
             offers: 0,
         }
     }

@@ -1,6 +1,6 @@
 -- BEGIN in code: what the survey answers is the ground of the rules, and what it leaves is what preparing the day asks.
 use mathlib.Core.Path.{_≡_, sym, ap, ap₂, subst, _∙_}
-use mathlib.Core.Bool.{Bool, true, false, _&&_, _||_}
+use mathlib.Core.Bool.{Bool, true, false, cond, _&&_, _||_}
 use mathlib.Core.Logic.{⊎-elim}
 use mathlib.Core.List.{List}
 use Prim.Native.Nat.{ℕ, _≤_, _<_}
@@ -9,10 +9,9 @@ use lib.Dec.{eqb, leb}
 use lib.ListN.{length, take}
 use lib.Seq.{getD-take}
 use borrow.Author.Tests.{eq-eqb, le-leb, lt-leb}
-use Rattle.rules.specs.Sums.{only}
 use Rattle.rules.specs.Lists.{at, every, distinct}
 use Rattle.rules.specs.Limits.{leastStarts}
-use Rattle.rules.specs.Peak.{roots, ordered, peak}
+use Rattle.rules.specs.Peak.{roots, ordered, peak, Peaked, peaked, noPeak}
 use Rattle.rules.specs.Phase
 use Rattle.rules.specs.State.{State}
 use Rattle.rules.specs.Command.{begin}
@@ -29,7 +28,7 @@ use Rattle.words.specs.Contents.{Contents}
 use Rattle.words.proofs.Contents.{Lengths}
 use Rattle.store.specs.Rows.{activationOf, executionOf}
 use Rattle.store.specs.Cached.{Placed}
-use Rattle.survey.specs.Survey.{Ordered, orderGround, groundOf, peakOf}
+use Rattle.survey.specs.Survey.{Ordered, orderGround, groundOf, peakedOf}
 use Rattle.survey.proofs.Grounds as surveying
 use Rattle.answer.specs.Meaning.{meaning}
 use Rattle.answer.specs.Sound.{Unused, Noted, Sound}
@@ -136,14 +135,14 @@ module _ (c : Contents) (sound : Sound c) (long : Lengths c) where
         ap₂ (λ (f : ℕ → ℕ) (l : List ℕ). orderGround (c .size) f l) (parents-meant c sound) order-is
 
     peak-is :
-        grounds.peakOf (meaning c)
-        ≡ peak (c .size) (at (c .parents)) (at (c .chilled .works)) (at (c .chilled .outs)) (activationOf c)
-    unfolding grounds.peakOf
+        grounds.peakedOf (meaning c)
+        ≡ peaked (c .size) (at (c .parents)) (at (c .chilled .works)) (at (c .chilled .outs)) (activationOf c)
+    unfolding grounds.peakedOf
     peak-is =
         λ z.
-        peak (c .size) (parents-meant c sound z) (works-meant c sound z) (outs-meant c sound z) (order-is z)
+        peaked (c .size) (parents-meant c sound z) (works-meant c sound z) (outs-meant c sound z) (order-is z)
 
-    module _ {number high : ℕ} (is-number : number ≡ groundOf c) (is-high : high ≡ peakOf c) where
+    module _ {number : ℕ} {high : Peaked} (is-number : number ≡ groundOf c) (is-high : high ≡ peakedOf c) where
       -- 7 or 8
       pub surveyed-refused : (number ≡ 0 → ⊥) → grounds.ground (meaning c) begin ≡ number
       surveyed-refused some = own ∙ begin-refused (meaning c) number (ground-is ∙ sym is-number) some
@@ -153,32 +152,36 @@ module _ (c : Contents) (sound : Sound c) (long : Lengths c) where
         pub no-order-ground : orderGround (c .size) (at (meaning c .parents)) (meaning c .activation) ≡ 0
         no-order-ground = ground-is ∙ sym is-number ∙ fine
 
-        -- the peak
-        pub high-is : high ≡ grounds.peakOf (meaning c)
+        -- the peak with its task
+        pub high-is : high ≡ grounds.peakedOf (meaning c)
         high-is =
             is-high
             ∙ ap
             (λ (b : Bool).
-            only b (peak (c .size) (at (c .parents)) (at (c .chilled .works)) (at (c .chilled .outs)) (activationOf c)))
+            cond b (peaked (c .size) (at (c .parents)) (at (c .chilled .works)) (at (c .chilled .outs)) (activationOf c)) noPeak)
             (eq-eqb (groundOf c) 0 (sym is-number ∙ fine))
             ∙ sym peak-is
+
+        trays-are : high .trays ≡ grounds.peakOf (meaning c)
+        unfolding grounds.peakOf grounds.peakedOf peaked
+        trays-are = ap (λ (p : Peaked). p .trays) high-is
 
         weighed : grounds.ground (meaning c) begin ≡ grounds.demand (leb (grounds.peakOf (meaning c)) (c .chilled .bound)) 9 0
         weighed = own ∙ begin-weighed (meaning c) no-order-ground
 
         -- 9
-        pub too-high : c .chilled .bound < high → grounds.ground (meaning c) begin ≡ 9
+        pub too-high : c .chilled .bound < high .trays → grounds.ground (meaning c) begin ≡ 9
         too-high h =
             weighed
             ∙ ap (λ (b : Bool). grounds.demand b 9 0)
-            (lt-leb (grounds.peakOf (meaning c)) (c .chilled .bound) (let e = high-is in omega arith))
+            (lt-leb (grounds.peakOf (meaning c)) (c .chilled .bound) (let e = trays-are in omega arith))
 
         -- none
-        pub low-enough : high ≤ c .chilled .bound → grounds.ground (meaning c) begin ≡ 0
+        pub low-enough : high .trays ≤ c .chilled .bound → grounds.ground (meaning c) begin ≡ 0
         low-enough h =
             weighed
             ∙ ap (λ (b : Bool). grounds.demand b 9 0)
-            (le-leb (grounds.peakOf (meaning c)) (c .chilled .bound) (let e = high-is in omega arith))
+            (le-leb (grounds.peakOf (meaning c)) (c .chilled .bound) (let e = trays-are in omega arith))
 
 -- the plan that BEGIN goes on with: c as it was found, and d completed
 module _ (c : Contents) {d : Contents} (sound : Sound d) (long : Lengths d) (reached : Reachable (meaning d))
@@ -263,7 +266,7 @@ module _ (c : Contents) {d : Contents} (sound : Sound d) (long : Lengths d) (rea
                     };
                 valid =
                     surveying.no-ground (d .size) (at (d .parents)) (at (d .ranks)) (activationOf d) (surveyed .parented)
-                    (surveyed .ranked) fine-then;
+                    (surveyed .ranked) fine-then .1;
                 placed = is-placed;
                 rest = sound .rest (let e = waits in omega arith);
               };
@@ -274,8 +277,8 @@ module _ (c : Contents) {d : Contents} (sound : Sound d) (long : Lengths d) (rea
   -- all that the caller of BEGIN receives
   module _ {c′ : Contents} {list list′ : List ℕ} {count : ℕ} (b : Begun d c′ list list′ count) where
     pub begin-answers :
-        {high : ℕ}
-        → high ≡ grounds.peakOf (meaning c)
+        {high : Peaked}
+        → high ≡ grounds.peakedOf (meaning c)
         → (used : ℕ)
         → record {
           answer = record { number = 0; used = used; starts = count; peak = high; offers = 0 };
@@ -286,7 +289,7 @@ module _ (c : Contents) {d : Contents} (sound : Sound d) (long : Lengths d) (rea
     unfolding obey completed withOrders
     begin-answers {high} high-is used =
         same whole b used high 0
-        ∙ ap₂ (λ (t : State) (v : ℕ). accept (proceed t Phase.running (fresh (t .size)) v 0) used list) means high-is
+        ∙ ap₂ (λ (t : State) (v : Peaked). accept (proceed t Phase.running (fresh (t .size)) v 0) used list) means high-is
 
     pub begin-sound : Sound c′
     begin-sound = sound-then whole b

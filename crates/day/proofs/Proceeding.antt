@@ -7,6 +7,7 @@ use native.Mathlib.Omega.{arith}
 use lib.ListN.{length, take}
 use Rattle.rules.specs.Lists.{at}
 use Rattle.rules.specs.Need.{need}
+use Rattle.rules.specs.Peak.{Peaked}
 use Rattle.rules.specs.Phase
 use Rattle.rules.specs.State.{needs}
 use Rattle.rules.specs.Booking.{Books, activate, starts, start, free}
@@ -78,7 +79,7 @@ module _ {c : Contents} (whole : Whole c) {k : Books} {c′ : Contents} {list li
   abbrev then : Contents
   then = withHead 0 Phase.running (p .after)
 
-  state-is : (peak offers : ℕ) → meaning then ≡ proceed (meaning c) Phase.running k peak offers .state
+  state-is : (peak : Peaked) (offers : ℕ) → meaning then ≡ proceed (meaning c) Phase.running k peak offers .state
   unfolding proceed withBooks withHead storeWithHead
   state-is peak offers =
       let t = kept-tasks in
@@ -103,8 +104,8 @@ module _ {c : Contents} (whole : Whole c) {k : Books} {c′ : Contents} {list li
 
   -- all that the caller receives
   pub same :
-      (used peak offers : ℕ)
-      → answeredOf (record { number = 0; used = used; starts = count; peak = peak; offers = offers }) c′ list′
+      (used : ℕ) (peak : Peaked) (offers : ℕ)
+      → answeredOf (record { number = 0; used = used; starts = count; peak = peak .trays; by = peak .task; offers = offers }) c′ list′
       ≡ rules.accept (proceed (meaning c) Phase.running k peak offers) used list
   unfolding rules.accept proceed
   same used peak offers =

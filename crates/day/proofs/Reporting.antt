@@ -10,6 +10,7 @@ use borrow.Author.Tests.{eqb-true, eq-eqb, ne-eqb}
 use Rattle.rules.specs.Sums.{Task}
 use Rattle.rules.specs.Lists.{at}
 use Rattle.rules.specs.Limits.{leastStarts}
+use Rattle.rules.specs.Peak.{noPeak}
 use Rattle.rules.specs.Phase
 use Rattle.rules.specs.Standing.{running, finished}
 use Rattle.rules.specs.Command.{done}
@@ -156,17 +157,17 @@ module _ (c : Contents) (j : ℕ) (reached : Reachable (meaning c)) (sound : Sou
     report-same :
         (used : ℕ)
         → accept (obey (meaning c) (done j)) used list
-        ≡ accept (proceed (meaning c) Phase.running (books (e .left)) 0 offers) used list
+        ≡ accept (proceed (meaning c) Phase.running (books (e .left)) noPeak offers) used list
     unfolding obey
     report-same used =
-        λ z. accept (proceed (meaning c) (phase-is z) (sym ended-is z) 0 (sym offers-are z)) used list
+        λ z. accept (proceed (meaning c) (phase-is z) (sym ended-is z) noPeak (sym offers-are z)) used list
 
     pub report-answers :
         (used : ℕ)
         → record {
-          answer = record { number = 0; used = used; starts = count; peak = 0; offers = offers };
+          answer = record { number = 0; used = used; starts = count; peak = noPeak; offers = offers };
           state = meaning c′;
           list = list′;
         }
         ≡ accept (obey (meaning c) (done j)) used list
-    report-answers used = same whole (e .proceeded) used 0 offers ∙ sym (report-same used)
+    report-answers used = same whole (e .proceeded) used noPeak offers ∙ sym (report-same used)

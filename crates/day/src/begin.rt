@@ -67,6 +67,7 @@ pub fn begin(plan: &mut [u32; Plan::WORDS], used: usize, starts: &mut [u16]) -> 
         used,
         starts: started,
         peak: surveyed.peak,
+        by: surveyed.by,
         offers: 0,
     }
 }

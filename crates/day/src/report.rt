@@ -82,6 +82,7 @@ pub fn report(plan: &mut [u32; Plan::WORDS], task: u16, used: usize, starts: &mu
         used,
         starts: counted.starts,
         peak: 0,
+        by: 0,
         offers: counted.offers,
     }
 }

@@ -18,6 +18,7 @@ use Rattle.rules.specs.Write.{Wrote, write}
 use Rattle.rules.specs.Restored.{WriteHolds}
 use Rattle.rules.specs.Find.{findOrder}
 use Rattle.rules.specs.FoundOrder.{FindHolds}
+use Rattle.rules.specs.PeakTask.{PeakHolds}
 use Rattle.rules.specs.Reachable.{Reachable}
 use Rattle.rules.specs.Day as days
 use Rattle.rules.specs.Obey.{completed}
@@ -25,6 +26,7 @@ use Rattle.rules.specs.Theorem.{DayHolds, OrdersHold, SamePlan}
 use Rattle.rules.proofs.Reasons.{every-reason-holds}
 use Rattle.rules.proofs.Written.{every-write-holds}
 use Rattle.rules.proofs.Find.{every-find-holds}
+use Rattle.rules.proofs.PeakTask.{every-peak-holds}
 use Rattle.rules.proofs.Theorem.{after-append, theorem}
 use Rattle.answer.specs.Meaning.{planOf}
 use Rattle.answer.specs.ValidPlan.{ValidPlan, NewPlan}
@@ -194,6 +196,13 @@ module _ {w : List ℕ} (new : NewPlan w) (earlier : List Call) (opening : Call)
         questions = answers-hold (leftBy w (earlier ++ opening ∷ later)) (history (opening ∷ later)) day;
       }
 
+  -- the peak that one of the calls tells
+  peak-of : PeakHolds (planOf (leftBy w earlier)) (opening .asking) (received opening)
+  unfolding Calls
+  peak-of =
+      subst (λ (a : rules.Answered). PeakHolds (planOf (leftBy w earlier)) (opening .asking) a) (sym (parts .1 .0 .same))
+      (every-peak-holds .begins (planOf (leftBy w earlier)) (left-valid earlier w (parts .0) (new-valid new) .reached) (opening .asking))
+
   -- a plan that one of the calls opens
   plan-of :
       (n p m used : ℕ)
@@ -257,6 +266,8 @@ every-call-holds w new calls e =
       begins =
           λ q list fits granted.
           order-begins (leftBy w calls) list (q .found list) (finding-holds (leftBy w calls) reached q list fits) granted;
+      peaks =
+          λ earlier call later split. peak-of new earlier call later (subst (λ (l : List Call). Calls w l) split e);
       plans =
           λ earlier opening later n p m used split granted bytes next.
           subst (λ (l : List Call). OpenedWith n p m (planOf (leftBy w l))) (sym split)

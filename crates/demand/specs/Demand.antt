@@ -20,6 +20,7 @@ use Rattle.rules.specs.Write.{write}
 use Rattle.rules.specs.Restored.{WriteHolds}
 use Rattle.rules.specs.Find.{findOrder}
 use Rattle.rules.specs.FoundOrder.{SameTasks, BeginsUnlessNoneFits, FindHolds}
+use Rattle.rules.specs.PeakTask.{PeakHolds}
 use Rattle.rules.specs.Day.{Event, ends, isFetched, after, answers}
 use Rattle.rules.specs.Obey.{withOrders, completed}
 use Rattle.rules.specs.Theorem.{DayHolds, OrdersHold, SamePlan, runs, usedBy}
@@ -33,6 +34,7 @@ use Rattle.demand.specs.Calls.{
   Entries,
   Answers,
   leftBy,
+  received,
   asked,
   allReceived,
   accepted,
@@ -149,6 +151,11 @@ pub record CallsHold (w : List ℕ) (calls : List Call) : Type 0 where
       → CallContract w′ opening
       → Asks rules.begin opening
       → BeginsUnlessNoneFits (planOf w′) (opening .answer .number)
+  -- a call that opens a day tells the peak of the activation order that it found, with its task, and no other call tells one
+  pub peaks :
+      (earlier : List Call) (call : Call) (later : List Call)
+      → calls ≡ earlier ++ call ∷ later
+      → PeakHolds (planOf (leftBy w earlier)) (call .asking) (received call)
   -- a call that opens a plan: as long as no next plan is opened, n, p and M are those that its bytes gave
   pub plans :
       (earlier : List Call) (opening : Call) (later : List Call) (n p m used : ℕ)

@@ -1,13 +1,13 @@
 -- The checks of the desk in their order, and what a survey of the room's plan tells of the desk.
-use mathlib.Core.Path.{_≡_, refl, sym, ap, _∙_, subst}
-use mathlib.Core.Bool.{Bool, true, false, cond, _&&_, and-false}
+use mathlib.Core.Path.{_≡_, sym, ap, _∙_, subst}
+use mathlib.Core.Bool.{true, false, cond, _&&_, and-false}
 use mathlib.Core.List.{List}
 use Prim.Native.Nat.{ℕ, _+_}
 use native.Mathlib.Omega.{arith}
 use lib.Dec.{eqb, leb}
 use lib.ListN.{length, take, set}
 use borrow.Author.Tests.{leb-true, eq-eqb, ne-eqb}
-use Rattle.rules.specs.Sums.{only, everyTo}
+use Rattle.rules.specs.Sums.{everyTo}
 use Rattle.rules.specs.Lists.{at, every, distinct}
 use Rattle.rules.specs.Limits.{maxTasks}
 use Rattle.rules.specs.Peak
@@ -19,7 +19,7 @@ use Rattle.words.specs.Layout.{words, headBase}
 use Rattle.words.specs.Contents.{Contents, contents, withHead, storeWithHead}
 use Rattle.words.proofs.Contents.{wrote-head}
 use Rattle.survey.specs.Survey as survey
-use Rattle.survey.specs.Survey.{RankedIn, orderGround, groundOf, peakOf}
+use Rattle.survey.specs.Survey.{RankedIn, orderGround, groundOf, peakedOf}
 use Rattle.desk.specs.Columns.{ofTask}
 use Rattle.desk.specs.Room.{RowsWritten, MayWriteOrder, Ranked, OrderWritten}
 
@@ -30,43 +30,39 @@ pub record InLimits (n : ℕ) (par : ℕ → ℕ) (order : List ℕ) : Type 0 wh
   pub parents : everyTo (λ i. leb (par i) n) n ≡ true
   pub inside : every (λ i. within i n) order ≡ true
 
--- nothing where the test fails
-only-cond : (t : Bool) (x : ℕ) → cond t x 0 ≡ only t x
-only-cond true x = refl
-only-cond false x = refl
-
 module _ (n : ℕ) (par work out : ℕ → ℕ) (order : List ℕ) where
-  abbrev pub Answered : ℕ → ℕ → Type 0
+  abbrev pub Answered : ℕ → Peak.Peaked → Type 0
   Answered number peak = deskAnswer n par work out order ≡ record { number = number; peak = peak }
 
   -- 4: each of the four tests that fails
-  pub unequal : (length order ≡ n → ⊥) → Answered 4 0
+  pub unequal : (length order ≡ n → ⊥) → Answered 4 Peak.noPeak
   unfolding deskAnswer deskGround
   unequal other = rw (ne-eqb (length order) n other)
 
-  pub outside : within n maxTasks ≡ false → Answered 4 0
+  pub outside : within n maxTasks ≡ false → Answered 4 Peak.noPeak
   unfolding deskAnswer deskGround
   outside e = rw (e, and-false (eqb (length order) n))
 
-  pub strayed : everyTo (λ i. leb (par i) n) n ≡ false → Answered 4 0
+  pub strayed : everyTo (λ i. leb (par i) n) n ≡ false → Answered 4 Peak.noPeak
   unfolding deskAnswer deskGround
   strayed e = rw (e, and-false (eqb (length order) n && within n maxTasks))
 
-  pub unlisted : every (λ i. within i n) order ≡ false → Answered 4 0
+  pub unlisted : every (λ i. within i n) order ≡ false → Answered 4 Peak.noPeak
   unfolding deskAnswer deskGround
   unlisted e =
       rw (e, and-false (eqb (length order) n && within n maxTasks && everyTo (λ i. leb (par i) n) n))
 
   module _ (limits : InLimits n par order) where
     -- 5
-    pub twice : distinct order ≡ false → Answered 5 0
+    pub twice : distinct order ≡ false → Answered 5 Peak.noPeak
     unfolding deskAnswer deskGround
     twice e = rw (eq-eqb (length order) n (limits .whole), limits .sized, limits .parents, limits .inside, e)
 
     -- 7, 8, or none: as at BEGIN
     surveyed :
         distinct order ≡ true
-        → Answered (orderGround n par order) (only (eqb (orderGround n par order) 0) (Peak.peak n par work out order))
+        → Answered (orderGround n par order)
+        (cond (eqb (orderGround n par order) 0) (Peak.peaked n par work out order) Peak.noPeak)
     unfolding deskAnswer deskGround orderGround
     surveyed e =
         rw (
@@ -75,7 +71,6 @@ module _ (n : ℕ) (par work out : ℕ → ℕ) (order : List ℕ) where
           limits .parents,
           limits .inside,
           e,
-          only-cond (eqb (orderGround n par order) 0) (Peak.peak n par work out order),
         )
 
 -- the plan in the room: n tasks and their order, in which none stands twice
@@ -115,7 +110,11 @@ module _ (n : ℕ) (par work out : ℕ → ℕ) (order : List ℕ) (c : Contents
       })
 
   -- and what a survey answers is what the desk is answered
-  pub told : (number peak : ℕ) → number ≡ groundOf c → peak ≡ peakOf c → Answered n par work out order number peak
+  pub told :
+      (number : ℕ) (peak : Peak.Peaked)
+      → number ≡ groundOf c
+      → peak ≡ peakedOf c
+      → Answered n par work out order number peak
   told number peak e f =
       surveyed n par work out order (filled .limits) (filled .once)
       ∙ sym

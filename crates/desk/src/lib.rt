@@ -1,5 +1,6 @@
-// The planners' desk: the peak of the caller's own records, which are only read. The records are
-// copied once into flat columns, and these into the rows of a plan, which is surveyed as at BEGIN.
+// The planners' desk: the peak of the caller's own records, with the task that sets it. The records
+// are only read: they are copied once into flat columns, and these into the rows of a plan, which is
+// surveyed as at BEGIN.
 mod room;
 
 use cells::set_cell;
@@ -13,7 +14,7 @@ ghost use lib.ListN.{replicate};
 ghost use Rattle.rules.specs.Limits.{maxTasks};
 ghost use Rattle.rules.specs.Desk.{deskAnswer, desk};
 ghost use Rattle.words.specs.Layout.{words};
-ghost use Rattle.desk.specs.Records.{stepRecords};
+ghost use Rattle.desk.specs.Records.{stepRecords, answerOf};
 ghost use Rattle.desk.specs.Columns.{ofTask};
 
 // "A record is parent, work and out": one task (step).
@@ -24,11 +25,13 @@ pub struct TaskRecord {
     pub out: u16,
 }
 
-// What the desk is answered: the number of a ground, or 0, and the peak, which is 0 on a refusal.
+// What the desk is answered: the number of a ground, or 0, the peak, and `by`, the task that sets it.
+// Both are 0 on a refusal.
 #[repr(C)]
 pub struct DeskAnswer {
     pub number: u8,
     pub peak: u64,
+    pub by: u16,
 }
 
 // The entries of a column: one for each task, and entry 0 for nobody.
@@ -43,9 +46,13 @@ fn copied(n: usize) -> usize
 
 // A refusal: the number of its ground.
 fn refused(number: u8) -> DeskAnswer
-    ensures { λ r. ⌜ r ≡ record { number = number; peak = 0 } ⌝ }
+    ensures { λ r. ⌜ r ≡ record { number = number; peak = 0; by = 0 } ⌝ }
 {
-    DeskAnswer { number, peak: 0 }
+    DeskAnswer {
+        number,
+        peak: 0,
+        by: 0,
+    }
 }
 
 // What the desk is answered for n tasks in flat columns, which are written into an empty room.
@@ -59,7 +66,7 @@ fn answer<'a>(
 ) -> DeskAnswer
     requires { ⌜ now room ≡ replicate words 0 ⌝ }
     ensures { λ r. ⌜ deskAnswer n (ofTask n (now (parents .entry))) (ofTask n (now (works .entry))) (ofTask n (now (outs .entry)))
-        (now (activation .entry)) ≡ record { number = r .number; peak = r .peak } ⌝ }
+        (now (activation .entry)) ≡ answerOf r ⌝ }
 {
     if activation.len() != n {
         return refused(4);
@@ -82,6 +89,7 @@ fn answer<'a>(
     DeskAnswer {
         number: surveyed.number,
         peak: surveyed.peak,
+        by: surveyed.by,
     }
 }
 
@@ -102,7 +110,7 @@ fn assess(
     room: &mut [u32; Plan::WORDS],
 ) -> DeskAnswer
     ensures { λ r. ⌜ (deskAnswer n (ofTask n parents) (ofTask n works) (ofTask n outs) (now (activation .entry))
-        ≡ record { number = r .number; peak = r .peak }) × (now (room .exit) ≡ replicate words 0) ⌝ }
+        ≡ answerOf r) × (now (room .exit) ≡ replicate words 0) ⌝ }
 {
     empty(room);
     let answered = answer(n, &parents, &works, &outs, activation, room);
@@ -121,7 +129,7 @@ pub extern "C" fn cephlouk_desk_peak(
     room: &mut [u32; Plan::WORDS],
 ) -> DeskAnswer
     ensures { λ r. ⌜ (desk (stepRecords (now (records .entry))) (now (activation .entry))
-        ≡ record { number = r .number; peak = r .peak }) × (now (room .exit) ≡ replicate words 0) ⌝ }
+        ≡ answerOf r) × (now (room .exit) ≡ replicate words 0) ⌝ }
 {
     let mut parents = [0u16; ENTRIES];
     let mut works = [0u16; ENTRIES];

@@ -9,21 +9,25 @@ ghost use Rattle.lines.specs.Line.{Line};
 // No line has more bytes.
 pub const LONGEST_LINE: usize = 512;
 
-// The line of an accepted BEGIN. The tasks started are the first `count` of the list, all of it
-// where the count is larger.
+// The line of an accepted BEGIN: the peak, the task that sets it, and the figures. The tasks started
+// are the first `count` of the list, all of it where the count is larger.
 pub fn begin_line(
     buffer: &mut [u8],
     peak: u64,
+    by: u16,
     booked: u32,
     used: u32,
     full: u32,
     starts: &[u16],
     count: usize,
 ) -> usize
-    ensures { λ r. ⌜ Line (beginLine peak booked used full (take count (now (starts .entry)))) count (now (buffer .entry)) (now (buffer .exit)) r ⌝ }
+    ensures { λ r. ⌜ Line (beginLine (record { trays = peak; task = by }) booked used full (take count (now (starts .entry))))
+        count (now (buffer .entry)) (now (buffer .exit)) r ⌝ }
 {
     let next = put::text(buffer, 0, b"begin peak=");
     let next = put::decimal(buffer, next, peak);
+    let next = put::text(buffer, next, b" by=");
+    let next = put::decimal(buffer, next, by as u64);
     tail::figures(buffer, next, booked, used, full, starts, count)
 }
 

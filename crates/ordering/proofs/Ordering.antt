@@ -153,13 +153,13 @@ module _ {counted base k task : ℕ} {w : List ℕ} (o : OrderAt counted base k 
   pub append-refused :
       {a : Answer} {used : ℕ}
       → (ground ≡ 0 → ⊥)
-      → a ≡ record { number = ground; used = 0; starts = 0; peak = 0; offers = 0 }
+      → a ≡ record { number = ground; used = 0; starts = 0; peak = 0; by = 0; offers = 0 }
       → Appended counted base k task used w a w
   append-refused d e =
       record {
         refused =
             λ _.
-            (e ∙ ap (λ (g : ℕ). record { number = g; used = 0; starts = 0; peak = 0; offers = 0 }) is-ground, refl);
+            (e ∙ ap (λ (g : ℕ). record { number = g; used = 0; starts = 0; peak = 0; by = 0; offers = 0 }) is-ground, refl);
         accepted = λ z. absurd (d (is-ground ∙ z));
       }
 
@@ -175,7 +175,7 @@ module _ {counted base k task : ℕ} {w : List ℕ} (o : OrderAt counted base k 
       {a : Answer} {used : ℕ} {w′ : List ℕ}
       → ground ≡ 0
       → w′ ≡ appendedTo counted base k w task
-      → a ≡ record { number = 0; used = used; starts = 0; peak = 0; offers = 0 }
+      → a ≡ record { number = 0; used = used; starts = 0; peak = 0; by = 0; offers = 0 }
       → Appended counted base k task used w a w′
   append-accepted z wrote e = record { refused = λ d. absurd (d (sym is-ground ∙ z)); accepted = λ _. (e, wrote) }
 

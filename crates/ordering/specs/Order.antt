@@ -60,9 +60,9 @@ appendedTo counted base k w task =
 pub record Appended (counted base k task used : ℕ) (w : List ℕ) (a : Answer) (w′ : List ℕ) : Type 0 where
   pub refused :
       (groundAt counted base w task ≡ 0 → ⊥)
-      → (a ≡ record { number = groundAt counted base w task; used = 0; starts = 0; peak = 0; offers = 0 })
+      → (a ≡ record { number = groundAt counted base w task; used = 0; starts = 0; peak = 0; by = 0; offers = 0 })
       × (w′ ≡ w)
   pub accepted :
       groundAt counted base w task ≡ 0
-      → (a ≡ record { number = 0; used = used; starts = 0; peak = 0; offers = 0 })
+      → (a ≡ record { number = 0; used = used; starts = 0; peak = 0; by = 0; offers = 0 })
       × (w′ ≡ appendedTo counted base k w task)

@@ -19,7 +19,15 @@ use Rattle.printing.specs.declared.Turned.{Turned}
 
 -- the answer that the turn was given
 abbrev pub given : answers.Answer → Answer
-given a = record { number = a .number; used = a .used; starts = a .starts; peak = a .peak; offers = a .offers }
+given a =
+    record {
+      number = a .number;
+      used = a .used;
+      starts = a .starts;
+      peak = a .peak .trays;
+      by = a .peak .task;
+      offers = a .offers;
+    }
 
 module _ (w : List ℕ) (asking : answers.Asking) (offset : ℕ) (isLast : Bool) {buffer : List ℕ} {r : Turned} {w′ list buffer′ : List ℕ}
     (taken : Taken w (rules.turn (planOf w) asking offset isLast) buffer r w′ list buffer′)

@@ -48,6 +48,7 @@ pub(crate) fn accepted_line(
             Command::Begin => begin_line(
                 buffer,
                 answer.peak,
+                answer.by,
                 booked(plan),
                 in_use(plan),
                 fullness(plan),

@@ -6,6 +6,7 @@ use native.Mathlib.Omega.{arith}
 use lib.ListN.{length, drop, length-append, length-drop}
 use lib.Seq.{drop-append-seam}
 use Rattle.rules.specs.Lists.{at}
+use Rattle.rules.specs.Peak.{Peaked}
 use Rattle.rules.specs.State.{State}
 use Rattle.rules.specs.Command.{Command, plan, task, activation, execution, begin, done, fetch}
 use Rattle.rules.specs.Booking.{Books, free}
@@ -19,7 +20,7 @@ use Rattle.rules.proofs.Steps.{Refused, Obeyed, Step, is-refused, is-ob
 
 -- no more tasks start than there are processors
 proceed-few :
-    (s : State) (phase : ℕ) (k : Books) (peak offers : ℕ)
+    (s : State) (phase : ℕ) (k : Books) (peak : Peaked) (offers : ℕ)
     → Formed s
     → length (proceed s phase k peak offers .started) ≤ s .processors
 unfolding proceed begun free

@@ -1,10 +1,10 @@
 -- Opens the rules for computing: whoever unfolds `computing` may evaluate a command, a day or the printer.
 use mathlib.Core.List.{flatMap}
 use Rattle.rules.specs.Sums.{sumTo, everyTo, countTo, lowestTo}
-use Rattle.rules.specs.Lists.{mem, first, largest}
+use Rattle.rules.specs.Lists.{mem, first, place, largest}
 use Rattle.rules.specs.Need.{children, need, resident, inProcess, trolley}
 use Rattle.rules.specs.Need
-use Rattle.rules.specs.Peak.{sums, peak, roots, root, ordered}
+use Rattle.rules.specs.Peak.{sums, peak, peakTask, peaked, roots, root, ordered}
 use Rattle.rules.specs.Standing.{count}
 use Rattle.rules.specs.Command.{
   forms,
@@ -23,7 +23,7 @@ use Rattle.rules.specs.Command.{
   decode,
 }
 use Rattle.rules.specs.Phase
-use Rattle.rules.specs.Grounds.{inTurn, inLimits, peakOf, ownGround, ground}
+use Rattle.rules.specs.Grounds.{inTurn, inLimits, peakOf, peakedOf, ownGround, ground}
 use Rattle.rules.specs.Booking.{
   chain,
   total,
@@ -100,6 +100,7 @@ unfolding
     lowestTo
     mem
     first
+    place
     largest
     children
     need
@@ -109,6 +110,8 @@ unfolding
     Need.inUse
     sums
     peak
+    peakTask
+    peaked
     roots
     root
     ordered
@@ -131,6 +134,7 @@ unfolding
     inTurn
     inLimits
     peakOf
+    peakedOf
     ownGround
     ground
     chain

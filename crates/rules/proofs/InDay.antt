@@ -10,7 +10,7 @@ use borrow.Author.Tests.{eqb-true, eq-eqb, ne-eqb, leb-true}
 use Rattle.rules.specs.Sums.{only, sumTo}
 use Rattle.rules.specs.Lists.{at}
 use Rattle.rules.specs.Need.{need}
-use Rattle.rules.specs.Peak.{roots, ordered}
+use Rattle.rules.specs.Peak.{Peaked, roots, ordered}
 use Rattle.rules.specs.Phase
 use Rattle.rules.specs.Standing.{waiting, running, finished, count}
 use Rattle.rules.specs.State.{Store, State, needsIn, needs}
@@ -217,7 +217,7 @@ books-planned s phase st b later p =
     }
 
 -- booking ahead and starting, from books in which what holds of the day is kept
-module _ (s : State) (p : Planned s) (k : Books) (peak offers : ℕ)
+module _ (s : State) (p : Planned s) (k : Books) (peak : Peaked) (offers : ℕ)
     (good : Good (s .size) (at (s .parents)) (rankIn (s .activation)) (needs s) (at (s .chilled .outs)) (s .chilled .bound) k)
     (few : count (s .size) (at (k .standings)) running ≤ s .processors) where
   proceeds :

@@ -6,6 +6,7 @@ use native.Mathlib.Omega.{arith}
 use borrow.Author.Tests.{lt-ltb, le-ltb}
 use lib.ListN.{length, take, getD, length-append}
 use Rattle.rules.specs.Limits.{maxProcessors}
+use Rattle.rules.specs.Peak.{Peaked}
 use Rattle.rules.specs.Text.{
   longestLine,
   ascii,
@@ -71,9 +72,20 @@ module _ (total used full count : ℕ) (list : List ℕ) (few : count ≤ maxPro
         listed-short count list wide,
       ))
 
-  pub beginLine-short : (peak : ℕ) → Wide 64 peak → length (beginLine peak total used full (take count list)) ≤ longestLine
+  pub beginLine-short :
+      (peak : Peaked)
+      → Wide 64 (peak .trays)
+      → Wide 16 (peak .task)
+      → length (beginLine peak total used full (take count list)) ≤ longestLine
   unfolding beginLine ascii
-  beginLine-short peak h = simp length-append (omega (arith, decimal-short 19 peak (omega arith), figures-short))
+  beginLine-short peak h h′ =
+      simp length-append
+      (omega (
+        arith,
+        decimal-short 19 (peak .trays) (omega arith),
+        decimal-short 4 (peak .task) (omega arith),
+        figures-short,
+      ))
 
   pub doneLine-short : (j offers : ℕ)
       → Wide 16 j

@@ -10,6 +10,7 @@ pub mod Tests
 pub mod Sums
 pub mod Counts
 pub mod Lowest
+pub mod Places
 pub mod Orders
 pub mod Turns
 pub mod Peaks
@@ -87,6 +88,8 @@ pub mod Taking
 pub mod Ascending
 pub mod FoundOrder
 pub mod Find
+-- the task that sets the peak
+pub mod PeakTask
 -- the day printer
 pub mod Lengths
 pub mod Parts

@@ -17,6 +17,7 @@ use Rattle.rules.specs.Theorem.{runs}
 use Rattle.rules.proofs.Tests.{same-or-not, or-right, or-none, eqb-above}
 use Rattle.rules.proofs.Sums.{Task, count-all}
 use Rattle.rules.proofs.Counts.{count-cong}
+use Rattle.rules.proofs.Places.{nowhere}
 use Rattle.rules.proofs.Orders.{mem-append, mem-here, mem-later, mem-none, every-snoc, distinct-snoc, task-within, length-counts}
 use Rattle.rules.proofs.Entries.{at-set, at-other}
 use Rattle.rules.proofs.Starts.{Startable}
@@ -64,11 +65,7 @@ pub snoc-where :
     → old ++ (new ∷ []) ≡ earlier ++ x ∷ later
     → Where old new earlier x
 snoc-where [] new [] x later e = last refl cc
-snoc-where [] new (y ∷ earlier) x later e = absurd (never earlier (cc))
-  where
-    never : (l : List Event) → [] ≡ l ++ x ∷ later → ⊥
-    never [] q = let z : _≡_ {A = ℕ} 0 1 = cc in omega arith
-    never (w ∷ l) q = let z : _≡_ {A = ℕ} 0 1 = cc in omega arith
+snoc-where [] new (y ∷ earlier) x later e = absurd (nowhere earlier x later cc)
 snoc-where (o ∷ old) new [] x later e = before old (let h : o ≡ x = cc in ap (λ (v : Event). v ∷ old) h)
 snoc-where (o ∷ old) new (y ∷ earlier) x later e =
     let head : o ≡ y = cc in
@@ -102,15 +99,11 @@ module _ (n : ℕ) (par : ℕ → ℕ) where
   pub nothing-in-order : InOrder n par []
   nothing-in-order =
       record {
-        once = λ e l i q. absurd (never e l (started i) q);
-        fed = λ e l i q. absurd (never e l (started i) q);
-        ran = λ e l i q. absurd (never e l (ended i) q);
-        fetch = λ e l q. absurd (never e l fetched q);
+        once = λ e l i q. absurd (nowhere e (started i) l q);
+        fed = λ e l i q. absurd (nowhere e (started i) l q);
+        ran = λ e l i q. absurd (nowhere e (ended i) l q);
+        fetch = λ e l q. absurd (nowhere e fetched l q);
       }
-    where
-      never : (earlier later : List Event) (x : Event) → [] ≡ earlier ++ x ∷ later → ⊥
-      never [] later x q = let z : _≡_ {A = ℕ} 0 1 = cc in omega arith
-      never (w ∷ l) later x q = let z : _≡_ {A = ℕ} 0 1 = cc in omega arith
 
   -- one event more: where it is a start, it is the first of its task and comes after those that feed it; where it is an end, its
   -- task was running; where it is a fetch, there was none, and all have ended

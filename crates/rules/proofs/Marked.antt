@@ -15,6 +15,7 @@ use Rattle.rules.specs.Marked.{
   asks,
   last,
   startedBy,
+  peakTold,
   inOrder,
   inOrders,
   tasksA,
@@ -33,6 +34,7 @@ use Rattle.rules.specs.Marked.{
   marked,
   recordsA,
   rootsOnly,
+  recordsAlike,
   surveyed,
   inRoom,
   sentences,
@@ -44,7 +46,7 @@ use Rattle.rules.proofs.Computing.{computing}
 
 -- the single claim over the † table
 pub marked-holds : holds marked ≡ true
-unfolding computing ask asks last startedBy inOrder tasksA planA planC dayC single marked same holds
+unfolding computing ask asks last startedBy peakTold inOrder tasksA planA planC dayC single marked same holds
 marked-holds = refl
 
 -- each small input of the grounds is refused with its number
@@ -80,6 +82,7 @@ unfolding
     refusal
     recordsA
     rootsOnly
+    recordsAlike
     surveyed
     counts
     standing
@@ -98,7 +101,7 @@ execution-chooses = refl
 -- plan A's whole output
 pub day-A :
     print dayA
-    ≡ ascii "begin peak=7 booked=6 used=6 full=857 start 1\n"
+    ≡ ascii "begin peak=7 by=2 booked=6 used=6 full=857 start 1\n"
     ++ ascii "done 1 offers=0 booked=7 used=7 full=1000 start 2\n"
     ++ ascii "done 2 offers=1 booked=3 used=3 full=428 start 3\n"
     ++ ascii "done 3 offers=0 booked=1 used=1 full=142 start -\n"

@@ -11,7 +11,7 @@ use lib.Seq.{take-all}
 use Rattle.rules.specs.Phase
 use Rattle.rules.specs.State.{State}
 use Rattle.rules.specs.Command.{execution, begin}
-use Rattle.rules.specs.Grounds.{noExecution, inTurn, peakOf, ownGround, ground}
+use Rattle.rules.specs.Grounds.{noExecution, inTurn, peakOf, peakedOf, ownGround, ground}
 use Rattle.rules.specs.Obey.{withOrders, executionOrder, completed, withBooks, proceed, obey}
 use Rattle.rules.specs.Answer.{Answered, refuse}
 use Rattle.rules.specs.Instance.{instanceOf}
@@ -118,7 +118,7 @@ module _ (s : State) (reached : Reachable s) (one : oneOrder s ≡ true) where
       )
 
   same-outcome : obey s begin ≡ outcomeBefore (completed s)
-  unfolding obey outcomeBefore completed withOrders peakOf
+  unfolding obey outcomeBefore completed withOrders peakedOf
   same-outcome = refl
 
   obeyed-whole : isWhole (obey s begin .state) ≡ true

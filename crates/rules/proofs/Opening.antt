@@ -7,7 +7,7 @@ use Rattle.rules.specs.Lists.{at}
 use Rattle.rules.specs.Standing.{running, count}
 use Rattle.rules.specs.State.{State, needs}
 use Rattle.rules.specs.Command.{begin}
-use Rattle.rules.specs.Grounds.{peakOf}
+use Rattle.rules.specs.Grounds.{peakedOf}
 use Rattle.rules.specs.Obey.{fresh, withOrders, completed, obey}
 use Rattle.rules.specs.Day.{started, isFetched}
 use Rattle.rules.specs.Invariant.{rankIn}
@@ -17,7 +17,7 @@ use Rattle.rules.proofs.InDay.{InDay, fresh-waits, fresh-good, fresh-id
 
 pub begin-in-day :
     (s : State) → Formed s → Accepted s begin → InDay (obey s begin .state) (map started (obey s begin .started))
-unfolding obey completed withOrders peakOf isFetched
+unfolding obey completed withOrders isFetched
 begin-in-day s formed a =
     let p = begin-planned s formed a in
     let good =
@@ -26,7 +26,7 @@ begin-in-day s formed a =
     let few : count (s .size) (at (fresh (s .size) .standings)) running ≤ s .processors =
     (let z = fresh-idle (s .size) in omega arith)
     in
-    proceed-in-day (completed s) p (fresh (s .size)) (peakOf s) 0 good few []
+    proceed-in-day (completed s) p (fresh (s .size)) (peakedOf s) 0 good few []
     (nothing-logged (s .size) (at (fresh (s .size) .standings)) (λ i t. let z = fresh-waits (s .size) i t in omega arith))
     (nothing-in-order (s .size) (at (s .parents))) refl
     (λ r t _ e. let w = fresh-waits (s .size) r t in omega arith)

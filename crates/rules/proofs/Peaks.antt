@@ -1,21 +1,22 @@
--- Laws of the peak: each sum is at most the peak, and the running level that gives the sums one after the other.
+-- Laws of the peak: each sum is at most the peak, and the running level that gives the sums one after the other, and with them the peak
+-- and its task.
 use mathlib.Core.Path.{_≡_, refl, sym, ap, ap₂, _∙_}
-use mathlib.Core.Bool.{Bool, not, _&&_, _||_, and-false}
+use mathlib.Core.Bool.{Bool, not, cond, _&&_, _||_, and-false}
 use mathlib.Core.List.{List, [], _∷_, _++_, append-nil}
 use mathlib.Core.Logic.{⊎-elim}
-use Prim.Native.Nat.{ℕ, _+_, _-_, _*_, _^_, _≤_, _<_, max}
+use Prim.Native.Nat.{ℕ, suc, _+_, _-_, _*_, _^_, _≤_, _<_, max}
 use native.Mathlib.Omega.{arith}
-use lib.Dec.{eqb}
-use borrow.Author.Tests.{eq-eqb, ne-eqb}
+use lib.Dec.{eqb, ltb}
+use borrow.Author.Tests.{eq-eqb, ne-eqb, lt-ltb, le-ltb}
 use Rattle.rules.specs.Sums.{only}
-use Rattle.rules.specs.Lists.{mem, largest}
+use Rattle.rules.specs.Lists.{at, mem, place, largest}
 use Rattle.rules.specs.Limits.{maxTasks, maxCount}
 use Rattle.rules.specs.Need.{isChild, children, need, resident}
-use Rattle.rules.specs.Peak.{sums, peak}
+use Rattle.rules.specs.Peak.{sumAt, sums, peak, peakTask, Peaked, peaked}
 use Rattle.rules.specs.Invariant.{Valid}
-use Rattle.rules.proofs.Tests.{same-or-not}
+use Rattle.rules.proofs.Tests.{same-or-not, le-or-lt}
 use Rattle.rules.proofs.Sums.{Task, sum-cong, sum-add, sum-zero, sum-change, sum-most, only-le}
-use Rattle.rules.proofs.Orders.{mem-here, mem-later, mem-among}
+use Rattle.rules.proofs.Orders.{mem-here, mem-later, mem-among, place-here, place-later}
 use Rattle.rules.proofs.Turns.{Left, Turn, left-split, left-next, left-turn}
 
 -- what one task has in the store
@@ -34,26 +35,27 @@ resident-cong n par out ended ended′ begun begun′ e b =
     (λ i t.
     ⊎-elim (λ z. rw (e i t, eq-eqb (par i) 0 z, and-false (ended′ i))) (λ d. rw (e i t, b i t d)) (same-or-not (par i) 0))
 
--- the sum at x, where those of `ended` have run
-abbrev pub sumAt : (n : ℕ) (par work out : ℕ → ℕ) → List ℕ → ℕ → ℕ
-sumAt n par work out ended x =
-    need n par work out x + resident n par out (λ i. mem i ended) (λ i. mem i (x ∷ ended))
+-- it does not matter when y ended
+pub sum-among :
+    (n : ℕ) (par work out : ℕ → ℕ) (pre : List ℕ) (y : ℕ) (ended : List ℕ) (x : ℕ)
+    → sumAt n par work out (pre ++ y ∷ ended) x ≡ sumAt n par work out (y ∷ pre ++ ended) x
+unfolding mem
+sum-among n par work out pre y ended x =
+    ap (λ (r : ℕ). need n par work out x + r)
+    (resident-cong n par out (λ i. mem i (pre ++ y ∷ ended)) (λ i. mem i (y ∷ pre ++ ended))
+    (λ i. mem i (x ∷ pre ++ y ∷ ended)) (λ i. mem i (x ∷ y ∷ pre ++ ended)) (λ i _. mem-among i y pre ended)
+    (λ i _ _. ap (λ t. eqb (par i) x || t) (mem-among (par i) y pre ended)))
 
 -- each sum is at most the largest
 sum-le-largest :
     (n : ℕ) (par work out : ℕ → ℕ) (ended pre : List ℕ) (x : ℕ) (post : List ℕ)
     → sumAt n par work out (pre ++ ended) x ≤ largest (sums n par work out ended (pre ++ x ∷ post))
-unfolding mem largest sums
+unfolding largest sums
 sum-le-largest n par work out ended [] x post = omega arith
 sum-le-largest n par work out ended (y ∷ pre) x post =
     let later : sumAt n par work out (pre ++ y ∷ ended) x ≤ largest (sums n par work out (y ∷ ended) (pre ++ x ∷ post))
     = sum-le-largest n par work out (y ∷ ended) pre x post in
-    let same : resident n par out (λ i. mem i (pre ++ y ∷ ended)) (λ i. mem i (x ∷ pre ++ y ∷ ended))
-    ≡ resident n par out (λ i. mem i (y ∷ pre ++ ended)) (λ i. mem i (x ∷ y ∷ pre ++ ended))
-    = resident-cong n par out (λ i. mem i (pre ++ y ∷ ended)) (λ i. mem i (y ∷ pre ++ ended))
-    (λ i. mem i (x ∷ pre ++ y ∷ ended)) (λ i. mem i (x ∷ y ∷ pre ++ ended)) (λ i _. mem-among i y pre ended)
-    (λ i _ _. ap (λ t. eqb (par i) x || t) (mem-among (par i) y pre ended)) in
-    omega arith
+    omega (arith, sum-among n par work out pre y ended x)
 
 -- each sum is at most the peak
 pub sum-le-peak :
@@ -198,3 +200,68 @@ pub peak-most :
     → peak n par work out l < 2 ^ 32
 unfolding peak
 peak-most n par work out l small works outs = let most = sums-most n par work out works outs [] l in omega arith
+
+-- the task of the largest sum, the first of equals
+unfoldable pub runningTask : (n : ℕ) (par work out : ℕ → ℕ) → ℕ → List ℕ → ℕ
+runningTask n par work out h [] = 0
+runningTask n par work out h (x ∷ later) =
+    cond (ltb (h + work x + out x) (running n par work out (h + kept par out x - children n par out x) later))
+    (runningTask n par work out (h + kept par out x - children n par out x) later) x
+
+-- the first place of the largest of some numbers: among the later ones where one of them is above the first
+pub largest-later : (s : ℕ) (l : List ℕ) → s < largest l → place (largest (s ∷ l)) (s ∷ l) ≡ suc (place (largest l) l)
+unfolding largest
+largest-later s l h =
+    let high : max s (largest l) ≡ largest l = omega arith in
+    rw high (place-later (largest l) s l (λ e. omega arith))
+
+pub largest-here : (s : ℕ) (l : List ℕ) → largest l ≤ s → place (largest (s ∷ l)) (s ∷ l) ≡ 0
+unfolding largest
+largest-here s l h = place-here (max s (largest l)) s l (omega arith)
+
+running-task-is :
+    (n : ℕ) (par work out : ℕ → ℕ) (ended later : List ℕ)
+    → Left n par ended later
+    → at later (place (largest (sums n par work out ended later)) (sums n par work out ended later))
+    ≡ runningTask n par work out (level n par out ended) later
+unfolding sums runningTask
+running-task-is n par work out ended [] r = refl
+running-task-is n par work out ended (x ∷ later) r =
+    let turn = left-turn n par ended x later r in
+    let next = left-next n par ended x later r in
+    let h : ℕ = level n par out ended + kept par out x - children n par out x in
+    let after : level n par out (x ∷ ended) ≡ h = omega (arith, turn-level n par out ended x turn) in
+    let here = turn-sum n par work out ended x turn in
+    let rest : largest (sums n par work out (x ∷ ended) later) ≡ running n par work out h later
+    = running-is n par work out (x ∷ ended) later next ∙ ap (λ (v : ℕ). running n par work out v later) after in
+    ⊎-elim
+    (λ (low : largest (sums n par work out (x ∷ ended) later) ≤ sumAt n par work out ended x).
+    rw (
+      largest-here (sumAt n par work out ended x) (sums n par work out (x ∷ ended) later) low,
+      le-ltb (level n par out ended + work x + out x) (running n par work out h later) (omega arith),
+    ))
+    (λ (above : sumAt n par work out ended x < largest (sums n par work out (x ∷ ended) later)).
+    rw (
+      largest-later (sumAt n par work out ended x) (sums n par work out (x ∷ ended) later) above,
+      lt-ltb (level n par out ended + work x + out x) (running n par work out h later) (omega arith),
+    )
+    (running-task-is n par work out (x ∷ ended) later next ∙ ap (λ (v : ℕ). runningTask n par work out v later) after))
+    (le-or-lt (largest (sums n par work out (x ∷ ended) later)) (sumAt n par work out ended x))
+
+-- both along an order, from a level on
+abbrev pub runningPeak : (n : ℕ) (par work out : ℕ → ℕ) → ℕ → List ℕ → Peaked
+runningPeak n par work out h l =
+    record { trays = running n par work out h l; task = runningTask n par work out h l }
+
+-- the peak of a valid order with its task, by the level that runs along it
+pub peaked-running :
+    (n : ℕ) (par work out : ℕ → ℕ) (order : List ℕ)
+    → Valid n par order
+    → peaked n par work out order ≡ runningPeak n par work out 0 order
+unfolding peaked peakTask peak
+peaked-running n par work out order v =
+    let trays = peak-running n par work out order v in
+    let task : peakTask n par work out order ≡ runningTask n par work out 0 order
+    = running-task-is n par work out [] order (left-split n par [] order v)
+    ∙ ap (λ (h : ℕ). runningTask n par work out h order) (level-first n par out) in
+    λ z. record { trays = trays z; task = task z }

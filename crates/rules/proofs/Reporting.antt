@@ -9,6 +9,7 @@ use lib.Dec.{eqb}
 use lib.ListN.{length, set}
 use borrow.Author.Tests.{eqb-true, eq-eqb, ne-eqb}
 use Rattle.rules.specs.Lists.{at}
+use Rattle.rules.specs.Peak.{noPeak}
 use Rattle.rules.specs.Phase
 use Rattle.rules.specs.Standing.{running, finished, count}
 use Rattle.rules.specs.State.{State, needs}
@@ -136,9 +137,9 @@ module _ (s : State) (happened : List Event) (day : InDay s happened) (j : ℕ) 
     unfolding obey
     goes-on =
         rw runs-on
-        (subst (λ (l : List Event). InDay (proceed s Phase.running (Obey.ended s j) 0 offers .state) l)
-        (append-assoc happened (ended j ∷ []) (map started (proceed s Phase.running (Obey.ended s j) 0 offers .started)))
-        (proceed-in-day s (day .planned) (Obey.ended s j) 0 offers good few (happened ++ (ended j ∷ [])) logged in-order not-fetched
+        (subst (λ (l : List Event). InDay (proceed s Phase.running (Obey.ended s j) noPeak offers .state) l)
+        (append-assoc happened (ended j ∷ []) (map started (proceed s Phase.running (Obey.ended s j) noPeak offers .started)))
+        (proceed-in-day s (day .planned) (Obey.ended s j) noPeak offers good few (happened ++ (ended j ∷ [])) logged in-order not-fetched
         still-unended))
 
   -- the root: its out remains, and all have ended

@@ -5,18 +5,19 @@ use Prim.Native.Nat.{ℕ}
 use lib.Dec.{eqb, ltb}
 use lib.ListN.{length, drop}
 use Rattle.rules.specs.Limits.{leastStarts}
+use Rattle.rules.specs.Peak.{Peaked, noPeak}
 use Rattle.rules.specs.State.{State}
 use Rattle.rules.specs.Command.{Command, Decoded, refused, read, decode}
 use Rattle.rules.specs.Grounds.{ground}
 use Rattle.rules.specs.Obey.{Outcome, obey}
 
 -- "An accepted command answers number 0, the bytes used and how many steps it starts. The peak is answered by BEGIN only, offers
--- by DONE only; elsewhere both are 0."
+-- by DONE only; elsewhere both are 0." "The peak shall always come with its step .. Where no peak is answered, the step is 0."
 pub record Answer : Type 0 where
   pub number : ℕ
   pub used : ℕ
   pub starts : ℕ
-  pub peak : ℕ
+  pub peak : Peaked
   pub offers : ℕ
 
 -- an answer, with the plan and the start list afterwards
@@ -29,7 +30,7 @@ pub record Answered : Type 0 where
 -- remain what they were."
 unfoldable pub refuse : ℕ → State → List ℕ → Answered
 refuse k s list =
-    record { answer = record { number = k; used = 0; starts = 0; peak = 0; offers = 0 }; state = s; list = list }
+    record { answer = record { number = k; used = 0; starts = 0; peak = noPeak; offers = 0 }; state = s; list = list }
 
 -- "writes the steps it starts, in order, to the front of that list and touches no later entry"
 unfoldable pub front : List ℕ → List ℕ → List ℕ

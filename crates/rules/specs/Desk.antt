@@ -10,10 +10,10 @@ use Rattle.rules.specs.Limits.{maxTasks}
 use Rattle.rules.specs.Peak
 use Rattle.rules.specs.Grounds.{within, demand}
 
--- what the desk is answered
+-- what the desk is answered: "Everyone who uses the peak gets both", the peak and its step
 pub record DeskAnswer : Type 0 where
   pub number : ℕ
-  pub peak : ℕ
+  pub peak : Peak.Peaked
 
 -- "unequal lengths, length 0 or above 1,024, a number out of limits (4); a step twice (5); 7; 8": of n tasks with these parents
 unfoldable pub deskGround : (n : ℕ) (par : ℕ → ℕ) → List ℕ → ℕ
@@ -27,12 +27,12 @@ deskGround n par activation =
     (demand (distinct activation) 5
     (demand (eqb (Peak.roots n par) 1) 7 (demand (Peak.ordered par activation) 8 0)))
 
--- "There is no M and no 9. A refusal answers its number and peak 0."
+-- "There is no M and no 9. A refusal answers its number and peak 0", and step 0
 unfoldable pub deskAnswer : (n : ℕ) (par work out : ℕ → ℕ) → List ℕ → DeskAnswer
 deskAnswer n par work out activation =
     record {
       number = deskGround n par activation;
-      peak = cond (eqb (deskGround n par activation) 0) (Peak.peak n par work out activation) 0;
+      peak = cond (eqb (deskGround n par activation) 0) (Peak.peaked n par work out activation) Peak.noPeak;
     }
 
 -- "A record is parent, work and out"
@@ -45,7 +45,7 @@ pub record StepRecord : Type 0 where
 unfoldable pub column : (StepRecord → ℕ) → List StepRecord → List ℕ
 column field records = 0 ∷ map field records
 
--- the number and the peak that the desk is answered
+-- the number and the peak with its task that the desk is answered
 unfoldable pub desk : List StepRecord → List ℕ → DeskAnswer
 desk records activation =
     deskAnswer (length records) (at (column (λ r. r .parent) records)) (at (column (λ r. r .work) records))

@@ -51,6 +51,11 @@ unfoldable pub peakOf : State → ℕ
 peakOf s =
     Peak.peak (s .size) (at (s .parents)) (at (s .chilled .works)) (at (s .chilled .outs)) (s .activation)
 
+-- the same with its task
+unfoldable pub peakedOf : State → Peak.Peaked
+peakedOf s =
+    Peak.peaked (s .size) (at (s .parents)) (at (s .chilled .works)) (at (s .chilled .outs)) (s .activation)
+
 -- the number where the test fails, and what else is checked where it holds
 abbrev pub demand : Bool → ℕ → ℕ → ℕ
 demand test number rest = cond test rest number

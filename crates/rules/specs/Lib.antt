@@ -34,4 +34,5 @@ pub mod Stream
 pub mod Restored
 pub mod OneOrder
 pub mod FoundOrder
+pub mod PeakTask
 pub mod Marked

@@ -35,6 +35,10 @@ last earlier c = command (after none (asks earlier)) (ask c)
 unfoldable pub startedBy : Answered → List ℕ
 startedBy a = take (a .answer .starts) (a .list)
 
+-- the peak that a command is answered, and its step
+unfoldable pub peakTold : Answered → List ℕ
+peakTold a = a .answer .peak .trays ∷ a .answer .peak .task ∷ []
+
 -- both orders 1 to n
 unfoldable pub inOrder : List ℕ → List Command
 inOrder [] = []
@@ -93,8 +97,8 @@ single = plan 1 1 0 ∷ task 0 0 0 ∷ inOrder (1 ∷ [])
 
 unfoldable pub marked : List Row
 marked =
-    -- A: peak 7
-    record { given = last (planA 7) begin .answer .number ∷ last (planA 7) begin .answer .peak ∷ []; stated = 0 ∷ 7 ∷ [] }
+    -- A: peak 7, "in plan A it reads `peak=7 by=2`"
+    record { given = last (planA 7) begin .answer .number ∷ peakTold (last (planA 7) begin); stated = 0 ∷ 7 ∷ 2 ∷ [] }
     -- A at M = 6: refused 9
     ∷ record { given = last (planA 6) begin .answer .number ∷ []; stated = 9 ∷ [] }
     -- A at M = 12: BEGIN starts 1 and 2
@@ -111,8 +115,8 @@ marked =
           ∷ [];
       stated = 3 ∷ 3 ∷ 6 ∷ 5 ∷ [];
     }
-    -- peak 6
-    ∷ record { given = dayC [] begin .answer .peak ∷ []; stated = 6 ∷ [] }
+    -- peak 6, while step 3 runs
+    ∷ record { given = peakTold (dayC [] begin); stated = 6 ∷ 3 ∷ [] }
     -- BEGIN books all four, B = 6, starts 1 and 2: two run and two are booked
     ∷ record {
       given = dayC [] begin .state .standings ++ (booked (dayC [] begin .state) ∷ startedBy (dayC [] begin));
@@ -157,10 +161,10 @@ marked =
           ∷ [];
       stated = 0 ∷ 0 ∷ [];
     }
-    -- one step, work 0, out 0, M = 0: accepted, peak 0, starts 1
+    -- one step, work 0, out 0, M = 0: accepted, peak 0, starts 1; the peak has its step
     ∷ record {
-      given = last single begin .answer .number ∷ last single begin .answer .peak ∷ startedBy (last single begin);
-      stated = 0 ∷ 0 ∷ 1 ∷ [];
+      given = last single begin .answer .number ∷ peakTold (last single begin) ++ startedBy (last single begin);
+      stated = 0 ∷ 0 ∷ 1 ∷ 1 ∷ [];
     }
     ∷ []
 
@@ -172,15 +176,15 @@ reading stream place = record { stream = stream; place = place; list = replicate
 unfoldable pub short : List ℕ → Asking
 short stream = record { stream = stream; place = 0; list = replicate 63 0 }
 
--- the counts of the answer that the last asking gets after the others: the number, bytes used, starts, peak and offers
+-- the counts of the answer that the last asking gets after the others: the number, bytes used, starts, the peak, its step, and offers
 unfoldable pub told : List Asking → Asking → List ℕ
 told earlier a =
     let said = command (after none earlier) a .answer in
-    said .number ∷ said .used ∷ said .starts ∷ said .peak ∷ said .offers ∷ []
+    said .number ∷ said .used ∷ said .starts ∷ said .peak .trays ∷ said .peak .task ∷ said .offers ∷ []
 
 -- the counts of a refusal: "its number, with bytes used, starts and every other count 0"
 unfoldable pub refusal : ℕ → List ℕ
-refusal k = k ∷ 0 ∷ 0 ∷ 0 ∷ 0 ∷ []
+refusal k = k ∷ 0 ∷ 0 ∷ 0 ∷ 0 ∷ 0 ∷ []
 
 -- the small inputs of the grounds, in their order, and the limits of n and p
 unfoldable pub grounds : List Row
@@ -222,10 +226,10 @@ grounds =
     ∷ record { given = told (asks (planA 7)) (short (bytes begin)); stated = refusal 10 }
     ∷ record { given = told [] (short []); stated = refusal 10 }
     -- n = 1,024 accepted, 1,025 refused 4
-    ∷ record { given = told [] (ask (plan 1024 1 0)); stated = 0 ∷ 8 ∷ 0 ∷ 0 ∷ 0 ∷ [] }
+    ∷ record { given = told [] (ask (plan 1024 1 0)); stated = 0 ∷ 8 ∷ 0 ∷ 0 ∷ 0 ∷ 0 ∷ [] }
     ∷ record { given = told [] (ask (plan 1025 1 0)); stated = refusal 4 }
     -- p = 64 accepted, 65 refused 4
-    ∷ record { given = told [] (ask (plan 1 64 0)); stated = 0 ∷ 8 ∷ 0 ∷ 0 ∷ 0 ∷ [] }
+    ∷ record { given = told [] (ask (plan 1 64 0)); stated = 0 ∷ 8 ∷ 0 ∷ 0 ∷ 0 ∷ 0 ∷ [] }
     ∷ record { given = told [] (ask (plan 1 65 0)); stated = refusal 4 }
     ∷ []
 
@@ -240,9 +244,18 @@ recordsA =
 unfoldable pub rootsOnly : List StepRecord
 rootsOnly = replicate 3 (record { parent = 0; work = 5; out = 1 })
 
--- the number and the peak that the desk is answered
+-- two steps with the same sum, and their parent
+unfoldable pub recordsAlike : List StepRecord
+recordsAlike =
+    record { parent = 3; work = 5; out = 0 }
+    ∷ record { parent = 3; work = 5; out = 0 }
+    ∷ record { parent = 0; work = 0; out = 1 }
+    ∷ []
+
+-- the number, the peak and its step that the desk is answered
 unfoldable pub surveyed : List StepRecord → List ℕ → List ℕ
-surveyed records order = desk records order .number ∷ desk records order .peak ∷ []
+surveyed records order =
+    desk records order .number ∷ desk records order .peak .trays ∷ desk records order .peak .task ∷ []
 
 -- the phase of a plan, what lies in the cold room, and the standing
 unfoldable pub inRoom : State → List ℕ
@@ -255,16 +268,19 @@ sentences =
     -- `05`, with another command behind it
     record {
       given = print (take 48 dayA ++ (6 ∷ 3 ∷ 0 ∷ 6 ∷ 1 ∷ 0 ∷ []));
-      stated = ascii "begin peak=7 booked=6 used=6 full=857 start 1\n" ++ ascii "refused 6 at 48\n";
+      stated = ascii "begin peak=7 by=2 booked=6 used=6 full=857 start 1\n" ++ ascii "refused 6 at 48\n";
     }
-    -- the desk: A's peak
-    ∷ record { given = surveyed recordsA (1 ∷ 2 ∷ 3 ∷ []); stated = 0 ∷ 7 ∷ [] }
+    -- the desk: A's peak, and its step
+    ∷ record { given = surveyed recordsA (1 ∷ 2 ∷ 3 ∷ []); stated = 0 ∷ 7 ∷ 2 ∷ [] }
+    -- "the earliest in the activation order where several are equal": not the lowest number, nor the highest
+    ∷ record { given = surveyed recordsAlike (1 ∷ 2 ∷ 3 ∷ []); stated = 0 ∷ 5 ∷ 1 ∷ [] }
+    ∷ record { given = surveyed recordsAlike (2 ∷ 1 ∷ 3 ∷ []); stated = 0 ∷ 5 ∷ 2 ∷ [] }
     -- "unequal lengths (4)", and "A refusal answers its number and peak 0"
-    ∷ record { given = surveyed recordsA (1 ∷ 2 ∷ []); stated = 4 ∷ 0 ∷ [] }
+    ∷ record { given = surveyed recordsA (1 ∷ 2 ∷ []); stated = 4 ∷ 0 ∷ 0 ∷ [] }
     -- 5 before 7: a step twice, where no step has a parent
-    ∷ record { given = surveyed rootsOnly (1 ∷ 1 ∷ 2 ∷ []); stated = 5 ∷ 0 ∷ [] }
-    ∷ record { given = surveyed rootsOnly (1 ∷ 2 ∷ 3 ∷ []); stated = 7 ∷ 0 ∷ [] }
-    ∷ record { given = surveyed recordsA (3 ∷ 1 ∷ 2 ∷ []); stated = 8 ∷ 0 ∷ [] }
+    ∷ record { given = surveyed rootsOnly (1 ∷ 1 ∷ 2 ∷ []); stated = 5 ∷ 0 ∷ 0 ∷ [] }
+    ∷ record { given = surveyed rootsOnly (1 ∷ 2 ∷ 3 ∷ []); stated = 7 ∷ 0 ∷ 0 ∷ [] }
+    ∷ record { given = surveyed recordsA (3 ∷ 1 ∷ 2 ∷ []); stated = 8 ∷ 0 ∷ 0 ∷ [] }
     -- "n of each at most": one entry more is not in turn, in either order
     ∷ record { given = told (asks (planA 7)) (ask (activation 1)); stated = refusal 3 }
     ∷ record { given = told (asks (planA 7)) (ask (execution 1)); stated = refusal 3 }
@@ -277,8 +293,8 @@ sentences =
     -- a BEGIN that is refused leaves the plan in orders: no step runs, BEGIN may come again, and so may PLAN
     ∷ record { given = told (asks (planA 6 ++ (begin ∷ []))) (ask (done 1)); stated = refusal 3 }
     ∷ record { given = told (asks (planA 6 ++ (begin ∷ []))) (ask begin); stated = refusal 9 }
-    ∷ record { given = told (asks (planA 6 ++ (begin ∷ []))) (ask (plan 3 2 7)); stated = 0 ∷ 8 ∷ 0 ∷ 0 ∷ 0 ∷ [] }
-    ∷ record { given = told (asks (planA 7) ++ (short (bytes begin) ∷ [])) (ask begin); stated = 0 ∷ 1 ∷ 1 ∷ 7 ∷ 0 ∷ [] }
+    ∷ record { given = told (asks (planA 6 ++ (begin ∷ []))) (ask (plan 3 2 7)); stated = 0 ∷ 8 ∷ 0 ∷ 0 ∷ 0 ∷ 0 ∷ [] }
+    ∷ record { given = told (asks (planA 7) ++ (short (bytes begin) ∷ [])) (ask begin); stated = 0 ∷ 1 ∷ 1 ∷ 7 ∷ 2 ∷ 0 ∷ [] }
     -- "with the activation order used for both": A at M = 12 with activation order 2, 1, 3 and no 04 starts 2, then 1
     ∷ record { given = startedBy (last (oneOrderA 12 (2 ∷ 1 ∷ 3 ∷ [])) begin); stated = 2 ∷ 1 ∷ [] }
     -- "3 as before where 1 to n − 1 entries of 04 were given"
@@ -288,20 +304,20 @@ sentences =
     ∷ record { given = told (asks (oneOrderA 7 (1 ∷ 2 ∷ []))) (ask begin); stated = refusal 3 }
     -- a refused BEGIN fills nothing in: 04 is taken behind it, and then all n entries are needed
     ∷ record { given = told (asks (oneOrderA 6 (1 ∷ 2 ∷ 3 ∷ []))) (ask begin); stated = refusal 9 }
-    ∷ record { given = told (asks (oneOrderA 6 (1 ∷ 2 ∷ 3 ∷ []) ++ (begin ∷ []))) (ask (execution 1)); stated = 0 ∷ 3 ∷ 0 ∷ 0 ∷ 0 ∷ [] }
+    ∷ record { given = told (asks (oneOrderA 6 (1 ∷ 2 ∷ 3 ∷ []) ++ (begin ∷ []))) (ask (execution 1)); stated = 0 ∷ 3 ∷ 0 ∷ 0 ∷ 0 ∷ 0 ∷ [] }
     ∷ record { given = told (asks (oneOrderA 6 (1 ∷ 2 ∷ 3 ∷ []) ++ (begin ∷ execution 1 ∷ []))) (ask begin); stated = refusal 3 }
     -- an accepted one completes the order: 04 is out of turn
     ∷ record { given = told (asks (oneOrderA 7 (1 ∷ 2 ∷ 3 ∷ []) ++ (begin ∷ []))) (ask (execution 1)); stated = refusal 3 }
     -- one step: no entry of 04 will do as well as one
-    ∷ record { given = told (asks (plan 1 1 0 ∷ task 0 0 0 ∷ activation 1 ∷ [])) (ask begin); stated = 0 ∷ 1 ∷ 1 ∷ 0 ∷ 0 ∷ [] }
-    ∷ record { given = told (asks single) (ask begin); stated = 0 ∷ 1 ∷ 1 ∷ 0 ∷ 0 ∷ [] }
+    ∷ record { given = told (asks (plan 1 1 0 ∷ task 0 0 0 ∷ activation 1 ∷ [])) (ask begin); stated = 0 ∷ 1 ∷ 1 ∷ 0 ∷ 1 ∷ 0 ∷ [] }
+    ∷ record { given = told (asks single) (ask begin); stated = 0 ∷ 1 ∷ 1 ∷ 0 ∷ 1 ∷ 0 ∷ [] }
     -- "When the root ends, its out remains booked and in use, and the phase is a new one, ready": the phase, booked trays, trays in use
     -- and fullness, and the standing, which is "the same .. as over"
     ∷ record { given = inRoom (after none (asks readyA)); stated = 5 ∷ 1 ∷ 1 ∷ 142 ∷ 0 ∷ 0 ∷ 0 ∷ 3 ∷ [] }
     -- FETCH "frees it and leads to over"
     ∷ record { given = inRoom (after none (asks overA)); stated = 4 ∷ 0 ∷ 0 ∷ 0 ∷ 0 ∷ 0 ∷ 0 ∷ 3 ∷ [] }
     -- it uses one byte, and every other count is 0
-    ∷ record { given = told (asks readyA) (ask fetch); stated = 0 ∷ 1 ∷ 0 ∷ 0 ∷ 0 ∷ [] }
+    ∷ record { given = told (asks readyA) (ask fetch); stated = 0 ∷ 1 ∷ 0 ∷ 0 ∷ 0 ∷ 0 ∷ [] }
     -- in ready as elsewhere 10 comes first, a command that is cut is 1 and an unknown byte 2, and 3 comes ahead of 4
     ∷ record { given = told (asks readyA) (short (bytes fetch)); stated = refusal 10 }
     ∷ record { given = told (asks readyA) (reading (1 ∷ 3 ∷ 0 ∷ []) 0); stated = refusal 1 }
@@ -313,10 +329,10 @@ sentences =
     ∷ record { given = told (asks (planA 7 ++ (begin ∷ done 1 ∷ done 2 ∷ []))) (ask fetch); stated = refusal 3 }
     ∷ record { given = told (asks overA) (ask fetch); stated = refusal 3 }
     -- in over PLAN is in turn
-    ∷ record { given = told (asks overA) (ask (plan 3 2 7)); stated = 0 ∷ 8 ∷ 0 ∷ 0 ∷ 0 ∷ [] }
+    ∷ record { given = told (asks overA) (ask (plan 3 2 7)); stated = 0 ∷ 8 ∷ 0 ∷ 0 ∷ 0 ∷ 0 ∷ [] }
     -- a root without an out goes to ready too, and is fetched
     ∷ record { given = inRoom (after none (asks (single ++ (begin ∷ done 1 ∷ [])))); stated = 5 ∷ 0 ∷ 0 ∷ 0 ∷ 0 ∷ 0 ∷ 0 ∷ 1 ∷ [] }
-    ∷ record { given = told (asks (single ++ (begin ∷ done 1 ∷ []))) (ask fetch); stated = 0 ∷ 1 ∷ 0 ∷ 0 ∷ 0 ∷ [] }
+    ∷ record { given = told (asks (single ++ (begin ∷ done 1 ∷ []))) (ask fetch); stated = 0 ∷ 1 ∷ 0 ∷ 0 ∷ 0 ∷ 0 ∷ [] }
     ∷ []
 
 -- the two lists of a row are the same

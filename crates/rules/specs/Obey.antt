@@ -5,18 +5,20 @@ use Prim.Native.Nat.{ℕ, suc}
 use lib.Dec.{eqb}
 use lib.ListN.{length, set, replicate}
 use Rattle.rules.specs.Lists.{at}
+use Rattle.rules.specs.Peak.{Peaked, noPeak}
 use Rattle.rules.specs.Phase
 use Rattle.rules.specs.Standing
 use Rattle.rules.specs.State.{State, rootOf, needs}
 use Rattle.rules.specs.Command.{Command, plan, task, activation, execution, begin, done, fetch}
-use Rattle.rules.specs.Grounds.{noExecution, peakOf}
+use Rattle.rules.specs.Grounds.{noExecution, peakedOf}
 use Rattle.rules.specs.Booking.{Books, Climbed, activate, starts, start, free, dispatch}
 
--- what an accepted command leaves: the plan, the tasks that it starts, in order, the peak (BEGIN only) and the offers (DONE only)
+-- what an accepted command leaves: the plan, the tasks that it starts, in order, the peak with its task (BEGIN only) and the offers
+-- (DONE only)
 pub record Outcome : Type 0 where
   pub state : State
   pub started : List ℕ
-  pub peak : ℕ
+  pub peak : Peaked
   pub offers : ℕ
 
 -- "PLAN: drop the old plan, open a new one"
@@ -124,7 +126,7 @@ begun s k =
     starts (s .size) (at (s .parents)) (s .execution) (free (s .size) (s .processors) (k .standings)) (k .standings)
 
 -- booking ahead and starting, the end of BEGIN and of DONE
-unfoldable pub proceed : State → ℕ → Books → ℕ → ℕ → Outcome
+unfoldable pub proceed : State → ℕ → Books → Peaked → ℕ → Outcome
 proceed s phase k peak offers =
     record {
       state = withBooks s phase (start (begun s (ahead s k)) (ahead s k .standings)) (ahead s k .booked);
@@ -160,7 +162,7 @@ unloaded s = withBooks s Phase.over (s .standings) (set (s .chilled .booked) (ro
 
 -- a command that starts nothing
 abbrev pub plain : State → Outcome
-plain s = record { state = s; started = []; peak = 0; offers = 0 }
+plain s = record { state = s; started = []; peak = noPeak; offers = 0 }
 
 -- "BEGIN books ahead and starts. DONE shares out, books ahead and starts. Nothing else books or starts."
 unfoldable pub obey : State → Command → Outcome
@@ -168,6 +170,6 @@ obey s (plan n p bound) = plain (opened n p bound)
 obey s (task parent work out) = plain (withTask s parent work out)
 obey s (activation i) = plain (withOrders s (s .activation ++ (i ∷ [])) (s .execution))
 obey s (execution i) = plain (withOrders s (s .activation) (s .execution ++ (i ∷ [])))
-obey s begin = proceed (completed s) Phase.running (fresh (s .size)) (peakOf s) 0
-obey s (done j) = proceed s (phaseAfter s j) (ended s j) 0 (length (shared s j .offered))
+obey s begin = proceed (completed s) Phase.running (fresh (s .size)) (peakedOf s) 0
+obey s (done j) = proceed s (phaseAfter s j) (ended s j) noPeak (length (shared s j .offered))
 obey s fetch = plain (unloaded s)

@@ -7,6 +7,7 @@ use Prim.Native.String
 use Prim.Native.String.{String}
 use lib.Dec.{ltb}
 use lib.ListN.{take}
+use Rattle.rules.specs.Peak.{Peaked}
 use Rattle.rules.specs.Command.{Command, plan, task, activation, execution, begin, done, fetch, Decoded, refused, read}
 use Rattle.rules.specs.Answer.{Answered}
 use Rattle.rules.specs.Question.{booked, inUse, fullness}
@@ -50,9 +51,14 @@ figures total used full started =
     ++ listed started
     ++ ascii "\n"
 
--- "After `begin` comes the peak; after `done` the step ended, then the offers."
-unfoldable pub beginLine : ℕ → ℕ → ℕ → ℕ → List ℕ → List ℕ
-beginLine peak total used full started = ascii "begin peak=" ++ decimal peak ++ figures total used full started
+-- "After `begin` comes the peak; after `done` the step ended, then the offers." "The begin line gains `by=` after the peak": its step
+unfoldable pub beginLine : Peaked → ℕ → ℕ → ℕ → List ℕ → List ℕ
+beginLine peak total used full started =
+    ascii "begin peak="
+    ++ decimal (peak .trays)
+    ++ ascii " by="
+    ++ decimal (peak .task)
+    ++ figures total used full started
 
 unfoldable pub doneLine : ℕ → ℕ → ℕ → ℕ → ℕ → List ℕ → List ℕ
 doneLine j offers total used full started =

@@ -2,19 +2,19 @@
 use mathlib.Core.Path.{_≡_, sym, ap, _∙_}
 use mathlib.Core.Bool.{true, false, not}
 use mathlib.Core.List.{List}
-use mathlib.Core.Logic.{⊎-elim}
 use Prim.Native.Nat.{ℕ, _≤_, _<_}
 use native.Mathlib.Omega.{arith}
 use lib.Dec.{eqb, leb}
-use borrow.Author.Tests.{eq-eqb, eqb-false, leb-true, leb-false, ne-eqb, not-true}
+use borrow.Author.Tests.{eq-eqb, eqb-true, eqb-false, leb-true, leb-false, ne-eqb, not-true}
 use Rattle.rules.specs.Sums.{Task, countTo}
 use Rattle.rules.specs.Lists.{mem, place}
-use Rattle.rules.specs.Grounds.{within}
+use Rattle.rules.specs.Grounds.{within, demand}
 use Rattle.rules.specs.Peak.{roots, ordered}
 use Rattle.rules.specs.Invariant.{Valid}
-use Rattle.rules.proofs.Tests.{decide, fails, and-true}
-use Rattle.rules.proofs.Sums.{none-counted, counted}
+use Rattle.rules.proofs.Tests.{fails, and-true}
+use Rattle.rules.proofs.Sums.{none-counted, counted, count-le}
 use Rattle.rules.proofs.Orders.{place-lt, place-at, within-task, every-mem, all-in, ordered-rises, rises-ordered}
+use Rattle.rules.proofs.Formed.{demand-none}
 use Rattle.store.specs.Cached.{Placed}
 use Rattle.survey.specs.Checks.{Parented, isLate}
 use Rattle.survey.specs.Survey.{orderGround}
@@ -87,17 +87,14 @@ module _ (n : ℕ) (par rank : ℕ → ℕ) (order : List ℕ) (parented : Paren
   unfolding orderGround
   ground-none one none = rw (eq-eqb (roots n par) 1 one, none-late none)
 
-  -- where there is none, the order is valid
-  pub no-ground : orderGround n par order ≡ 0 → Valid n par order
-  unfolding orderGround
+  -- where there is none, there is a task, the root, and the order is valid
+  pub no-ground : orderGround n par order ≡ 0 → (1 ≤ n) × Valid n par order
+  unfolding orderGround roots
   no-ground none =
-      let ordered-is : ordered par order ≡ true =
-      ⊎-elim (λ (e : ordered par order ≡ true). e)
-      (λ (e : ordered par order ≡ false).
-      ⊎-elim
-      (λ (r : eqb (roots n par) 1 ≡ true). (let there : orderGround n par order ≡ 8 = rw (r, e) in absurd (omega arith)))
-      (λ (r : eqb (roots n par) 1 ≡ false). (let there : orderGround n par order ≡ 7 = rw r in absurd (omega arith)))
-      (decide (eqb (roots n par) 1)))
-      (decide (ordered par order))
-      in
-      record { inside = ranked .inside; once = ranked .once; whole = ranked .whole; upward = ordered-is }
+      let rooted = demand-none (eqb (roots n par) 1) 7 (demand (ordered par order) 8 0) (λ q. omega arith) none in
+      let upward = demand-none (ordered par order) 8 0 (λ q. omega arith) (rooted .1) in
+      let one = eqb-true (roots n par) 1 (rooted .0) in
+      let few = count-le (λ i. eqb (par i) 0) n in (
+        omega arith,
+        record { inside = ranked .inside; once = ranked .once; whole = ranked .whole; upward = upward .0 },
+      )

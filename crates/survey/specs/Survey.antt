@@ -1,9 +1,9 @@
 -- What a survey of a plan's activation order asks and answers.
+use mathlib.Core.Bool.{cond}
 use mathlib.Core.List.{List}
 use Prim.Native.Nat.{ℕ}
 use lib.Dec.{eqb}
 use lib.ListN.{take}
-use Rattle.rules.specs.Sums.{only}
 use Rattle.rules.specs.Lists.{at}
 use Rattle.rules.specs.Peak
 use Rattle.rules.specs.Grounds.{demand}
@@ -30,8 +30,9 @@ orderGround n par order = demand (eqb (Peak.roots n par) 1) 7 (demand (Peak.orde
 abbrev pub groundOf : Contents → ℕ
 groundOf c = orderGround (c .size) (at (c .parents)) (activationOf c)
 
--- its peak, where there is no ground
-abbrev pub peakOf : Contents → ℕ
-peakOf c =
-    only (eqb (groundOf c) 0)
-    (Peak.peak (c .size) (at (c .parents)) (at (c .chilled .works)) (at (c .chilled .outs)) (activationOf c))
+-- its peak with its task, where there is no ground
+abbrev pub peakedOf : Contents → Peak.Peaked
+peakedOf c =
+    cond (eqb (groundOf c) 0)
+    (Peak.peaked (c .size) (at (c .parents)) (at (c .chilled .works)) (at (c .chilled .outs)) (activationOf c))
+    Peak.noPeak

@@ -1,18 +1,24 @@
-// The level of a store as the tasks of the activation order run one at a time, and the largest sum.
-// A store is given by its offset in a row.
+// The level of a store as the tasks of the activation order run one at a time, and the largest sum
+// with its task. A store is given by its offset in a row.
 ghost use mathlib.Core.Path.{_≡_};
-ghost use Prim.Native.Nat.{_+_, _^_, _<_, max};
+ghost use Prim.Native.Nat.{_+_, _^_, _<_};
 ghost use lib.ListN.{take};
 ghost use Rattle.rules.specs.Lists.{at};
 ghost use Rattle.rules.specs.Peak;
 ghost use Rattle.words.specs.Contents.{contents, storeContents};
-ghost use Rattle.survey.specs.Level.{AtRow, keptOut, MayFeed, Fed, MayRun, MayPeak};
+ghost use Rattle.survey.specs.Level.{AtRow, keptOut, MayFeed, Fed, MayRun, MayPeak, meant, higher};
 use cells::cell;
 use cells::entry;
 use words::plan::Plan;
 
 // A row for each task, and row 0 for nobody.
 const ROWS: usize = Plan::MAX_TASKS + 1;
+
+// A sum, and the task that runs then.
+pub(crate) struct Peaked {
+    pub(crate) trays: u64,
+    pub(crate) task: u16,
+}
 
 // Adds the out of each task to the entry of its parent.
 fn feed(plan: &[u32; Plan::WORDS], store: usize, n: usize, fed: &mut [u64; ROWS])
@@ -28,11 +34,14 @@ fn feed(plan: &[u32; Plan::WORDS], store: usize, n: usize, fed: &mut [u64; ROWS]
     }
 }
 
-// The larger of two numbers.
-fn larger(a: u64, b: u64) -> u64
-    ensures { λ r. ⌜ r ≡ max a b ⌝ }
+// The higher sum once another task has run: of equals the earlier.
+fn highest_of(best: Peaked, trays: u64, task: u16) -> Peaked
+    ensures { λ r. ⌜ meant r ≡ higher (meant best) (record { trays = trays; task = task }) ⌝ }
 {
-    if a < b { b } else { a }
+    if best.trays < trays {
+        return Peaked { trays, task };
+    }
+    best
 }
 
 // What the store holds while a task runs: its work and its out, and what was there.
@@ -59,28 +68,33 @@ fn kept_out(plan: &[u32; Plan::WORDS], store: usize, task: usize) -> u64
     }
 }
 
-// The largest sum along the order, with the outs of the children of each task at hand.
-fn highest(plan: &[u32; Plan::WORDS], store: usize, n: usize, fed: &[u64; ROWS]) -> u64
+// The largest sum along the order and its task, with the outs of the children of each task at hand.
+fn highest(plan: &[u32; Plan::WORDS], store: usize, n: usize, fed: &[u64; ROWS]) -> Peaked
     requires { ⌜ MayRun n store (now plan) (now fed) ⌝ }
-    ensures { λ r. ⌜ r ≡ Peak.peak n (at (contents (now (plan .entry)) .parents)) (at (storeContents store (now (plan .entry)) .works))
+    ensures { λ r. ⌜ meant r ≡ Peak.peaked n (at (contents (now (plan .entry)) .parents)) (at (storeContents store (now (plan .entry)) .works))
         (at (storeContents store (now (plan .entry)) .outs)) (take n (contents (now (plan .entry)) .activation)) ⌝ }
 {
-    let mut best = 0;
+    // No sum is below 0, and where all are 0 the first is the earliest.
+    let first = entry(plan, Plan::ACTIVATION, 0) as u16;
+    let mut best = Peaked {
+        trays: 0,
+        task: first,
+    };
     let mut level = 0;
     let mut k = 0;
     while k < n {
         let x = entry(plan, Plan::ACTIVATION, k) as usize;
-        best = larger(best, sum(plan, store, x, level));
+        best = highest_of(best, sum(plan, store, x, level), x as u16);
         level = level + kept_out(plan, store, x) - fed[x];
         k += 1;
     }
     best
 }
 
-// The peak of the activation order, where it is valid.
-pub(crate) fn peak(plan: &[u32; Plan::WORDS], store: usize, n: usize) -> u64
+// The peak of the activation order with its task, where it is valid.
+pub(crate) fn peak(plan: &[u32; Plan::WORDS], store: usize, n: usize) -> Peaked
     requires { ⌜ MayPeak n store (now plan) ⌝ }
-    ensures { λ r. ⌜ r ≡ Peak.peak n (at (contents (now (plan .entry)) .parents)) (at (storeContents store (now (plan .entry)) .works))
+    ensures { λ r. ⌜ meant r ≡ Peak.peaked n (at (contents (now (plan .entry)) .parents)) (at (storeContents store (now (plan .entry)) .works))
         (at (storeContents store (now (plan .entry)) .outs)) (take n (contents (now (plan .entry)) .activation)) ⌝ }
 {
     let mut fed = [0u64; ROWS];

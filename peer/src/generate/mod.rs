@@ -20,6 +20,7 @@ mod tree;
 pub use crate::encode::encode;
 pub use askings::{askings, many_askings, Asking};
 pub use cut::cut_stream;
+pub use orders::activation as activation_order;
 pub use pairs::booked_and_bound;
 pub use random::Random;
 pub use steps_only::steps_only;

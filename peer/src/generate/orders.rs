@@ -4,7 +4,7 @@ use super::random::Random;
 use crate::record::{index, Record};
 
 /// An activation order: each task stands before its parent.
-pub(crate) fn activation(random: &mut Random, records: &[Record]) -> Vec<u16> {
+pub fn activation(random: &mut Random, records: &[Record]) -> Vec<u16> {
     if random.chance(40) {
         postorder(random, records)
     } else {

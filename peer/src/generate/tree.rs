@@ -27,7 +27,7 @@ pub enum Shape {
 
 impl Shape {
     /// Any of the plain shapes.
-    pub(crate) fn random(random: &mut Random) -> Shape {
+    pub fn random(random: &mut Random) -> Shape {
         random.pick(&[
             Shape::Random,
             Shape::Random,

@@ -24,6 +24,7 @@ fn compare(plan: &mut Plan, naive: &mut Naive, asking: &Asking) {
         used: answer.used,
         starts,
         peak: answer.peak as usize,
+        peak_task: answer.peak_task.into(),
         offers: answer.offers,
     };
     assert_eq!(reply, naive.command(bytes, *place, *starts_len));
@@ -76,7 +77,7 @@ fn naive_lines(stream: &[u8]) -> Option<String> {
         }
         let reply = naive.command(stream, place, 64);
         lines += &match (reply.number, command) {
-            (0, Ok(Command::Begin)) => format!("begin peak={}", reply.peak),
+            (0, Ok(Command::Begin)) => format!("begin peak={} by={}", reply.peak, reply.peak_task),
             (0, Ok(Command::Done(task))) => format!("done {task} offers={}", reply.offers),
             (0, Ok(Command::Fetch)) => format!("fetch booked={}\n", naive.booked()),
             (0, _) => String::new(),

@@ -195,7 +195,8 @@ fn fetch_leaves_the_start_list_untouched() {
             let answer = plan.command(&[0x07], 0, &mut starts);
             let wanted = if starts_len < 64 { (10, 0) } else { (0, 1) };
             assert_eq!((answer.number, answer.used), wanted, "{starts_len}");
-            assert_eq!((answer.starts, answer.peak, answer.offers), (0, 0, 0));
+            assert_eq!((answer.starts, answer.offers), (0, 0));
+            assert_eq!((answer.peak, answer.peak_task), (0, 0));
             assert_eq!(starts, vec![mark; starts_len]);
             let is_over = plan.phase() == Phase::Over;
             assert_eq!(is_over, starts_len >= 64);
@@ -346,7 +347,7 @@ fn a_lines() -> &'static str {
 }
 
 const C_LINES: &str = "\
-begin peak=6 booked=6 used=6 full=1000 start 1 2
+begin peak=6 by=3 booked=6 used=6 full=1000 start 1 2
 done 1 offers=1 booked=6 used=5 full=1000 start -
 done 2 offers=1 booked=6 used=6 full=1000 start 3
 done 3 offers=1 booked=5 used=5 full=833 start 4

@@ -7,10 +7,10 @@ use peer::generate::encode;
 use peer::{Command, Phase, Plan, Record};
 
 /// Work and out of a step.
-type Counts = (u16, u16);
+pub type Counts = (u16, u16);
 
 /// All lists of n entries, each one of the choices.
-fn all_lists<T: Copy>(n: usize, choices: &[T]) -> Vec<Vec<T>> {
+pub fn all_lists<T: Copy>(n: usize, choices: &[T]) -> Vec<Vec<T>> {
     let mut lists = vec![vec![]];
     for _ in 0..n {
         let longer = |list: &Vec<T>, &choice: &T| [&list[..], &[choice]].concat();
@@ -23,12 +23,12 @@ fn all_lists<T: Copy>(n: usize, choices: &[T]) -> Vec<Vec<T>> {
 }
 
 /// All lists of n parents, whatever they are.
-fn all_parents(n: u16) -> Vec<Vec<u16>> {
+pub fn all_parents(n: u16) -> Vec<Vec<u16>> {
     let parents: Vec<u16> = (0..=n).collect();
     all_lists(n.into(), &parents)
 }
 
-fn records(parents: &[u16], counts: &[Counts]) -> Vec<Record> {
+pub fn records(parents: &[u16], counts: &[Counts]) -> Vec<Record> {
     let steps = parents.iter().zip(counts);
     steps
         .map(|(&parent, &(work, out))| Record { parent, work, out })
@@ -36,7 +36,7 @@ fn records(parents: &[u16], counts: &[Counts]) -> Vec<Record> {
 }
 
 /// The parents of all trees of n tasks.
-fn trees(n: u16) -> Vec<Vec<u16>> {
+pub fn trees(n: u16) -> Vec<Vec<u16>> {
     let mut trees = all_parents(n);
     trees.retain(|parents| {
         let records = records(parents, &vec![(0, 0); n.into()]);
@@ -127,7 +127,7 @@ fn five_steps() {
 }
 
 /// Trees in which each parent has a higher number than its children.
-fn rising_trees(n: u16) -> Vec<Vec<u16>> {
+pub fn rising_trees(n: u16) -> Vec<Vec<u16>> {
     let mut trees = vec![vec![0]];
     for task in (1..n).rev() {
         let longer = |tree: &Vec<u16>, parent| [&[parent], &tree[..]].concat();

@@ -20,11 +20,12 @@ fn n_and_p() {
     assert_eq!((open(0, 1), open(1, 0), open(65_535, 255)), (4, 4, 4));
 }
 
-/// Runs a day to its end: its peak, and how many tasks started.
-fn run(menu: &Menu) -> (u32, usize) {
+/// Runs a day to its end: its peak, the peak's task, and how many tasks started.
+fn run(menu: &Menu) -> (u32, u16, usize) {
     let (answer, starts, mut plan) = menu.begun();
     assert_eq!(answer.number, 0);
-    (answer.peak, finish(&mut plan, starts).len())
+    let started = finish(&mut plan, starts).len();
+    (answer.peak, answer.peak_task, started)
 }
 
 #[test]
@@ -33,7 +34,8 @@ fn a_star_of_the_largest_counts() {
     records.push((0, 65_535, 65_535));
     let peak = 1023 * 65_535 + 2 * 65_535;
     for memory_bound in [peak, u32::MAX] {
-        assert_eq!(run(&Menu::new(64, memory_bound, &records)), (peak, 1024));
+        let menu = Menu::new(64, memory_bound, &records);
+        assert_eq!(run(&menu), (peak, 1024, 1024));
     }
     let (answer, starts, plan) = Menu::new(64, u32::MAX, &records).begun();
     assert_eq!((answer.starts, starts), (64, (1..=64).collect()));
@@ -46,8 +48,7 @@ fn a_chain_of_the_largest_counts() {
     let records: Vec<_> = (1..=1024)
         .map(|task| ((task + 1) % 1025, 65_535, 65_535))
         .collect();
-    assert_eq!(
-        run(&Menu::new(64, 3 * 65_535, &records)),
-        (3 * 65_535, 1024)
-    );
+    // The first task is fed nothing; from the second on all are equal.
+    let peak = 3 * 65_535;
+    assert_eq!(run(&Menu::new(64, peak, &records)), (peak, 2, 1024));
 }

@@ -1,4 +1,4 @@
-//! The rules of document 01, and requests 01 to 06 of document 02, tried on
+//! The rules of document 01, and requests 01 to 07 of document 02, tried on
 //! this implementation.
 
 mod against_naive;
@@ -22,6 +22,13 @@ mod limits;
 mod menu;
 mod naive;
 mod one_order;
+mod peak_sums;
+mod peak_task;
+mod peak_task_astray;
+mod peak_task_days;
+mod peak_task_every;
+mod peak_task_refused;
+mod peak_ties;
 mod plan_a;
 mod plan_c;
 mod plan_text;

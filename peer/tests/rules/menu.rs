@@ -73,7 +73,7 @@ impl Menu {
         accepting(&self.commands())
     }
 
-    /// The answer to BEGIN, its starts, and the plan after it.
+    /// The answer to BEGIN, accepted or not, its starts, and the plan after it.
     pub fn begun(&self) -> (Answer, Vec<u16>, Plan) {
         let mut plan = self.given();
         let (answer, starts) = give(&mut plan, &[0x05]);
@@ -151,6 +151,14 @@ pub fn reading(stream: &[u8]) -> Plan {
     plan
 }
 
+/// A refusal with this number and nothing else.
+pub fn refused(number: u8) -> Answer {
+    Answer {
+        number,
+        ..Answer::default()
+    }
+}
+
 /// Gives one command with a start list of 64 entries.
 pub fn give(plan: &mut Plan, command: &[u8]) -> (Answer, Vec<u16>) {
     ask(plan, command, 0, 64)
@@ -180,20 +188,20 @@ pub fn finish(plan: &mut Plan, mut started: Vec<u16>) -> Vec<u16> {
     started
 }
 
-/// Gives one command. Later entries of the start list must stay untouched,
-/// and a refusal must leave every answer of the plan as it was.
+/// Gives one command. Later entries of the start list must stay untouched, an
+/// accepted BEGIN alone must answer a peak and its task, and a refusal must leave
+/// every answer of the plan as it was.
 pub fn ask(plan: &mut Plan, bytes: &[u8], place: usize, starts_len: usize) -> (Answer, Vec<u16>) {
     let before = answers(plan);
     let mut starts = vec![MARK; starts_len];
     let answer = plan.command(bytes, place, &mut starts);
     let later = starts.split_off(answer.starts);
     assert!(later.iter().all(|&entry| entry == MARK));
+    let begins = answer.number == 0 && bytes[place] == 0x05;
+    assert!(begins || answer.peak == 0);
+    assert_eq!(answer.peak_task != 0, begins);
     if answer.number != 0 {
-        let refused = Answer {
-            number: answer.number,
-            ..Answer::default()
-        };
-        assert_eq!(answer, refused);
+        assert_eq!(answer, refused(answer.number));
         assert_eq!(answers(plan), before);
     }
     (answer, starts)

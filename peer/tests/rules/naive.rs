@@ -18,6 +18,7 @@ pub struct Reply {
     pub used: usize,
     pub starts: Vec<u16>,
     pub peak: usize,
+    pub peak_task: usize,
     pub offers: usize,
 }
 
@@ -100,7 +101,7 @@ impl Naive {
                 self.execution.push(operand(0, 2));
             }
             0x05 => {
-                reply.peak = self.begin()?;
+                (reply.peak, reply.peak_task) = self.begin()?;
                 self.book_ahead();
                 reply.starts = self.start();
             }
@@ -167,18 +168,19 @@ impl Naive {
         Ok(())
     }
 
-    fn begin(&mut self) -> Result<usize, u8> {
+    /// Checks 7, 8 and 9; answers the peak and its step.
+    fn begin(&mut self) -> Result<(usize, usize), u8> {
         let roots = self.steps().filter(|&i| self.parent[i] == 0).count();
         refuse(7, roots != 1)?;
         let place = |i: usize| self.activation.iter().position(|&entry| entry == i);
         let stands_well = |i: usize| self.parent[i] == 0 || place(i) < place(self.parent[i]);
         refuse(8, !self.steps().all(stands_well))?;
-        let peak = self.peak();
+        let (peak, peak_task) = self.peak();
         refuse(9, peak > self.m)?;
         self.phase = Phase::Running;
         self.state = vec![State::Waiting; self.n + 1];
         self.booked = vec![0; self.n + 1];
-        Ok(peak)
+        Ok((peak, peak_task))
     }
 
     /// The execution order: of a plan that began without one, the activation
@@ -210,7 +212,8 @@ impl Naive {
         outs + self.work[i] + self.out[i]
     }
 
-    fn peak(&self) -> usize {
+    /// The largest sum, and the first step in the activation order that has it.
+    fn peak(&self) -> (usize, usize) {
         let while_running = |k: usize| {
             let i = self.activation[k];
             let ended = &self.activation[..k];
@@ -222,7 +225,10 @@ impl Naive {
                 .sum();
             self.need(i) + outs
         };
-        (0..self.n).map(while_running).max().unwrap()
+        let sums: Vec<usize> = (0..self.n).map(while_running).collect();
+        let peak = *sums.iter().max().unwrap();
+        let first = sums.iter().position(|&sum| sum == peak).unwrap();
+        (peak, self.activation[first])
     }
 
     /// The subtree figure: the booked trays of a step and of all below it.

@@ -13,7 +13,7 @@ pub const BYTES: &str = "
     05 06 01 00 06 02 00 06 03 00 07";
 
 pub const LINES: &str = "\
-begin peak=7 booked=6 used=6 full=857 start 1
+begin peak=7 by=2 booked=6 used=6 full=857 start 1
 done 1 offers=0 booked=7 used=7 full=1000 start 2
 done 2 offers=1 booked=3 used=3 full=428 start 3
 done 3 offers=0 booked=1 used=1 full=142 start -

@@ -10,7 +10,8 @@ fn figures(plan: &Plan) -> (u32, u32, [u32; 4]) {
 #[test]
 fn whole_day() {
     let (answer, starts, mut plan) = plan_c().begun();
-    assert_eq!((answer.peak, starts), (6, vec![1, 2]));
+    assert_eq!((answer.peak, answer.peak_task), (6, 3));
+    assert_eq!(starts, [1, 2]);
     assert_eq!(figures(&plan), (6, 6, [0, 2, 2, 0]));
 
     let (answer, starts) = done(&mut plan, 1);

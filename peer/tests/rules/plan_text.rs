@@ -178,7 +178,7 @@ fn breakfast_is_accepted_to_its_end() {
     printer::print(&to_bytes(BREAKFAST).unwrap()[..], &mut output).unwrap();
     let lines: Vec<_> = str::from_utf8(&output).unwrap().lines().collect();
     assert_eq!(lines.len(), 1 + 10 + 1);
-    assert!(lines[0].starts_with("begin peak=14 booked=16 used=10 full=1000"));
+    assert!(lines[0].starts_with("begin peak=14 by=10 booked=16 used=10 full=1000"));
     let last_two = [
         "done 10 offers=0 booked=6 used=6 full=375 start -",
         "fetch booked=0",

@@ -136,7 +136,7 @@ fn after_a_wrong_line_the_printer_s_lines_stand() {
     for line in ahead {
         typed.line(line, b"");
     }
-    let begun = b"begin peak=7 booked=6 used=6 full=857 start 1\n";
+    let begun = b"begin peak=7 by=2 booked=6 used=6 full=857 start 1\n";
     typed.line(last, begun);
     typed.line("doen 1", begun);
     let (got, status) = typed.end();

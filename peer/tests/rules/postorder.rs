@@ -40,7 +40,7 @@ fn has_each_once(records: &[Record], order: &[u16]) -> bool {
 }
 
 /// Whether each task stands before its parent in an order of all tasks.
-fn stand_before_parents(records: &[Record], order: &[u16]) -> bool {
+pub fn stand_before_parents(records: &[Record], order: &[u16]) -> bool {
     let mut stands = vec![false; records.len() + 1];
     order.iter().all(|&task| {
         stands[usize::from(task)] = true;

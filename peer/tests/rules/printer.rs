@@ -48,7 +48,7 @@ fn several_starts_have_single_spaces() {
     menu.memory_bound = 12;
     let mut stream = menu.commands().concat();
     stream.push(0x05);
-    let line = "begin peak=7 booked=12 used=12 full=1000 start 1 2\n";
+    let line = "begin peak=7 by=2 booked=12 used=12 full=1000 start 1 2\n";
     assert_eq!(printed(&stream), line);
     stream.extend(hex("06 03 00 06 01 00"));
     assert_eq!(printed(&stream), format!("{line}refused 6 at 48\n"));

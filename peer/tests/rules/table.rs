@@ -1,7 +1,7 @@
 //! The cases marked with a dagger.
 
 use crate::menu::{done, plan_a, plan_c, Menu};
-use peer::{desk_peak, needs};
+use peer::{desk_peak, needs, Answer};
 
 fn plan_a_within(memory_bound: u32) -> Menu {
     Menu {
@@ -10,24 +10,36 @@ fn plan_a_within(memory_bound: u32) -> Menu {
     }
 }
 
-/// What BEGIN answers: number, peak, starts and B.
-fn begin(menu: &Menu) -> (u8, u32, Vec<u16>, u32) {
+/// What BEGIN answers: number, peak, the peak's task, starts and B.
+fn begin(menu: &Menu) -> (u8, u32, u16, Vec<u16>, u32) {
     let (answer, starts, plan) = menu.begun();
-    (answer.number, answer.peak, starts, plan.booked())
+    let Answer {
+        number,
+        peak,
+        peak_task,
+        ..
+    } = answer;
+    (number, peak, peak_task, starts, plan.booked())
+}
+
+/// What the desk answers of the same steps: the peak and its task.
+fn desk(menu: &Menu) -> (u32, u16) {
+    let answer = desk_peak(&menu.records, &menu.activation);
+    (answer.peak, answer.peak_task)
 }
 
 #[test]
 fn the_table() {
     let (a, c) = (plan_a(), plan_c());
-    assert_eq!(desk_peak(&a.records, &a.activation).peak, 7);
-    assert_eq!(begin(&a), (0, 7, vec![1], 6));
-    assert_eq!(begin(&plan_a_within(6)), (9, 0, vec![], 0));
-    assert_eq!(begin(&plan_a_within(12)), (0, 7, vec![1, 2], 12));
-    assert_eq!(begin(&plan_a_within(11)), (0, 7, vec![1], 6));
+    assert_eq!(desk(&a), (7, 2));
+    assert_eq!(begin(&a), (0, 7, 2, vec![1], 6));
+    assert_eq!(begin(&plan_a_within(6)), (9, 0, 0, vec![], 0));
+    assert_eq!(begin(&plan_a_within(12)), (0, 7, 2, vec![1, 2], 12));
+    assert_eq!(begin(&plan_a_within(11)), (0, 7, 2, vec![1], 6));
 
     assert_eq!(needs(&c.records)[..4], [3, 3, 6, 5]);
-    assert_eq!(desk_peak(&c.records, &c.activation).peak, 6);
-    assert_eq!(begin(&c), (0, 6, vec![1, 2], 6));
+    assert_eq!(desk(&c), (6, 3));
+    assert_eq!(begin(&c), (0, 6, 3, vec![1, 2], 6));
     let (_, _, mut plan) = c.begun();
     assert_eq!(plan.standing(), [0, 2, 2, 0]);
     let (answer, starts) = done(&mut plan, 1);
@@ -40,5 +52,6 @@ fn the_table() {
     done(&mut plan, 4);
     assert_eq!(plan.booked(), 3);
 
-    assert_eq!(begin(&Menu::new(1, 0, &[(0, 0, 0)])), (0, 0, vec![1], 0));
+    let one_step = Menu::new(1, 0, &[(0, 0, 0)]);
+    assert_eq!(begin(&one_step), (0, 0, 1, vec![1], 0));
 }

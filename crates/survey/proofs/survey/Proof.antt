@@ -1,5 +1,6 @@
 -- `survey` meets its contract.
 use mathlib.Core.Path.{_≡_, sym, subst, ap, _∙_}
+use mathlib.Core.Bool.{Bool, true, false, cond}
 use Prim.Native.Nat.{ℕ}
 use native.Mathlib.Omega.{arith}
 use lib.Dec.{eqb}
@@ -7,13 +8,19 @@ use lib.ListN.{take}
 use borrow.Author.Needs.{needs}
 use borrow.Author.Tests.{eq-eqb, ne-eqb}
 use Rattle.rules.specs.Lists.{at}
-use Rattle.rules.specs.Peak.{peak}
-use Rattle.rules.proofs.Sums.{only-true, only-false}
+use Rattle.rules.specs.Peak.{Peaked, peaked, noPeak}
 use Rattle.words.specs.Contents.{contents}
 use Rattle.survey.specs.Survey.{RankedIn, orderGround, groundOf}
 use Rattle.survey.proofs.Grounds.{no-ground}
 use Rattle.survey.proofs.survey.Statement.{statement}
 use Rattle.survey.proofs.survey.Tie as tie
+
+-- a peak is told where the test holds, and none where it fails
+told : (test : Bool) (p : Peaked) → test ≡ true → cond test p noPeak ≡ p
+told test p e = rw e
+
+untold : (test : Bool) (p : Peaked) → test ≡ false → cond test p noPeak ≡ noPeak
+untold test p e = rw e
 
 cell-requires : tie.Need-cell-requires
 cell-requires c κs = search needs
@@ -41,17 +48,14 @@ returns : tie.Need-returns
 returns c =
     let number = groundOf (contents (c .before .before .before .args .plan .now)) in (
       ground-is (c .before),
-      sym (only-false (eqb number 0) _ (ne-eqb number 0 (λ e. c .if1 .taken (ground-is (c .before) ∙ e)))),
+      sym (untold (eqb number 0) _ (ne-eqb number 0 (λ e. c .if1 .taken (ground-is (c .before) ∙ e)))),
     )
 
 peak-requires : tie.Need-peak-requires
 peak-requires c κs =
     let pre = ordered (c .before .before) in
-    record {
-      parented = pre .parented;
-      offset = omega arith;
-      valid = no-ground _ _ _ _ (pre .parented) (pre .ranked) (sym (c .before .ground .ensures) ∙ c .if1 .left);
-    }
+    let fine = no-ground _ _ _ _ (pre .parented) (pre .ranked) (sym (c .before .ground .ensures) ∙ c .if1 .left) in
+    record { some = fine .0; parented = pre .parented; offset = omega arith; valid = fine .1 }
 
 returns-2 : tie.Need-returns-2
 unfolding contents
@@ -61,9 +65,9 @@ returns-2 c =
     let none : groundOf k ≡ 0 = sym (ground-is (past .before)) ∙ past .if1 .left in (
       sym none,
       c .peak .ensures
-          ∙ ap (λ (n : ℕ). peak n (at (k .parents)) (at (k .chilled .works)) (at (k .chilled .outs)) (take n (k .activation)))
+          ∙ ap (λ (n : ℕ). peaked n (at (k .parents)) (at (k .chilled .works)) (at (k .chilled .outs)) (take n (k .activation)))
           (size-is (past .before .before))
-          ∙ sym (only-true (eqb (groundOf k) 0) _ (eq-eqb (groundOf k) 0 none)),
+          ∙ sym (told (eqb (groundOf k) 0) _ (eq-eqb (groundOf k) 0 none)),
     )
 
 pub survey-spec : {M : Type 1} → statement M

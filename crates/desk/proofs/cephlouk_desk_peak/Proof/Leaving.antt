@@ -87,7 +87,7 @@ use Rattle.rules.specs.Desk.{deskAnswer, desk}
 use Rattle.words.specs.Layout.{words}
 use Rattle.desk.specs.declared.TaskRecord.{TaskRecord}
 use Rattle.desk.specs.declared.DeskAnswer.{DeskAnswer}
-use Rattle.desk.specs.Records.{stepRecords}
+use Rattle.desk.specs.Records.{stepRecords, answerOf}
 use Rattle.desk.specs.Columns.{ofTask}
 use Rattle.desk.proofs.Columns.{filled, length-filled}
 use Rattle.desk.proofs.Answers.{answers}
@@ -134,7 +134,7 @@ module _ {M : Type 1} (𝓤 : URA M) (H : Heap 𝓤) (A : Atoms 𝓤) (W : Given
 
   exits :
       (r : DeskAnswer) (u : Val) (ws : List ℕ)
-      → (desk (stepRecords ys) (now order) ≡ record { number = r .number; peak = r .peak }) × (ws ≡ replicate words 0)
+      → (desk (stepRecords ys) (now order) ≡ answerOf r) × (ws ≡ replicate words 0)
       → ent 𝓤 (⋆ 𝓤 H A (Had r u ws)) (Post u)
   exits r u ws e =
       qed W (Had r u ws) ∵
@@ -179,7 +179,7 @@ module _ {M : Type 1} (𝓤 : URA M) (H : Heap 𝓤) (A : Atoms 𝓤) (W : Given
 
     abbrev Assessed : DeskAnswer → List ℕ → Type 0
     Assessed r ws =
-        (deskAnswer n (ofTask n parents) (ofTask n works) (ofTask n outs) (now order) ≡ record { number = r .number; peak = r .peak })
+        (deskAnswer n (ofTask n parents) (ofTask n works) (ofTask n outs) (now order) ≡ answerOf r)
         × (ws ≡ replicate words 0)
 
     -- what is bound of its parameters at its end: the last words, and nothing of the others

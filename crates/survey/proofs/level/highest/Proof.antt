@@ -1,6 +1,6 @@
--- `highest` meets its contract: the level and the largest sum are those of the tasks that have run.
-use mathlib.Core.Path.{_≡_, sym, ap, _∙_}
-use Prim.Native.Nat.{_-_, _*_, _^_, _≤_, max}
+-- `highest` meets its contract: the level, and the largest sum with its task, are those of the tasks that have run.
+use mathlib.Core.Path.{_≡_, sym, _∙_}
+use Prim.Native.Nat.{_-_, _*_, _^_, _≤_}
 use native.Mathlib.Omega.{arith}
 use lib.ListN.{length}
 use Rattle.rules.specs.Sums.{Task}
@@ -10,25 +10,23 @@ use Rattle.rules.specs.Need.{children}
 use Rattle.rules.proofs.Peaks.{kept}
 use Rattle.words.specs.Contents.{contents, storeContents}
 use Rattle.words.proofs.Contents.{lengths}
+use Rattle.survey.specs.Level.{meant}
 use Rattle.survey.proofs.Reading.{activation-at}
 use Rattle.survey.proofs.Running.{RunSoFar, ran-none, ran-task, ran-next, ran-all, ran-enough}
 use Rattle.survey.proofs.level.highest.Statement.{statement}
 use Rattle.survey.proofs.level.highest.Tie as tie
 
 abbrev Inv-loop : tie.InvT-loop
-Inv-loop plan store n fed best₀ level₀ k₀ best level k =
+Inv-loop plan store n fed first best₀ level₀ k₀ best level k =
     RunSoFar n (at (contents plan .parents)) (at (storeContents store plan .works)) (at (storeContents store plan .outs))
-    (contents plan .activation) k level best
+    (contents plan .activation) k level (meant best)
 
 abbrev μ-loop : tie.MeasureT-loop
-μ-loop plan store n fed best₀ level₀ k₀ best level k = n - k
-
-loop-holds : tie.Need-loop-holds Inv-loop μ-loop
-loop-holds c = ran-none _ _ _ _ _
+μ-loop plan store n fed first best₀ level₀ k₀ best level k = n - k
 
 -- where the function starts, and what it asks
-abbrev start : tie.After-entry Inv-loop μ-loop → tie.Start Inv-loop μ-loop
-start c = c .before .before .before
+abbrev start : tie.After-entry2 Inv-loop μ-loop → tie.Start Inv-loop μ-loop
+start c = c .before .before .before .before
 
 -- the order has an entry for each task
 long : (c : tie.Start Inv-loop μ-loop) → (c .args .n ≤ maxTasks) × (c .args .n ≤ length (contents (c .args .plan .now) .activation))
@@ -38,19 +36,39 @@ long c =
     (small, omega arith)
 
 entry-requires : tie.Need-entry-requires Inv-loop μ-loop
-entry-requires c κs = omega (arith, long (c .before .before))
+entry-requires c κs = omega arith
+
+-- the first entry of the order, which is a task
+first-is :
+    (c : tie.After-entry Inv-loop μ-loop) → c .entry .result ≡ at (contents (c .before .args .plan .now) .activation) 0
+first-is c = c .entry .ensures ∙ activation-at _ _ (omega arith)
+
+cast-first : tie.Need-cast-first Inv-loop μ-loop
+cast-first c =
+    let some = c .before .pre .order .some in
+    omega (
+      arith,
+      long (c .before),
+      ran-task _ _ _ (c .before .pre .order .valid) (long (c .before) .1) 0 (omega arith) _ (sym (first-is c)),
+    )
+
+loop-holds : tie.Need-loop-holds Inv-loop μ-loop
+loop-holds c = ran-none _ _ _ _ _ _ (c .before .pre .order .some) (long (c .before) .1) (sym (first-is c))
+
+entry-requires-2 : tie.Need-entry-requires-2 Inv-loop μ-loop
+entry-requires-2 c κs = omega (arith, long (c .before .before .before))
 
 -- the word read is the entry of the order, which is a task
 entry-is :
-    (c : tie.After-entry Inv-loop μ-loop)
-    → c .entry .result ≡ at (contents (start c .args .plan .now) .activation) (c .before .before .loop .k)
-entry-is c = let small = long (start c) in c .entry .ensures ∙ activation-at _ _ (omega arith)
+    (c : tie.After-entry2 Inv-loop μ-loop)
+    → c .entry2 .result ≡ at (contents (start c .args .plan .now) .activation) (c .before .before .loop .k)
+entry-is c = let small = long (start c) in c .entry2 .ensures ∙ activation-at _ _ (omega arith)
 
-task : (c : tie.After-entry Inv-loop μ-loop) → Task (start c .args .n) (c .entry .result)
+task : (c : tie.After-entry2 Inv-loop μ-loop) → Task (start c .args .n) (c .entry2 .result)
 task c = ran-task _ _ _ (start c .pre .order .valid) (long (start c) .1) _ (omega arith) _ (sym (entry-is c))
 
 -- the level is far from the end of its numbers
-low : (c : tie.After-entry Inv-loop μ-loop) → c .before .before .loop .level ≤ maxTasks * 2 ^ 32
+low : (c : tie.After-entry2 Inv-loop μ-loop) → c .before .before .loop .level ≤ maxTasks * 2 ^ 32
 low c =
     let small = long (start c) .0 in
     let fits = c .before .before .loop .inv .fits in
@@ -66,8 +84,11 @@ sum-requires c κs =
     let level = low c in
     (record { offset = start c .pre .order .offset; task-in = omega arith }, omega arith)
 
-larger-requires : tie.Need-larger-requires Inv-loop μ-loop
-larger-requires c κs = tt
+cast-highest-of : tie.Need-cast-highest-of Inv-loop μ-loop
+cast-highest-of c = let read = c .before in omega (arith, task read, long (start read))
+
+highest-of-requires : tie.Need-highest-of-requires Inv-loop μ-loop
+highest-of-requires c κs = tt
 
 kept-out-requires : tie.Need-kept-out-requires Inv-loop μ-loop
 kept-out-requires c κs =
@@ -87,11 +108,11 @@ element-copy-out-level c = let read = c .before .before .before in omega (arith,
 
 -- what the children of the task left
 taken :
-    (c : tie.After-entry Inv-loop μ-loop)
-    → at (start c .args .fed .now) (c .entry .result)
+    (c : tie.After-entry2 Inv-loop μ-loop)
+    → at (start c .args .fed .now) (c .entry2 .result)
     ≡ children (start c .args .n) (at (contents (start c .args .plan .now) .parents))
-    (at (storeContents (start c .args .store) (start c .args .plan .now) .outs)) (c .entry .result)
-taken c = start c .pre .sums (c .entry .result) (task c .high)
+    (at (storeContents (start c .args .store) (start c .args .plan .now) .outs)) (c .entry2 .result)
+taken c = start c .pre .sums (c .entry2 .result) (task c .high)
 
 sub-level : tie.Need-sub-level Inv-loop μ-loop
 unfolding kept
@@ -115,13 +136,13 @@ loop-again : tie.Need-loop-again Inv-loop μ-loop
 unfolding kept
 loop-again c =
     let read = c .before .before .before .before in
-    ran-next _ _ _ (start read .pre .order .valid) (long (start read) .1) _ (omega arith) _ _ _ _ (read .before .before .loop .inv) _ _ _ _
+    ran-next _ _ _ (start read .pre .order .valid) (long (start read) .1) _ (omega arith) _ _ _ _ (read .before .before .loop .inv) _ _ _ _ _
     (sym (entry-is read)) (c .before .kept-out .ensures .0) (c .before .kept-out .ensures .1) (taken read)
-    (c .before .before .larger .ensures ∙ ap (max _) (c .before .before .before .sum .ensures))
+    (c .before .before .before .sum .ensures) (c .before .before .highest-of .ensures)
 
 returns : tie.Need-returns Inv-loop μ-loop
 returns c =
-    let start = c .before .before in
+    let start = c .before .before .before in
     ran-all _ _ _ (start .pre .order .valid) (long start .1) _ _ _ _ _ (c .before .loop .inv) (omega arith)
 
 pub highest-spec : {M : Type 1} → statement M
@@ -130,11 +151,14 @@ highest-spec =
     (tie.spec
     Inv-loop
     μ-loop
-    loop-holds
     entry-requires
+    cast-first
+    loop-holds
+    entry-requires-2
     cast-x
     sum-requires
-    larger-requires
+    cast-highest-of
+    highest-of-requires
     kept-out-requires
     add-level
     mul-level
