@@ -38,13 +38,14 @@ static const struct form forms[] = {
     {"begin", "begin", 0, CEPHLOUK_BEGIN, {{NULL, 0}}},
     {"done", "done N ...", 1, CEPHLOUK_DONE, {{NULL, 2}}},
     {"fetch", "fetch", 0, CEPHLOUK_FETCH, {{NULL, 0}}},
+    {"places", "places N", 0, CEPHLOUK_PLACES, {{NULL, 4}}},
     {NULL, NULL, 0, 0, {{NULL, 0}}},
 };
 
 static const char *const grounds[] = {
     "", "cut short", "no such command", "not in turn", "a number outside its limits", "already in that order", "that step is not running",
-    "not exactly one last step", "a step ahead of one that feeds it", "more places needed than there are", "too short a start list",
-    "too short a list", "a step that leads to no last step",
+    "not exactly one last step", "a step ahead of one that feeds it", "fewer places than the peak", "too short a start list",
+    "too short a list", "a step that leads to no last step", "fewer places than trays are booked",
 };
 
 static const char *const phases[] = {"empty", "steps missing", "orders", "running", "over", "ready"};
@@ -72,7 +73,7 @@ static void give(uint32_t *plan, const uint8_t *command, size_t length)
         return;
     if (command[0] == CEPHLOUK_BEGIN)
         printf("peak %lu by step %d, ", (unsigned long)answer.peak, answer.by);
-    if (command[0] == CEPHLOUK_BEGIN || command[0] == CEPHLOUK_DONE) {
+    if (command[0] == CEPHLOUK_BEGIN || command[0] == CEPHLOUK_DONE || command[0] == CEPHLOUK_PLACES) {
         printf("start");
         for (size_t k = 0; k < answer.starts; k++)
             printf(" %d", starts[k]);

@@ -41,24 +41,26 @@ enum {
     CEPHLOUK_EXECUTION = 0x04,  /* step (2): the next in the execution order: n of them, or none at all */
     CEPHLOUK_BEGIN = 0x05,      /* no operands: the day begins; where no 04 was given, the activation order is used for both */
     CEPHLOUK_DONE = 0x06,       /* step (2): this step has ended */
-    CEPHLOUK_FETCH = 0x07       /* no operands: the trolley is fetched, and the out of the last step is free */
+    CEPHLOUK_FETCH = 0x07,      /* no operands: the trolley is fetched, and the out of the last step is free */
+    CEPHLOUK_PLACES = 0x08      /* M (4): from now on the cold room has these places; in turn while the day runs */
 };
 
 /* The number of an answer. */
 enum {
     CEPHLOUK_ACCEPTED = 0,
-    CEPHLOUK_CUT_SHORT = 1,        /* no byte is left at the place, or operands are cut short */
-    CEPHLOUK_UNKNOWN_BYTE = 2,     /* the byte is none of 01 to 07 */
-    CEPHLOUK_OUT_OF_TURN = 3,      /* the command, or what the plan is asked, is not in turn */
-    CEPHLOUK_OUTSIDE_LIMITS = 4,   /* n, p, a parent or a step number is outside its limits */
-    CEPHLOUK_REPEATED = 5,         /* the step is already in that order */
-    CEPHLOUK_NOT_RUNNING = 6,      /* DONE for a step that is not running */
-    CEPHLOUK_NOT_ONE_ROOT = 7,     /* BEGIN, and an order that is to be found: the steps with parent 0 are not exactly one */
-    CEPHLOUK_PARENT_FIRST = 8,     /* BEGIN: some step does not stand before its parent in the activation order */
-    CEPHLOUK_PEAK_ABOVE_BOUND = 9, /* BEGIN: one step after another already needs more places than there are */
-    CEPHLOUK_FEW_STARTS = 10,      /* the start list has fewer than CEPHLOUK_LEAST_STARTS entries */
-    CEPHLOUK_SHORT_LIST = 11,      /* the lent list is too short for what is to be written */
-    CEPHLOUK_ROOT_UNREACHED = 12   /* an order that is to be found: the chain of parents of some step never reaches the one with parent 0 */
+    CEPHLOUK_CUT_SHORT = 1,          /* no byte is left at the place, or operands are cut short */
+    CEPHLOUK_UNKNOWN_BYTE = 2,       /* the byte is none of 01 to 08 */
+    CEPHLOUK_OUT_OF_TURN = 3,        /* the command, or what the plan is asked, is not in turn */
+    CEPHLOUK_OUTSIDE_LIMITS = 4,     /* n, p, a parent or a step number is outside its limits */
+    CEPHLOUK_REPEATED = 5,           /* the step is already in that order */
+    CEPHLOUK_NOT_RUNNING = 6,        /* DONE for a step that is not running */
+    CEPHLOUK_NOT_ONE_ROOT = 7,       /* BEGIN, and an order that is to be found: the steps with parent 0 are not exactly one */
+    CEPHLOUK_PARENT_FIRST = 8,       /* BEGIN: some step does not stand before its parent in the activation order */
+    CEPHLOUK_PEAK_ABOVE_BOUND = 9,   /* BEGIN and 08: fewer places than the peak, which one step after another needs */
+    CEPHLOUK_FEW_STARTS = 10,        /* the start list has fewer than CEPHLOUK_LEAST_STARTS entries */
+    CEPHLOUK_SHORT_LIST = 11,        /* the lent list is too short for what is to be written */
+    CEPHLOUK_ROOT_UNREACHED = 12,    /* an order that is to be found: some step's chain of parents never reaches the one with parent 0 */
+    CEPHLOUK_BOUND_BELOW_BOOKED = 13 /* 08: fewer places are given than trays are booked */
 };
 
 /* The phases of a plan. */
@@ -117,7 +119,7 @@ size_t cephlouk_plan_words(void);
 void cephlouk_empty(uint32_t *plan);
 
 /* Gives a plan the command at `place` of `length` bytes, which are only read, with a start list of `room` entries. A place at or behind
-   the end is a place with no byte. An accepted BEGIN or DONE writes the steps that start to the front of the start list and touches no
+   the end is a place with no byte. An accepted BEGIN, DONE or 08 writes the steps that start to the front of the start list and touches no
    later entry; all other commands leave the list as it was. A refusal leaves the list and every word of the plan as they were. */
 struct cephlouk_answer cephlouk_command(uint32_t *plan, const uint8_t *bytes, size_t length, size_t place, uint16_t *starts, size_t room);
 
@@ -134,10 +136,10 @@ struct cephlouk_reason cephlouk_why(const uint32_t *plan, uint16_t task); /* why
 uint32_t cephlouk_fullness_of(uint32_t booked, uint32_t places);
 
 /* Writes what was given of a plan back out, to the front of a list of `length` bytes: PLAN, the steps, the activation order and the
-   execution order, without BEGIN. OUT_OF_TURN until both orders are complete; then SHORT_LIST where the list has fewer than 8 bytes and 13
-   for each step. From BEGIN on an execution order that was left out is complete, with the entries of the activation order. Bytes behind
-   those written are not touched, and a refusal touches none. The same plan gives the same bytes, however its orders came, and
-   cephlouk_command on them restores it in an empty plan. */
+   execution order, without BEGIN; M is the one in force, that of the last 08. OUT_OF_TURN until both orders are complete; then
+   SHORT_LIST where the list has fewer than 8 bytes and 13 for each step. From BEGIN on an execution order that was left out is complete,
+   with the entries of the activation order. Bytes behind those written are not touched, and a refusal touches none. The same plan gives
+   the same bytes, however its orders came, and cephlouk_command on them restores it in an empty plan. */
 struct cephlouk_wrote cephlouk_write(const uint32_t *plan, uint8_t *list, size_t length);
 
 /* Finds a good activation order from the steps alone, whatever orders were given, and writes its step numbers to the front of a list of

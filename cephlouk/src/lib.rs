@@ -16,6 +16,7 @@
 //! | 05 | none | BEGIN: the day begins; where no 04 was given, the activation order is used for both |
 //! | 06 | step (2) | DONE: this step has ended |
 //! | 07 | none | FETCH: the trolley is fetched, and the out of the last step is free |
+//! | 08 | M (4) | while the day runs: from now on the cold room has M tray places |
 //!
 //! Two salads go into one bowl, and the cold room has 7 places:
 //!
@@ -42,7 +43,15 @@
 //! assert_eq!(plan.why(2), Ok(Reason::NotBooked { first: 2, lack: 5 }));
 //! assert_eq!(plan.command(&[0x06, 2, 0]), Err(Refusal::NotRunning));
 //!
-//! assert_eq!(plan.command(&[0x06, 1, 0])?.starts, [2]);
+//! // With a shelf more it starts at once. The shelf cannot go while it is booked,
+//! // nor may there ever be fewer places than the peak.
+//! assert_eq!(plan.command(&[0x08, 12, 0, 0, 0])?.starts, [2]);
+//! assert_eq!(plan.command(&[0x08, 11, 0, 0, 0]), Err(Refusal::BoundBelowBooked));
+//! assert_eq!(plan.command(&[0x08, 6, 0, 0, 0]), Err(Refusal::PeakAboveBound));
+//!
+//! assert_eq!(plan.command(&[0x06, 1, 0])?.starts, []);
+//! assert_eq!(plan.command(&[0x08, 7, 0, 0, 0])?.starts, []); // the shelf is out again
+//! assert_eq!(plan.fullness(), 1000);
 //! assert_eq!(plan.command(&[0x06, 2, 0])?.starts, [3]);
 //! assert_eq!(plan.command(&[0x06, 3, 0])?.starts, []);
 //!

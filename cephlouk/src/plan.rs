@@ -173,13 +173,13 @@ impl Plan {
         unsafe { exported::cephlouk_why(self.words.as_ptr(), step) }.told()
     }
 
-    /// Writes what was given of it back out, to the front of a list of bytes:
-    /// PLAN, the steps, the activation order and the execution order, without
-    /// BEGIN. The answer is how many bytes were written; later ones are not
-    /// touched. Refused out of turn until both orders are complete, then where
-    /// the list has fewer than 8 bytes and 13 for each step; a refusal touches
-    /// no byte. An execution order that is left out is complete from BEGIN on,
-    /// with the entries of the activation order.
+    /// Writes what was given of it back out, to the front of a list of bytes: PLAN,
+    /// the steps, the activation order and the execution order, without BEGIN; M is
+    /// the one in force, that of the last 08. The answer is how many bytes were
+    /// written; later ones are not touched. Refused out of turn until both orders
+    /// are complete, then where the list has fewer than 8 bytes and 13 for each
+    /// step; a refusal touches no byte. An execution order that is left out is
+    /// complete from BEGIN on, with the entries of the activation order.
     ///
     /// However the orders came, the same plan gives the same bytes, and reading
     /// them into an empty plan restores it:

@@ -19,7 +19,7 @@ use std::fmt::{Display, Formatter, Result};
 pub enum Refusal {
     /// No byte is left at the place, or operands are cut short.
     CutShort = 1,
-    /// The byte is none of 01 to 07.
+    /// The byte is none of 01 to 08.
     UnknownByte = 2,
     /// The command, or what the plan is asked, is not in turn: the question why
     /// a step is not starting outside running, writing a plan until both its
@@ -36,7 +36,8 @@ pub enum Refusal {
     NotOneRoot = 7,
     /// Some step does not stand before its parent in the activation order.
     ParentFirst = 8,
-    /// One step after another already needs more tray places than there are.
+    /// BEGIN, and 08: there are fewer tray places than the peak, which one step
+    /// after another needs.
     PeakAboveBound = 9,
     /// The start list has fewer than 64 entries; only
     /// [`Plan::command_with`](crate::Plan::command_with) can meet it.
@@ -46,11 +47,13 @@ pub enum Refusal {
     /// No order can be found: some step's chain of parents never reaches the
     /// root, the step with parent 0.
     RootUnreached = 12,
+    /// 08: fewer tray places are given than trays are booked.
+    BoundBelowBooked = 13,
 }
 
 impl Refusal {
     /// All of them, by their numbers.
-    const ALL: [Refusal; 12] = [
+    const ALL: [Refusal; 13] = [
         Refusal::CutShort,
         Refusal::UnknownByte,
         Refusal::OutOfTurn,
@@ -63,9 +66,10 @@ impl Refusal {
         Refusal::FewStarts,
         Refusal::ShortList,
         Refusal::RootUnreached,
+        Refusal::BoundBelowBooked,
     ];
 
-    /// Its number, 1 to 12.
+    /// Its number, 1 to 13.
     pub fn number(self) -> u8 {
         self as u8
     }
@@ -98,6 +102,7 @@ impl Display for Refusal {
             Refusal::FewStarts => "the start list has fewer than 64 entries",
             Refusal::ShortList => "the list is too short for what is to be written",
             Refusal::RootUnreached => "some step's chain of parents never reaches the root",
+            Refusal::BoundBelowBooked => "the tray places are fewer than the trays booked",
         })
     }
 }

@@ -2,7 +2,7 @@
 //! 1,000,000 from seed 0 on unless it says otherwise. Both keep the same plans,
 //! several at once, and get the same askings; they must give the same answers,
 //! leave the same start lists and answer every question alike. Many askings must
-//! come to every kind of day.
+//! come to every kind of day and of 08.
 
 use compare::turns::{compare, OPEN};
 use std::process::ExitCode;
@@ -17,7 +17,7 @@ fn main() -> ExitCode {
         Ok(tally) => {
             println!("match: {OPEN} plans open at once, the same answers to {tally}");
             if tally.lacks_a_kind() {
-                println!("match: a kind of day did not come; take more askings, or another seed");
+                println!("match: a kind came too seldom; take more askings, or another seed");
                 return ExitCode::FAILURE;
             }
             ExitCode::SUCCESS

@@ -9,12 +9,11 @@ use compare::readings::{print_readings, TOGETHER};
 use compare::table::{print_table, Extremes, Pair, LARGEST};
 use compare::trees::{print_orders, STARS};
 use std::hint::black_box;
-use std::ops::Range;
 
 /// About so many tasks have the copies of a plan that are timed together.
 const TASKS_TOGETHER: usize = 512;
-/// So many copies of a plan are fetched together, whatever their tasks.
-const FETCHED_TOGETHER: usize = 8;
+/// So many copies of a plan get FETCH or 08 together, whatever their tasks.
+const COPIES_TOGETHER: usize = 8;
 /// The nanoseconds of a millisecond.
 const MILLISECOND: f64 = 1e6;
 
@@ -24,6 +23,7 @@ fn main() {
     let begin = print_table("BEGIN, divided by n", begin);
     let one_order = print_table("BEGIN without 04, divided by n", begin_with_one_order);
     let fetch = print_table("FETCH", fetch);
+    let bound = print_table("08 with the same M", same_bound);
     let setup = print_table("PLAN, STEP, 03 and 04", setup);
     let why = print_table("Why a step is not starting", why);
     let write = print_table("A plan written out, divided by n", write);
@@ -32,7 +32,7 @@ fn main() {
     let programs = programs::times();
     print_aims(
         [done, begin, setup],
-        [&one_order, &fetch, &why, &write, &orders],
+        [&one_order, &fetch, &bound, &why, &write, &orders],
         readings,
         programs,
     );
@@ -44,9 +44,10 @@ fn print_notes() {
         "- Nanoseconds per command, of BEGIN per step of the plan, by the proved library through its exported function and by the peer, which gets the same \
          bytes in the same process. Both are built for release.\n\
          - A sample gives all commands of one kind to fresh copies of a plan that was led up to them: all reports of a day, its \
-         BEGIN, with 04 and without, its FETCH, or all commands ahead of BEGIN, these on a plan whose day is over. The copies, 8 at 64 steps, 2 at \
-         256 and 1 at 1,024, of FETCH {FETCHED_TOGETHER} each, are made before the time is taken. It is the time for which the thread had a \
-         processor, less that of a look at the clock. The two sides take turns, and a figure is the median of {SAMPLES} samples.\n\
+         BEGIN, with 04 and without, its FETCH, an 08 with the same M once half of the reports came, or all commands ahead of BEGIN, these on a \
+         plan whose day is over. The copies, 8 at 64 steps, 2 at 256 and 1 at 1,024, of FETCH and 08 {COPIES_TOGETHER} each, are made before the \
+         time is taken. It is the time for which the thread had a processor, less that of a look at the clock. The two sides take turns, and a figure \
+         is the median of {SAMPLES} samples.\n\
          - Parents have lower numbers than their children, the activation order falls and the execution order is mixed; works \
          and outs are 0 to 20; any running step ends next.\n\
          - Why a step is not starting is asked of every step once half of the reports came; the figure is that of one asking. The \
@@ -62,31 +63,37 @@ fn print_notes() {
 fn reports(day: &Day) -> Pair {
     let places = day.reports();
     let led_to = places.start;
-    pair(day, places, led_to, day.tasks)
+    pair(day, &day.bytes[places], led_to, day.tasks)
 }
 
 /// BEGIN, as much of it as goes to one task.
 fn begin(day: &Day) -> Pair {
     let places = day.begin();
     let led_to = places.start;
-    pair(day, places, led_to, day.tasks)
+    pair(day, &day.bytes[places], led_to, day.tasks)
 }
 
 /// The same where no 04 was given.
 fn begin_with_one_order(day: &Day) -> Pair {
-    pair(day, day.begin(), day.activated(), day.tasks)
+    pair(day, &day.bytes[day.begin()], day.activated(), day.tasks)
 }
 
 /// FETCH.
 fn fetch(day: &Day) -> Pair {
     let places = day.fetch();
     let led_to = places.start;
-    pair_of_copies(day, places, led_to, FETCHED_TOGETHER)
+    pair_of_copies(day, &day.bytes[places], led_to, COPIES_TOGETHER)
+}
+
+/// 08 halfway through the day, with the bound in force, which is always taken.
+fn same_bound(day: &Day) -> Pair {
+    pair_of_copies(day, &day.same_bound(), day.halfway(), COPIES_TOGETHER)
 }
 
 /// A command ahead of BEGIN.
 fn setup(day: &Day) -> Pair {
-    pair(day, day.setup(), day.bytes.len(), 1 + 3 * day.tasks)
+    let commands = &day.bytes[day.setup()];
+    pair(day, commands, day.bytes.len(), 1 + 3 * day.tasks)
 }
 
 /// An asking why a task is not starting: the mean of all tasks, halfway
@@ -130,20 +137,20 @@ fn write(day: &Day) -> Pair {
     times.map(|time| time / day.tasks as f64)
 }
 
-/// A command of those at some places, on a plan that was led to a place.
-fn pair(day: &Day, places: Range<usize>, led_to: usize, commands: usize) -> Pair {
+/// One of so many parts of some commands, on a plan that was led to a place.
+fn pair(day: &Day, commands: &[u8], led_to: usize, parts: usize) -> Pair {
     let copies = (TASKS_TOGETHER / day.tasks).max(1);
-    let times = pair_of_copies(day, places, led_to, copies);
-    times.map(|time| time / commands as f64)
+    let times = pair_of_copies(day, commands, led_to, copies);
+    times.map(|time| time / parts as f64)
 }
 
-/// All commands at some places, on one of so many copies of such a plan.
-fn pair_of_copies(day: &Day, places: Range<usize>, led_to: usize, copies: usize) -> Pair {
+/// All of some commands, on one of so many copies of such a plan.
+fn pair_of_copies(day: &Day, commands: &[u8], led_to: usize, copies: usize) -> Pair {
     let proved = day.led(cephlouk::Plan::new(), led_to);
     let peer = day.led(peer::Plan::new(), led_to);
     let times = medians([
-        &mut Batch::new(day, places.clone(), proved, copies),
-        &mut Batch::new(day, places, peer, copies),
+        &mut Batch::new(commands, proved, copies),
+        &mut Batch::new(commands, peer, copies),
     ]);
     times.map(|time| time / copies as f64)
 }
@@ -151,7 +158,7 @@ fn pair_of_copies(day: &Day, places: Range<usize>, led_to: usize, copies: usize)
 /// What is aimed at, and what was measured.
 fn print_aims(
     [done, begin, setup]: [Extremes; 3],
-    [one_order, fetch, why, write, orders]: [&Extremes; 5],
+    [one_order, fetch, bound, why, write, orders]: [&Extremes; 6],
     [least, most]: [f64; 2],
     [printer, peer]: [[f64; 2]; 2],
 ) {
@@ -170,6 +177,7 @@ fn print_aims(
     println!("| BEGIN | at most 1.1 | {} |", ratio(&begin));
     println!("| BEGIN without 04 | at most 1.1 | {} |", ratio(one_order));
     println!("| FETCH | – | {} |", ratio(fetch));
+    println!("| 08 | – | {} |", ratio(bound));
     println!(
         "| PLAN, STEP, 03 and 04 | at most 0.8 | {} |",
         ratio(&setup)

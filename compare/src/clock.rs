@@ -1,10 +1,8 @@
 //! Timed runs.
 
-use crate::day::Day;
-use crate::kept::Kept;
+use crate::kept::{give, Kept};
 use cephlouk::Plan;
 use std::hint::black_box;
-use std::ops::Range;
 
 /// How many samples a median is taken of.
 pub const SAMPLES: usize = 501;
@@ -49,10 +47,9 @@ fn median(mut samples: Vec<f64>) -> f64 {
     samples[samples.len() / 2]
 }
 
-/// Some commands of a day, each time on new copies of a plan.
+/// Some commands, each time on new copies of a plan.
 pub struct Batch<'a, P> {
-    day: &'a Day,
-    places: Range<usize>,
+    commands: &'a [u8],
     prepared: P,
     plans: Vec<P>,
     starts: [u16; Plan::LEAST_STARTS],
@@ -60,10 +57,9 @@ pub struct Batch<'a, P> {
 
 impl<'a, P: Kept + Clone> Batch<'a, P> {
     /// So many copies of a plan.
-    pub fn new(day: &'a Day, places: Range<usize>, prepared: P, copies: usize) -> Batch<'a, P> {
+    pub fn new(commands: &'a [u8], prepared: P, copies: usize) -> Batch<'a, P> {
         Batch {
-            day,
-            places,
+            commands,
             plans: vec![prepared.clone(); copies],
             prepared,
             starts: [0; Plan::LEAST_STARTS],
@@ -80,7 +76,12 @@ impl<P: Kept + Clone> Timed for Batch<'_, P> {
 
     fn run(&mut self) {
         for plan in &mut self.plans {
-            self.day.run(self.places.clone(), plan, &mut self.starts);
+            give(
+                plan,
+                self.commands,
+                0..self.commands.len(),
+                &mut self.starts,
+            );
             black_box(&self.starts);
         }
     }

@@ -2,6 +2,7 @@
 
 use crate::kept::{give, Kept};
 use crate::records::{any_count, records};
+use crate::tool::bounds;
 use peer::generate::{encode, Random, Shape};
 use peer::{desk_peak, Command, Plan};
 use std::ops::Range;
@@ -61,6 +62,11 @@ impl Day {
     pub fn halfway(&self) -> usize {
         let report = encode(Command::Done(1)).len();
         self.reports().start + self.tasks / 2 * report
+    }
+
+    /// 08 with the bound that PLAN gave.
+    pub fn same_bound(&self) -> Vec<u8> {
+        encode(Command::Places(bounds(&self.bytes)[0]))
     }
 
     /// A plan with all commands up to a place.

@@ -1,6 +1,7 @@
 //! A plan that is kept and asked: the proved one, and the peer's.
 
 use cephlouk::{Answer, Phase, Refusal, Standing};
+use peer::{decode, Command};
 use std::ops::Range;
 
 /// What a plan is asked, whoever has it.
@@ -14,6 +15,9 @@ pub trait Kept {
     /// The number that an order is refused with where there is no list for it:
     /// 3, 7, 12 or 11.
     fn order_refusal(&self) -> u8;
+
+    /// M, the bound in force, by what it writes out; both orders are complete.
+    fn bound(&self) -> u32;
 
     /// All that it keeps: a refusal leaves every word as it was.
     fn words(&self) -> &[u32];
@@ -64,12 +68,26 @@ impl Kept for cephlouk::Plan {
         self.find_order_with(&mut []).number
     }
 
+    fn bound(&self) -> u32 {
+        let mut written = vec![0; cephlouk::Plan::MOST_BYTES];
+        self.write(&mut written).expect("a written plan");
+        written_bound(&written)
+    }
+
     fn words(&self) -> &[u32] {
         cephlouk::Plan::words(self)
     }
 
     fn clear(&mut self) {
         cephlouk::Plan::clear(self);
+    }
+}
+
+/// M of a plan that is written out.
+fn written_bound(written: &[u8]) -> u32 {
+    match decode(written, 0) {
+        Ok((Command::Plan { memory_bound, .. }, _)) => memory_bound,
+        other => unreachable!("a plan is written with {other:?} first"),
     }
 }
 
@@ -118,6 +136,12 @@ impl Kept for peer::Plan {
 
     fn order_refusal(&self) -> u8 {
         self.find_order(&mut []).number
+    }
+
+    fn bound(&self) -> u32 {
+        let mut written = vec![0; peer::Plan::WRITTEN];
+        self.write(&mut written);
+        written_bound(&written)
     }
 
     fn words(&self) -> &[u32] {

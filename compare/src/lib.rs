@@ -1,11 +1,14 @@
 //! What the comparisons share: inputs, both sides of each, and how a
 //! difference is told.
 
+pub mod answered;
+pub mod bounds;
 pub mod clock;
 pub mod day;
 pub mod feeding;
 pub mod fence;
 pub mod kept;
+pub mod kinds;
 pub mod lists;
 #[cfg(test)]
 mod order_kinds;
@@ -23,5 +26,7 @@ pub mod streams;
 pub mod table;
 pub mod tally;
 pub mod tool;
+#[cfg(test)]
+mod tool_kinds;
 pub mod trees;
 pub mod turns;

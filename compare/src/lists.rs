@@ -3,7 +3,7 @@
 
 use crate::tool::{last_plan, Tool};
 use peer::generate::Random;
-use peer::{Command, Record};
+use peer::{Command, Plan, Record};
 
 /// What the desk is asked. Both lists are only read.
 #[derive(Clone, Debug, PartialEq)]
@@ -54,6 +54,13 @@ pub fn of_commands(commands: &[u8]) -> Lists {
         }
     }
     given
+}
+
+/// Those of a plan whose orders are both complete.
+pub fn of_plan(plan: &Plan) -> Lists {
+    let mut written = vec![0; Plan::WRITTEN];
+    let count = plan.write(&mut written).count;
+    of_commands(&written[..count])
 }
 
 /// Lists with no flaw put into them in one case of three.

@@ -1,85 +1,23 @@
 //! The kinds of cases in which an order is asked for. Each of them must come.
 
+use crate::kinds::{Kind, OfKinds};
 use crate::orders::FindOrder;
-use crate::tool::{compare, last_plan, led, Tool};
+use crate::tool::{last_plan, led};
+use crate::tool_kinds::of_tool;
 use peer::generate::encode;
 use peer::{Command, Phase, Plan, Record};
-use std::cell::RefCell;
 use std::collections::BTreeSet;
 use std::iter::successors;
 
 /// Among so many cases there are several of each kind.
 const CASES: u64 = 10_000;
 
-/// A kind, and whether a case is of it.
-type Kind = (&'static str, fn(&Case) -> bool);
-
-const KINDS: [Kind; 24] = [
-    ("3 in empty", |case| case.answers_in(3, Phase::Empty)),
-    ("3 in steps", |case| case.answers_in(3, Phase::Steps)),
-    ("0 in orders", |case| case.answers_in(0, Phase::Orders)),
-    ("0 in running", |case| case.answers_in(0, Phase::Running)),
-    ("0 in ready", |case| case.answers_in(0, Phase::Ready)),
-    ("0 in over", |case| case.answers_in(0, Phase::Over)),
-    ("0 behind an earlier plan", |case| {
-        case.number == 0 && case.is_later
-    }),
-    ("a list of n - 1", |case| case.answers_with(11, -1)),
-    ("a list of n", |case| case.answers_with(0, 0)),
-    ("a list of n + 1", |case| case.answers_with(0, 1)),
-    ("a list of n - 1, n = 1,024", |case| {
-        case.is_largest() && case.answers_with(11, -1)
-    }),
-    ("a list of n, n = 1,024", |case| {
-        case.is_largest() && case.answers_with(0, 0)
-    }),
-    ("a list of n + 1, n = 1,024", |case| {
-        case.is_largest() && case.answers_with(0, 1)
-    }),
-    ("a list whose length takes more than 16 bits", |case| {
-        case.number == 0 && case.lent.len() > u16::MAX.into()
-    }),
-    ("7, no root", |case| case.number == 7 && case.roots() == 0),
-    ("7, several roots", |case| {
-        case.number == 7 && case.roots() > 1 && !case.has_cycle()
-    }),
-    ("7, several roots and a cycle", |case| {
-        case.number == 7 && case.roots() > 1 && case.has_cycle()
-    }),
-    ("7, a short list", |case| {
-        case.number == 7 && case.spare() < 0
-    }),
-    ("12", |case| case.number == 12 && case.spare() >= 0),
-    ("12, a short list", |case| {
-        case.number == 12 && case.spare() < 0
-    }),
-    ("a tie of leaves", |case| {
-        case.has_tie(|subtree| subtree.children == 0)
-    }),
-    ("a tie of inner nodes", |case| {
-        case.has_tie(|subtree| subtree.children > 0)
-    }),
-    ("BEGIN at the peak", |case| {
-        case.number == 0 && case.begin == 0 && case.memory_bound == case.peak()
-    }),
-    ("BEGIN one place below it", |case| {
-        case.begin == 9 && case.memory_bound + 1 == case.peak()
-    }),
-];
-
 #[test]
 fn every_kind_of_order_comes() {
-    let lacking = RefCell::new(KINDS.to_vec());
-    let noting = |commands: &[u8], lent: &mut Vec<u16>| {
-        let answer = FindOrder::answer(commands, lent);
-        let case = Case::new(commands, lent, &answer);
-        lacking.borrow_mut().retain(|(_, is_such)| !is_such(&case));
-        answer
-    };
-    compare::<FindOrder>(noting, CASES).expect("no difference");
-    let lacking = lacking.into_inner().into_iter().map(|(name, _)| name);
-    let lacking: Vec<&str> = lacking.collect();
-    assert!(lacking.is_empty(), "these did not come: {lacking:?}");
+    let kinds = of_tool::<FindOrder, Case>(CASES, |commands, lent, answer| {
+        Some(Case::new(commands, lent, answer))
+    });
+    assert!(!kinds.lack_a_kind(), "{kinds}");
 }
 
 /// What led to an answer, and the answer.
@@ -107,6 +45,61 @@ struct Subtree {
     /// Their outs.
     held: u32,
     peak: u32,
+}
+
+impl OfKinds for Case {
+    const KINDS: &'static [Kind<Case>] = &[
+        ("3 in empty", |case| case.answers_in(3, Phase::Empty)),
+        ("3 in steps", |case| case.answers_in(3, Phase::Steps)),
+        ("0 in orders", |case| case.answers_in(0, Phase::Orders)),
+        ("0 in running", |case| case.answers_in(0, Phase::Running)),
+        ("0 in ready", |case| case.answers_in(0, Phase::Ready)),
+        ("0 in over", |case| case.answers_in(0, Phase::Over)),
+        ("0 behind an earlier plan", |case| {
+            case.number == 0 && case.is_later
+        }),
+        ("a list of n - 1", |case| case.answers_with(11, -1)),
+        ("a list of n", |case| case.answers_with(0, 0)),
+        ("a list of n + 1", |case| case.answers_with(0, 1)),
+        ("a list of n - 1, n = 1,024", |case| {
+            case.is_largest() && case.answers_with(11, -1)
+        }),
+        ("a list of n, n = 1,024", |case| {
+            case.is_largest() && case.answers_with(0, 0)
+        }),
+        ("a list of n + 1, n = 1,024", |case| {
+            case.is_largest() && case.answers_with(0, 1)
+        }),
+        ("a list whose length takes more than 16 bits", |case| {
+            case.number == 0 && case.lent.len() > u16::MAX.into()
+        }),
+        ("7, no root", |case| case.number == 7 && case.roots() == 0),
+        ("7, several roots", |case| {
+            case.number == 7 && case.roots() > 1 && !case.has_cycle()
+        }),
+        ("7, several roots and a cycle", |case| {
+            case.number == 7 && case.roots() > 1 && case.has_cycle()
+        }),
+        ("7, a short list", |case| {
+            case.number == 7 && case.spare() < 0
+        }),
+        ("12", |case| case.number == 12 && case.spare() >= 0),
+        ("12, a short list", |case| {
+            case.number == 12 && case.spare() < 0
+        }),
+        ("a tie of leaves", |case| {
+            case.has_tie(|subtree| subtree.children == 0)
+        }),
+        ("a tie of inner nodes", |case| {
+            case.has_tie(|subtree| subtree.children > 0)
+        }),
+        ("BEGIN at the peak", |case| {
+            case.number == 0 && case.begin == 0 && case.memory_bound == case.peak()
+        }),
+        ("BEGIN one place below it", |case| {
+            case.begin == 9 && case.memory_bound + 1 == case.peak()
+        }),
+    ];
 }
 
 impl Case {

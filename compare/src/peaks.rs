@@ -1,43 +1,11 @@
 //! The kinds of peaks, by the steps that set them. Each of them must come.
 
+use crate::kinds::{Kind, OfKinds};
 use crate::lists::Lists;
 use peer::Record;
-use std::fmt::{Display, Formatter, Result};
-
-/// A kind, and whether a peak is of it.
-type Kind = (&'static str, fn(&Peak) -> bool);
-
-const KINDS: [Kind; 9] = [
-    ("of one step", |peak| peak.length == 1),
-    ("of 0 trays and several steps", |peak| {
-        peak.trays == 0 && peak.length > 1
-    }),
-    ("set by the first alone", |peak| peak.is_set_at(0)),
-    ("set by the last alone", |peak| {
-        peak.is_set_at(peak.length - 1)
-    }),
-    ("set by one in between alone", |peak| {
-        (1..peak.length - 1).any(|place| peak.is_set_at(place))
-    }),
-    (
-        "set by several, the earliest not the lowest number",
-        |peak| peak.tasks.iter().min() != peak.tasks.first(),
-    ),
-    (
-        "set by several, the earliest not the highest number",
-        |peak| peak.tasks.iter().max() != peak.tasks.first(),
-    ),
-    (
-        "set by several, the first of the order not among them",
-        |peak| peak.set_at.len() > 1 && peak.set_at[0] > 0,
-    ),
-    ("named by more than a byte", |peak| {
-        peak.tasks[0] > u8::MAX.into()
-    }),
-];
 
 /// The peak of an activation order, and where it is set.
-struct Peak {
+pub struct Peak {
     trays: u64,
     /// How many tasks the order has.
     length: usize,
@@ -47,9 +15,40 @@ struct Peak {
     tasks: Vec<u16>,
 }
 
+impl OfKinds for Peak {
+    const KINDS: &'static [Kind<Peak>] = &[
+        ("of one step", |peak| peak.length == 1),
+        ("of 0 trays and several steps", |peak| {
+            peak.trays == 0 && peak.length > 1
+        }),
+        ("set by the first alone", |peak| peak.is_set_at(0)),
+        ("set by the last alone", |peak| {
+            peak.is_set_at(peak.length - 1)
+        }),
+        ("set by one in between alone", |peak| {
+            (1..peak.length - 1).any(|place| peak.is_set_at(place))
+        }),
+        (
+            "set by several, the earliest not the lowest number",
+            |peak| peak.tasks.iter().min() != peak.tasks.first(),
+        ),
+        (
+            "set by several, the earliest not the highest number",
+            |peak| peak.tasks.iter().max() != peak.tasks.first(),
+        ),
+        (
+            "set by several, the first of the order not among them",
+            |peak| peak.set_at.len() > 1 && peak.set_at[0] > 0,
+        ),
+        ("named by more than a byte", |peak| {
+            peak.tasks[0] > u8::MAX.into()
+        }),
+    ];
+}
+
 impl Peak {
     /// Of an order in which each task stands before its parent.
-    fn new(given: &Lists) -> Peak {
+    pub fn new(given: &Lists) -> Peak {
         let sums = sums(given);
         let trays = sums.iter().copied().max().expect("a task");
         let length = sums.len();
@@ -72,7 +71,7 @@ impl Peak {
 }
 
 /// What the cold room holds while each task of an order runs by itself.
-fn sums(given: &Lists) -> Vec<u64> {
+pub fn sums(given: &Lists) -> Vec<u64> {
     let mut outs_of_children = vec![0; given.records.len() + 1];
     let mut held = 0;
     let sum = |&task: &u16| {
@@ -86,58 +85,21 @@ fn sums(given: &Lists) -> Vec<u64> {
     given.activation.iter().map(sum).collect()
 }
 
-/// How many peaks were of which kind.
-#[derive(Default)]
-pub struct Peaks {
-    counts: [u64; KINDS.len()],
-}
-
-impl Peaks {
-    /// Counts the peak of an order in which each task stands before its parent.
-    pub fn add(&mut self, given: &Lists) {
-        let peak = Peak::new(given);
-        for (count, (_, is_such)) in self.counts.iter_mut().zip(KINDS) {
-            *count += u64::from(is_such(&peak));
-        }
-    }
-
-    pub fn lack_a_kind(&self) -> bool {
-        self.counts.contains(&0)
-    }
-}
-
-impl Display for Peaks {
-    fn fmt(&self, to: &mut Formatter) -> Result {
-        let kinds = self.counts.iter().zip(KINDS);
-        let told: Vec<String> = kinds
-            .map(|(count, (name, _))| format!("{count} {name}"))
-            .collect();
-        write!(to, "{}", told.join("; "))
-    }
-}
-
 #[cfg(test)]
 mod tests {
     use super::*;
     use crate::lists::Desk;
     use crate::tool::{compare, Tool};
-    use std::cell::RefCell;
+    use crate::tool_kinds::of_tool;
 
     /// Among so many cases there are several of each kind.
     const CASES: u64 = 10_000;
 
     #[test]
     fn every_kind_of_peak_comes_to_the_desk() {
-        let peaks = RefCell::new(Peaks::default());
-        let noting = |commands: &[u8], lent: &mut Lists| {
-            let answer = Desk::answer(commands, lent);
-            if answer[0] == 0 {
-                peaks.borrow_mut().add(lent);
-            }
-            answer
-        };
-        compare::<Desk>(noting, CASES).expect("no difference");
-        let peaks = peaks.into_inner();
+        let peaks = of_tool::<Desk, Peak>(CASES, |_, lent, answer| {
+            (answer[0] == 0).then(|| Peak::new(lent))
+        });
         assert!(!peaks.lack_a_kind(), "{peaks}");
     }
 

@@ -32,6 +32,7 @@ const TEXTS: [(&str, &str); 3] = [
 struct Tally {
     lines: usize,
     fetched: usize,
+    places: usize,
     refusals: usize,
     after_refusals: usize,
     in_pieces: usize,
@@ -56,10 +57,9 @@ impl Tally {
         let output = expected(&bytes);
         let text = String::from_utf8_lossy(&output);
         self.lines += text.lines().count();
-        self.fetched += text
-            .lines()
-            .filter(|line| line.starts_with("fetch "))
-            .count();
+        let count = |word| text.lines().filter(|line| line.starts_with(word)).count();
+        self.fetched += count("fetch ");
+        self.places += count("places ");
         let refused = text
             .lines()
             .last()
@@ -139,10 +139,11 @@ fn main() -> ExitCode {
         return ExitCode::FAILURE;
     }
     println!(
-        "printer: {count} streams, the same {} lines, {} of them of FETCH, {} refusals, {} with another day fed behind; \
+        "printer: {count} streams, the same {} lines, {} of them of FETCH and {} of 08, {} refusals, {} with another day fed behind; \
          {} streams in pieces too; {} long ones as files; {} texts typed",
         tally.lines,
         tally.fetched,
+        tally.places,
         tally.refusals,
         tally.after_refusals,
         tally.in_pieces,

@@ -4,7 +4,9 @@
 
 use cephlouk::{desk_peak_in, fullness, Plan, TaskRecord};
 use compare::day::Day;
-use peer::generate::Shape;
+use compare::kept::give;
+use peer::generate::{encode, Shape};
+use peer::Command;
 use std::collections::BTreeMap;
 use std::hint::black_box;
 use std::process::ExitCode;
@@ -65,6 +67,16 @@ impl Depths {
         });
     }
 
+    /// 08 halfway through a day, with places for all tasks that wait.
+    fn note_bound(&mut self, day: &Day) {
+        let mut plan = day.led(Plan::new(), day.halfway());
+        let bytes = encode(Command::Places(u32::MAX));
+        let mut starts = [0; Plan::LEAST_STARTS];
+        self.note(name(bytes[0]), || {
+            give(&mut plan, &bytes, 0..bytes.len(), &mut starts);
+        });
+    }
+
     fn note_questions(&mut self, plan: &Plan) {
         self.note("cephlouk_phase", || {
             black_box(plan.phase());
@@ -118,7 +130,8 @@ fn name(byte: u8) -> &'static str {
         0x04 => "cephlouk_command, 04",
         0x05 => "cephlouk_command, BEGIN",
         0x06 => "cephlouk_command, DONE",
-        _ => "cephlouk_command, FETCH",
+        0x07 => "cephlouk_command, FETCH",
+        _ => "cephlouk_command, 08",
     }
 }
 
@@ -149,6 +162,7 @@ fn depths() -> Depths {
         let day = Day::new(shape, Plan::MAX_TASKS, 64, 2);
         depths.note_day(&day, &mut plan);
         depths.note_one_order(&day);
+        depths.note_bound(&day);
     }
     depths.note("cephlouk_empty", || plan.clear());
     depths.note_desk();

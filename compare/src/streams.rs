@@ -15,6 +15,7 @@ pub fn streams() -> Vec<(&'static str, Vec<u8>)> {
     vec![
         ("64 starts at BEGIN", many_starts_at_begin()),
         ("64 starts at DONE", many_starts_at_done()),
+        ("63 starts at 08", many_starts_at_08()),
         ("longer than the input buffer", long(&[])),
         ("refused behind the input buffer", long(&[0x09])),
     ]
@@ -36,8 +37,18 @@ fn many_starts_at_begin() -> Vec<u8> {
     star(u32::MAX, record, record, &[Command::Activation], &[])
 }
 
-/// The first task takes all places, and 64 others have room when it ends.
+/// The first task ends, and 64 others have room.
 fn many_starts_at_done() -> Vec<u8> {
+    all_places_taken(Command::Done(Plan::TASKS as u16))
+}
+
+/// The first task runs on, and there are places for all others.
+fn many_starts_at_08() -> Vec<u8> {
+    all_places_taken(Command::Places(u32::MAX))
+}
+
+/// The first task takes all places, and others wait for a command.
+fn all_places_taken(behind: Command) -> Vec<u8> {
     let all = Record {
         parent: 1,
         work: COUNT,
@@ -48,17 +59,17 @@ fn many_starts_at_done() -> Vec<u8> {
         ..all
     };
     let orders = [Command::Activation, Command::Execution];
-    star(u32::from(COUNT), all, some, &orders, &[Plan::TASKS as u16])
+    star(u32::from(COUNT), all, some, &orders, &[behind])
 }
 
 /// Task 1 is fed by all others. The one with the highest number comes first in
-/// each order that is given; after BEGIN some tasks end.
+/// each order that is given; some commands come after BEGIN.
 fn star(
     memory_bound: u32,
     first: Record,
     others: Record,
     orders: &[fn(u16) -> Command],
-    ends: &[u16],
+    behind: &[Command],
 ) -> Vec<u8> {
     let n = Plan::TASKS as u16;
     let mut commands = vec![
@@ -78,7 +89,7 @@ fn star(
         commands.extend((1..=n).rev().map(next));
     }
     commands.push(Command::Begin);
-    commands.extend(ends.iter().copied().map(Command::Done));
+    commands.extend(behind);
     commands.into_iter().flat_map(encode).collect()
 }
 
@@ -111,13 +122,16 @@ mod tests {
     }
 
     #[test]
-    fn as_many_starts_as_processors() {
+    fn as_many_starts_as_free_processors() {
         let (line, starts) = last_line(&many_starts_at_begin());
         assert!(line.starts_with("begin "), "{line}");
         assert_eq!(starts, Plan::PROCESSORS);
         let (line, starts) = last_line(&many_starts_at_done());
         assert!(line.starts_with("done 1024 "), "{line}");
         assert_eq!(starts, Plan::PROCESSORS);
+        let (line, starts) = last_line(&many_starts_at_08());
+        assert!(line.starts_with("places M=4294967295 "), "{line}");
+        assert_eq!(starts, Plan::PROCESSORS - 1);
     }
 
     #[test]

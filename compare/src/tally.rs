@@ -1,12 +1,17 @@
 //! Counts over all askings compared.
 
+use crate::answered::Answered;
+use crate::bounds::{self, Bounds};
 use crate::kept::Questions;
-use crate::lists::of_commands;
-use crate::peaks::Peaks;
-use cephlouk::{Answer, Phase, Plan, Refusal};
-use peer::generate::Asking;
-use peer::{decode, Command};
+use crate::kinds::Kinds;
+use crate::lists::of_plan;
+use crate::peaks::Peak;
+use cephlouk::{Phase, Plan, Refusal};
+use peer::Command;
 use std::fmt::{Display, Formatter, Result};
+
+/// An answer has one of so many numbers, 0 the first.
+const NUMBERS: usize = Refusal::BoundBelowBooked as usize + 1;
 
 /// How many askings were answered in which way.
 #[derive(Default)]
@@ -15,7 +20,7 @@ pub struct Tally {
     pub plans: u64,
     pub askings: u64,
     /// By the number of the answer, 0 for accepted.
-    by_number: [u64; 11],
+    by_number: [u64; NUMBERS],
     /// Refused in the middle of a day.
     amid_days: u64,
     /// Days whose last task has ended.
@@ -39,29 +44,29 @@ pub struct Tally {
     /// FETCHes refused 10 where one stood, with a start list one entry short.
     short_fetches: u64,
     /// The peaks of the days that began.
-    peaks: Peaks,
+    peaks: Kinds<Peak>,
+    /// The bounds that 08 asked for, and the reports under those that it left.
+    bounds: Kinds<bounds::Case>,
 }
 
 /// So many askings come to every kind of day.
 const ENOUGH: u64 = 50_000;
 
 impl Tally {
-    /// Counts an asking by its answer, what the plan answers before and after it,
-    /// and the plan after it.
-    pub fn add(
-        &mut self,
-        asking: &Asking,
-        answer: &Answer,
-        before: &Questions,
-        after: &Questions,
-        plan: &peer::Plan,
-    ) {
+    /// Counts an asking, with the bounds of its plan ahead of it and the plan behind it.
+    pub fn add(&mut self, answered: &Answered, bounds: Bounds, plan: &peer::Plan) {
+        let Answered {
+            answer,
+            before,
+            after,
+            ..
+        } = answered;
         self.askings += 1;
         self.by_number[usize::from(answer.number)] += 1;
         self.amid_days += u64::from(answer.number != 0 && after.phase == Phase::Running);
         match (before.phase, after.phase) {
             (Phase::Orders, Phase::Running) => {
-                self.add_peak(plan);
+                self.peaks.add(&Peak::new(&of_plan(plan)));
                 if !before.is_whole {
                     self.one_order += 1;
                     self.largest_with_one_order += u64::from(is_largest(after));
@@ -77,36 +82,28 @@ impl Tally {
             }
             _ => {}
         }
-        if let Some(refusal) = answer.refusal() {
-            self.add_refused(asking, refusal, before.phase);
-        }
+        self.add_refused(answered);
+        self.bounds.add(&bounds::Case::new(*answered, bounds, plan));
     }
 
-    /// Counts the peak of a day that has begun.
-    fn add_peak(&mut self, plan: &peer::Plan) {
-        let mut written = vec![0; Plan::MOST_BYTES];
-        let count = plan.write(&mut written).count;
-        self.peaks.add(&of_commands(&written[..count]));
-    }
-
-    /// Counts a whole command that is refused in a phase.
-    fn add_refused(&mut self, asking: &Asking, refusal: Refusal, phase: Phase) {
-        let Ok((command, _)) = decode(&asking.bytes, asking.place) else {
+    /// Counts a whole command that is refused.
+    fn add_refused(&mut self, answered: &Answered) {
+        let (Some(command), Some(refusal)) = (answered.command, answered.answer.refusal()) else {
             return;
         };
-        let is_one_short = asking.starts_len + 1 == Plan::LEAST_STARTS;
-        match (command, refusal, phase) {
+        match (command, refusal, answered.before.phase) {
             (Command::Plan { .. }, Refusal::OutOfTurn, Phase::Ready) => self.plans_in_ready += 1,
             (Command::Done(_), Refusal::OutOfTurn, Phase::Ready) => self.reports_in_ready += 1,
             (Command::Fetch, Refusal::OutOfTurn, _) => self.fetched_in_vain += 1,
-            (Command::Fetch, Refusal::FewStarts, Phase::Ready) if is_one_short => {
+            (Command::Fetch, Refusal::FewStarts, Phase::Ready) if answered.is_one_short() => {
                 self.short_fetches += 1
             }
             _ => {}
         }
     }
 
-    /// Whether enough askings were compared, and yet none of a kind of day.
+    /// Whether enough askings were compared, and yet none of a kind of day or peak,
+    /// or too few of a kind of 08.
     pub fn lacks_a_kind(&self) -> bool {
         let kinds = [
             self.largest_days,
@@ -118,7 +115,8 @@ impl Tally {
             self.fetched_in_vain,
             self.short_fetches,
         ];
-        self.askings >= ENOUGH && (kinds.contains(&0) || self.peaks.lack_a_kind())
+        let is_lacking = [self.peaks.lack_a_kind(), self.bounds.lack_a_kind()];
+        self.askings >= ENOUGH && (kinds.contains(&0) || is_lacking.contains(&true))
     }
 }
 
@@ -142,7 +140,7 @@ impl Display for Tally {
             "; {} refused in the middle of days; {} days to their end, {} of them of {} steps; \
              {} begun with one order, {} of them of as many; {} fetched, {} of them with no trays; \
              refused 3 in ready {} PLANs and {} DONEs, elsewhere {} FETCHes; \
-             refused 10 in ready {} FETCHes with a list one short; peaks {}",
+             refused 10 in ready {} FETCHes with a list one short; peaks {}; 08: {}",
             self.amid_days,
             self.days,
             self.largest_days,
@@ -155,7 +153,26 @@ impl Display for Tally {
             self.reports_in_ready,
             self.fetched_in_vain,
             self.short_fetches,
-            self.peaks
+            self.peaks,
+            self.bounds
         )
+    }
+}
+
+#[cfg(test)]
+mod tests {
+    use super::*;
+    use crate::turns::compare;
+
+    /// A seed from which so many askings come to every kind.
+    const SEED: u64 = 403;
+
+    /// By the peer alone.
+    #[test]
+    fn every_kind_comes_and_a_missing_one_is_told() {
+        let mut tally = compare(|_| peer::Plan::new(), ENOUGH, SEED).expect("no difference");
+        assert!(!tally.lacks_a_kind(), "{tally}");
+        tally.bounds = Kinds::default();
+        assert!(tally.lacks_a_kind(), "{tally}");
     }
 }

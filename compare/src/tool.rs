@@ -117,6 +117,16 @@ pub fn tasks(commands: &[u8]) -> u16 {
     }
 }
 
+/// The bounds of the last plan: that of PLAN, and those of 08.
+pub fn bounds(commands: &[u8]) -> Vec<u32> {
+    let bound = |command| match command {
+        Command::Plan { memory_bound, .. } => Some(memory_bound),
+        Command::Places(bound) => Some(bound),
+        _ => None,
+    };
+    last_plan(commands).into_iter().filter_map(bound).collect()
+}
+
 /// A stream's commands up to any of those that an empty plan accepts. Each
 /// moment that it comes to is as likely as the others.
 pub fn cut_anywhere(random: &mut Random, seed: u64) -> Vec<u8> {
@@ -154,15 +164,23 @@ mod tests {
     use crate::orders::FindOrder;
     use crate::plans::Write;
     use crate::reasons::{kind, Why};
+    use peer::generate::encode;
+    use peer::Phase;
     use std::cell::RefCell;
+    use std::cmp::Ordering;
     use std::collections::BTreeSet;
     use std::ops::BitXorAssign;
 
     /// What is told of the peer with a fault in its answers or lists.
     fn told<T: Tool>(fault: impl Fn(&mut Vec<u64>, &mut T::Lent)) -> String {
+        told_behind::<T>(|_, answer, lent| fault(answer, lent))
+    }
+
+    /// The same of a fault that goes by the commands too.
+    fn told_behind<T: Tool>(fault: impl Fn(&[u8], &mut Vec<u64>, &mut T::Lent)) -> String {
         let faulty = |commands: &[u8], lent: &mut T::Lent| {
             let mut answer = T::answer(commands, lent);
-            fault(&mut answer, lent);
+            fault(commands, &mut answer, lent);
             answer
         };
         let told = compare::<T>(faulty, 1_000);
@@ -242,6 +260,19 @@ mod tests {
         let told = entry_told::<Write, u8>(0, middle);
         assert!(told.starts_with("seed "), "{told}");
         entry_told::<FindOrder, u16>(0, middle);
+    }
+
+    /// In each phase in which 08 may have changed it.
+    #[test]
+    fn the_bound_of_plan_written_is_told() {
+        for phase in [Phase::Running, Phase::Ready, Phase::Over] {
+            told_behind::<Write>(|commands, answer, lent| {
+                if answer[0] == 0 && led(Plan::new(), commands).phase() == phase {
+                    let opening = encode(last_plan(commands)[0]);
+                    lent[..opening.len()].copy_from_slice(&opening);
+                }
+            });
+        }
     }
 
     #[test]
@@ -330,6 +361,27 @@ mod tests {
     fn a_wrong_lack_is_told() {
         let told = reason_told(kind::NOT_BOOKED, |reason| reason[3] += 1);
         assert!(told.starts_with("seed "), "{told}");
+    }
+
+    /// Where the bound in force is smaller, and where it is larger.
+    #[test]
+    fn a_lack_by_the_bound_of_plan_is_told() {
+        for ordering in [Ordering::Less, Ordering::Greater] {
+            told_behind::<Why>(|commands, answer, _| {
+                let [of_plan, .., in_force] = bounds(commands)[..] else {
+                    return;
+                };
+                if in_force.cmp(&of_plan) == ordering {
+                    let [of_plan, in_force] = [of_plan, in_force].map(u64::from);
+                    answer
+                        .chunks_mut(Why::NUMBERS)
+                        .filter(|reason| reason[1] == kind::NOT_BOOKED)
+                        .for_each(|reason| {
+                            reason[3] = (reason[3] + in_force).saturating_sub(of_plan)
+                        });
+                }
+            });
+        }
     }
 
     #[test]

@@ -1,6 +1,8 @@
 //! Many plans beside the peer's, several of them open at once and asked in
 //! turn, so that nothing can be shared between them unseen.
 
+use crate::answered::Answered;
+use crate::bounds::Bounds;
 use crate::fence::{Fence, Side};
 use crate::kept::{Kept, Questions};
 use crate::tally::Tally;
@@ -62,6 +64,7 @@ struct Pair<P> {
     /// The words of the plan after its last asking.
     words: Vec<u32>,
     peer: peer::Plan,
+    bounds: Bounds,
 }
 
 /// What comes of an asking.
@@ -73,6 +76,8 @@ struct Outcome {
     /// The number that refuses an order, after a BEGIN that was refused. After
     /// every asking it would take most of the time.
     order: Option<u8>,
+    /// M, after an 08 that was taken: no question might show it.
+    bound: Option<u32>,
 }
 
 /// The lists that an asking lends, between forbidden pages.
@@ -90,6 +95,7 @@ impl<P: Kept> Pair<P> {
             words: plan.words().to_vec(),
             plan,
             peer: peer::Plan::new(),
+            bounds: Bounds::default(),
         }
     }
 
@@ -117,6 +123,7 @@ impl<P: Kept> Pair<P> {
         self.asked = 0;
         self.words.copy_from_slice(self.plan.words());
         self.peer.clear();
+        self.bounds = Bounds::default();
         Ok(())
     }
 
@@ -151,8 +158,9 @@ impl<P: Kept> Pair<P> {
         } else if self.plan.words() != self.words {
             return Err(self.tell(asking, "a refusal changed words of the plan"));
         }
-        let (answer, after) = (&wanted.answer, &wanted.questions);
-        tally.add(asking, answer, &before, after, &self.peer);
+        let answered = Answered::new(asking, wanted.answer, before, wanted.questions);
+        tally.add(&answered, self.bounds, &self.peer);
+        self.bounds.follow(&answered);
         self.asked += 1;
         Ok(())
     }
@@ -190,13 +198,16 @@ impl Outcome {
     /// With lists that are lent.
     fn within(plan: &mut impl Kept, bytes: &[u8], place: usize, starts: &mut [u16]) -> Outcome {
         let answer = plan.command(bytes, place, starts);
-        let is_begin = matches!(decode(bytes, place), Ok((Command::Begin, _)));
-        let is_refused_begin = is_begin && answer.number != 0;
+        let is_accepted = answer.number == 0;
+        let command = decode(bytes, place);
+        let is_refused_begin = matches!(command, Ok((Command::Begin, _))) && !is_accepted;
+        let is_taken_bound = matches!(command, Ok((Command::Places(_), _))) && is_accepted;
         Outcome {
             answer,
             starts: starts.to_vec(),
             questions: plan.questions(),
             order: is_refused_begin.then(|| plan.order_refusal()),
+            bound: is_taken_bound.then(|| plan.bound()),
         }
     }
 
@@ -205,6 +216,9 @@ impl Outcome {
         let mut told = format!("{:?} {:?}", self.answer, self.questions);
         if let Some(number) = self.order {
             told += &format!(", an order refused {number}");
+        }
+        if let Some(bound) = self.bound {
+            told += &format!(", written with M = {bound}");
         }
         told += ", start list";
         let marks = marks(self.starts.len());
@@ -258,7 +272,7 @@ fn recast(random: &mut Random, asking: Asking) -> Asking {
 #[cfg(test)]
 mod tests {
     use super::*;
-    use cephlouk::Phase;
+    use cephlouk::{Phase, Refusal};
     use std::cell::Cell;
     use std::collections::BTreeSet;
     use std::rc::Rc;
@@ -273,8 +287,16 @@ mod tests {
         Offers,
         By,
         StartList,
+        /// The starts are not told.
+        Starts,
+        /// 13 is told.
+        Ground,
+        /// The plan stays as it was.
+        Untaken,
         Finished,
         Order,
+        /// Another bound is written.
+        Bound,
         Word,
     }
 
@@ -289,14 +311,18 @@ mod tests {
 
     impl Kept for Faulty {
         fn command(&mut self, bytes: &[u8], place: usize, starts: &mut [u16]) -> Answer {
+            let before = (self.asked == self.at).then(|| self.plan.clone());
             let mut answer = Kept::command(&mut self.plan, bytes, place, starts);
-            if self.asked == self.at {
+            if let Some(before) = before {
                 match self.fault {
                     Fault::Offers => answer.offers += 1,
                     Fault::By => answer.by += 1,
                     Fault::StartList => starts[63] = 9,
+                    Fault::Starts => answer.starts = 0,
+                    Fault::Ground => answer.number = Refusal::BoundBelowBooked.number(),
+                    Fault::Untaken => self.plan = before,
                     Fault::Word => self.words[1] = 1,
-                    Fault::None | Fault::Finished | Fault::Order => {}
+                    Fault::None | Fault::Finished | Fault::Order | Fault::Bound => {}
                 }
             }
             self.asked += 1;
@@ -316,6 +342,14 @@ mod tests {
             match (self.fault, self.asked == self.at + 1) {
                 (Fault::Order, true) => number + 1,
                 _ => number,
+            }
+        }
+
+        fn bound(&self) -> u32 {
+            let bound = self.plan.bound();
+            match (self.fault, self.asked == self.at + 1) {
+                (Fault::Bound, true) => bound ^ 1,
+                _ => bound,
             }
         }
 
@@ -342,15 +376,20 @@ mod tests {
         told.err().expect("a difference")
     }
 
+    /// Whether an asking is one of those looked for.
+    type IsSuch = fn(&Answered) -> bool;
+
     /// The first asking of a seed, from one on, that has a start list of entries
-    /// enough and is one of those looked for, by the phase ahead of it and what
-    /// comes of it.
-    fn first(seed: u64, from: usize, is_such: fn(Phase, &Outcome) -> bool) -> usize {
+    /// enough and is one of those looked for.
+    fn first(seed: u64, from: usize, is_such: IsSuch) -> usize {
         let mut plan = peer::Plan::new();
         let answered = many_askings(seed, from + MORE).into_iter().map(|asking| {
-            let phase = plan.questions().phase;
-            let outcome = Outcome::of(&mut plan, &asking);
-            is_such(phase, &outcome) && outcome.starts.len() >= Plan::LEAST_STARTS
+            let before = plan.questions();
+            let Outcome {
+                answer, questions, ..
+            } = Outcome::of(&mut plan, &asking);
+            is_such(&Answered::new(&asking, answer, before, questions))
+                && asking.starts_len >= Plan::LEAST_STARTS
         });
         let mut places = answered.enumerate().skip(from);
         places
@@ -359,24 +398,50 @@ mod tests {
             .0
     }
 
-    fn is_refused(_: Phase, outcome: &Outcome) -> bool {
-        outcome.answer.number != 0
+    fn is_refused(answered: &Answered) -> bool {
+        !answered.is_accepted()
     }
 
-    fn is_refused_in_ready(phase: Phase, outcome: &Outcome) -> bool {
-        phase == Phase::Ready && outcome.answer.number != 0
+    fn is_refused_in_ready(answered: &Answered) -> bool {
+        answered.before.phase == Phase::Ready && !answered.is_accepted()
     }
 
-    fn is_fetch(phase: Phase, outcome: &Outcome) -> bool {
-        phase == Phase::Ready && outcome.answer.number == 0
+    fn is_fetch(answered: &Answered) -> bool {
+        answered.before.phase == Phase::Ready && answered.is_accepted()
     }
 
-    fn is_begin(phase: Phase, outcome: &Outcome) -> bool {
-        phase == Phase::Orders && outcome.questions.phase == Phase::Running
+    fn is_begin(answered: &Answered) -> bool {
+        answered.before.phase == Phase::Orders && answered.after.phase == Phase::Running
     }
 
-    fn is_refused_begin(_: Phase, outcome: &Outcome) -> bool {
-        outcome.order.is_some()
+    fn is_refused_begin(answered: &Answered) -> bool {
+        answered.command == Some(Command::Begin) && !answered.is_accepted()
+    }
+
+    /// 08 below the peak and below the trays booked.
+    fn is_below_both(answered: &Answered) -> bool {
+        let is_below = |bound| bound < answered.before.booked;
+        let is_refused = answered.answer.refusal() == Some(Refusal::PeakAboveBound);
+        is_refused && matches!(answered.command, Some(Command::Places(bound)) if is_below(bound))
+    }
+
+    fn is_below_booked(answered: &Answered) -> bool {
+        answered.answer.refusal() == Some(Refusal::BoundBelowBooked)
+    }
+
+    fn is_taken_bound(answered: &Answered) -> bool {
+        matches!(answered.command, Some(Command::Places(_))) && answered.is_accepted()
+    }
+
+    fn is_start_by_bound(answered: &Answered) -> bool {
+        is_taken_bound(answered) && answered.answer.starts > 0
+    }
+
+    /// 08 of which fullness alone tells.
+    fn is_fullness_alone(answered: &Answered) -> bool {
+        let Answered { before, after, .. } = *answered;
+        let fullness = before.fullness;
+        is_taken_bound(answered) && before != after && before == Questions { fullness, ..after }
     }
 
     #[test]
@@ -403,13 +468,32 @@ mod tests {
     #[test]
     fn a_touched_entry_is_told_with_its_list() {
         for is_such in [is_refused, is_refused_in_ready, is_fetch] {
-            let at = first(10, 30, is_such);
-            let told = told(10, at, Fault::StartList);
+            let at = first(49, 30, is_such);
+            let told = told(49, at, Fault::StartList);
             assert!(
-                told.starts_with(&format!("seed 10, asking {at} ")),
+                told.starts_with(&format!("seed 49, asking {at} ")),
                 "{told}"
             );
             assert!(told.contains("start list [63] 9\n"), "{told}");
+        }
+    }
+
+    #[test]
+    fn a_wrong_answer_to_08_is_told() {
+        let faults: [(Fault, IsSuch); 5] = [
+            (Fault::Starts, is_start_by_bound),
+            (Fault::Ground, is_below_both),
+            (Fault::Untaken, is_start_by_bound),
+            (Fault::Untaken, is_fullness_alone),
+            (Fault::Bound, is_taken_bound),
+        ];
+        for (fault, is_such) in faults {
+            let at = first(49, 20, is_such);
+            let told = told(49, at, fault);
+            assert!(
+                told.starts_with(&format!("seed 49, asking {at} ")),
+                "{told}"
+            );
         }
     }
 
@@ -440,10 +524,18 @@ mod tests {
 
     #[test]
     fn a_word_that_a_refusal_changes_is_told() {
-        for is_such in [is_refused, is_refused_in_ready] {
-            let at = first(8, 20, is_such);
-            let told = told(8, at, Fault::Word);
-            assert!(told.starts_with(&format!("seed 8, asking {at} ")), "{told}");
+        for is_such in [
+            is_refused,
+            is_refused_in_ready,
+            is_below_both,
+            is_below_booked,
+        ] {
+            let at = first(49, 20, is_such);
+            let told = told(49, at, Fault::Word);
+            assert!(
+                told.starts_with(&format!("seed 49, asking {at} ")),
+                "{told}"
+            );
             assert!(
                 told.ends_with("a refusal changed words of the plan"),
                 "{told}"
@@ -470,6 +562,10 @@ mod tests {
 
         fn order_refusal(&self) -> u8 {
             self.plan.order_refusal()
+        }
+
+        fn bound(&self) -> u32 {
+            self.plan.bound()
         }
 
         fn words(&self) -> &[u32] {

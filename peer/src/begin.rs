@@ -28,6 +28,7 @@ impl Plan {
             self.execution = self.activation.clone();
         }
         self.reset_figures(&needs);
+        self.peak = peak;
         self.activate();
         Ok(Answer {
             starts: self.start(starts),

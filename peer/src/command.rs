@@ -24,6 +24,8 @@ pub enum Command {
     Done(u16),
     /// 07, FETCH.
     Fetch,
+    /// 08: a new M.
+    Places(u32),
 }
 
 /// The bytes of PLAN.
@@ -32,6 +34,8 @@ pub(crate) const PLAN_BYTES: usize = 8;
 pub(crate) const STEP_BYTES: usize = 7;
 /// The bytes of a command with one step number.
 pub(crate) const NUMBER_BYTES: usize = 3;
+/// The bytes of 08.
+pub(crate) const PLACES_BYTES: usize = 5;
 /// The bytes of a command without operands.
 const BARE_BYTES: usize = 1;
 
@@ -64,6 +68,10 @@ pub fn decode(stream: &[u8], place: usize) -> Result<(Command, usize), Refusal> 
         0x05 => Ok((Command::Begin, BARE_BYTES)),
         0x06 => Ok((Command::Done(number(operands)?), NUMBER_BYTES)),
         0x07 => Ok((Command::Fetch, BARE_BYTES)),
+        0x08 => {
+            let bound = take(operands).map(u32::from_le_bytes)?;
+            Ok((Command::Places(bound), PLACES_BYTES))
+        }
         _ => Err(Refusal::UnknownByte),
     }
 }

@@ -1,6 +1,6 @@
 //! Commands as bytes: the command byte and its operands, lowest byte first.
 
-use crate::command::{Command, NUMBER_BYTES, PLAN_BYTES, STEP_BYTES};
+use crate::command::{Command, NUMBER_BYTES, PLACES_BYTES, PLAN_BYTES, STEP_BYTES};
 use crate::record::Record;
 
 /// The byte and operands of a command.
@@ -17,6 +17,7 @@ pub fn encode(command: Command) -> Vec<u8> {
         Command::Begin => vec![0x05],
         Command::Done(task) => with_number(0x06, task).to_vec(),
         Command::Fetch => vec![0x07],
+        Command::Places(bound) => places(bound).to_vec(),
     }
 }
 
@@ -43,6 +44,12 @@ pub(crate) fn activation(task: u16) -> [u8; NUMBER_BYTES] {
 /// Next in the execution order.
 pub(crate) fn execution(task: u16) -> [u8; NUMBER_BYTES] {
     with_number(0x04, task)
+}
+
+/// A new M.
+fn places(memory_bound: u32) -> [u8; PLACES_BYTES] {
+    let [m0, m1, m2, m3] = memory_bound.to_le_bytes();
+    [0x08, m0, m1, m2, m3]
 }
 
 fn with_number(byte: u8, number: u16) -> [u8; NUMBER_BYTES] {

@@ -1,9 +1,10 @@
 //! An independent writing of the rules in document 01: the plan, the booking
-//! and the day; and of requests 01 to 07 in document 02: why a step isn't
+//! and the day; and of requests 01 to 08 in document 02: why a step isn't
 //! starting, a plan written back out, a plan without an execution order, the
 //! trolley that stands until it is fetched, fullness, whose readings stay the
-//! same, a good activation order, found as in source document 002, and the step
-//! that sets the peak. It shares nothing with the tool it is compared with.
+//! same, a good activation order, found as in source document 002, the step that
+//! sets the peak, and a bound that changes while a day runs. It shares nothing
+//! with the tool it is compared with.
 //!
 //! Terms follow research report RR-8966: a step is a task, a station a
 //! processor, the tray places the memory bound, and booked trays are booked
@@ -28,6 +29,7 @@ pub mod listening;
 mod order;
 mod peak;
 mod phase;
+mod places;
 mod plan;
 pub mod plan_text;
 mod postorder;

@@ -15,7 +15,7 @@ pub struct Plan {
     pub(crate) tasks: usize,
     /// p.
     pub(crate) processors: usize,
-    /// M.
+    /// M, the bound in force: PLAN's, or that of the last 08 since.
     pub(crate) memory_bound: u32,
     /// How many tasks have been given.
     pub(crate) given: usize,
@@ -25,6 +25,8 @@ pub struct Plan {
     pub(crate) execution: Order,
     pub(crate) figures: [Figures; Plan::TASKS],
     pub(crate) available: Available,
+    /// The peak of the activation order, as BEGIN answered it.
+    pub(crate) peak: u32,
     /// How many tasks no longer wait; the place in the activation order of
     /// the first that does.
     pub(crate) activated: usize,
@@ -60,6 +62,7 @@ impl Plan {
             execution: Order::new(),
             figures: [Figures::new(0); Plan::TASKS],
             available: Available::new(),
+            peak: 0,
             activated: 0,
             running: 0,
             finished: 0,
@@ -83,7 +86,7 @@ impl Plan {
         self.in_use
     }
 
-    /// Fullness of B in M; 0 outside running and ready.
+    /// Fullness of B in M, the bound in force; 0 outside running and ready.
     pub fn fullness(&self) -> u32 {
         fullness(self.booked, self.memory_bound)
     }

@@ -7,9 +7,9 @@ use crate::refusal::Refusal;
 use crate::text;
 use std::io::{Read, Result, Write};
 
-/// Reads commands and prints one line per accepted BEGIN, DONE or FETCH. Stops
-/// after the line of a refusal, or without a line where the input ends between
-/// commands. A line is out before more input is waited for.
+/// Reads commands and prints one line per accepted BEGIN, DONE, FETCH or 08.
+/// Stops after the line of a refusal, or without a line where the input ends
+/// between commands. A line is out before more input is waited for.
 pub fn print(input: impl Read, mut output: impl Write) -> Result<()> {
     let mut feed = Feed::new(input);
     let mut plan = Plan::new();
@@ -36,6 +36,7 @@ pub fn print(input: impl Read, mut output: impl Write) -> Result<()> {
                 text::done(&mut output, &plan, task, &answer, &starts)?;
             }
             Ok((Command::Fetch, _)) => text::fetch(&mut output, &plan)?,
+            Ok((Command::Places(_), _)) => text::places(&mut output, &plan, &answer, &starts)?,
             _ => {}
         }
         feed.advance(answer.used);

@@ -6,7 +6,7 @@
 pub enum Refusal {
     /// No byte is left, or operands are cut short.
     Cut = 1,
-    /// The byte is none of 01 to 07.
+    /// The byte is none of 01 to 08.
     UnknownByte = 2,
     /// The command is not in turn.
     OutOfTurn = 3,
@@ -28,6 +28,8 @@ pub enum Refusal {
     ShortList = 11,
     /// Some step's chain of parents never reaches the root.
     NeverReachesRoot = 12,
+    /// The booked trays are above the new M.
+    BookedAboveBound = 13,
 }
 
 impl Refusal {

@@ -27,13 +27,20 @@ pub fn fetch(to: &mut impl Write, plan: &Plan) -> io::Result<()> {
     writeln!(to, "fetch booked={}", plan.booked())
 }
 
+/// The line of an accepted 08, asked of the plan right after it, when the new
+/// bound is in force.
+pub fn places(to: &mut impl Write, plan: &Plan, answer: &Answer, starts: &[u16]) -> io::Result<()> {
+    write!(to, "places M={}", plan.memory_bound)?;
+    standing(to, plan, &starts[..answer.starts])
+}
+
 /// The line of a refusal: its number, and the command's byte offset.
 pub fn refused(to: &mut impl Write, answer: &Answer, offset: u64) -> io::Result<()> {
     writeln!(to, "refused {} at {offset}", answer.number)
 }
 
-/// What begin and done lines share: B, trays in use, fullness of B in M, and
-/// the started tasks or `-`.
+/// What begin, done and places lines share: B, trays in use, fullness of B in
+/// M, and the started tasks or `-`.
 fn standing(to: &mut impl Write, plan: &Plan, starts: &[u16]) -> io::Result<()> {
     let (booked, used, full) = (plan.booked(), plan.in_use(), plan.fullness());
     write!(to, " booked={booked} used={used} full={full} start")?;

@@ -41,6 +41,7 @@ impl Plan {
             Command::Begin => self.begin(starts),
             Command::Done(task) => self.done(task, starts),
             Command::Fetch => self.fetch(),
+            Command::Places(bound) => self.places(bound, starts),
         }?;
         Ok(Answer { used, ..answer })
     }

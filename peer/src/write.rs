@@ -13,10 +13,10 @@ impl Plan {
     /// The most bytes of a written plan.
     pub const WRITTEN: usize = PLAN_BYTES + Plan::TASKS * TASK_BYTES;
 
-    /// Writes PLAN, the steps, the activation order and the execution order to
-    /// the front of the caller's list and touches no later byte. A refusal
-    /// touches none: 3 unless both orders are complete, then 11 if the list is
-    /// too short.
+    /// Writes PLAN with the bound in force, the steps, the activation order and
+    /// the execution order to the front of the caller's list and touches no
+    /// later byte. A refusal touches none: 3 unless both orders are complete,
+    /// then 11 if the list is too short.
     pub fn write(&self, list: &mut [u8]) -> Wrote {
         Wrote::of(self.room(list).map(|room| {
             self.fill(room);

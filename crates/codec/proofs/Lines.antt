@@ -13,6 +13,7 @@ use Rattle.rules.specs.Command.{
   begin,
   done,
   fetch,
+  places,
   forms,
   find,
   number,
@@ -56,6 +57,10 @@ module _ (given : List ℕ) where
   pub fetch-line : table 7 given ≡ whole given 0 fetch
   unfolding forms find numbers room readBy table
   fetch-line = refl
+
+  pub places-line : table 8 given ≡ whole given 4 (places (number 4 given))
+  unfolding forms find numbers room readBy table
+  places-line = refl
 
   -- a byte with no line
   pub no-line : (byte : ℕ) → find forms byte ≡ none → table byte given ≡ refused 2

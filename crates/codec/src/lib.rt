@@ -20,6 +20,8 @@ pub enum Command {
     Done(u16),
     // the trolley is fetched
     Fetch,
+    // other places of the cold room: a new M
+    Places(u32),
 }
 
 // What stands at a place of a stream.
@@ -84,8 +86,8 @@ fn whole(given: &[u8], width: usize, command: Command) -> Decoded
     Decoded::Read { command, used }
 }
 
-// The table of commands: the byte picks operand width and meaning; "the byte is none of 01 to 06" (2),
-// and 07 "leaves the unknown ones".
+// The table of commands: the byte picks operand width and meaning; "the byte is none of 01 to 06" (2);
+// 07 "leaves the unknown ones", and 08 "is known".
 fn table(byte: u8, given: &[u8]) -> Decoded
     ensures { λ r. ⌜ decoded r ≡ rules.table byte (now (given .entry)) ⌝ }
 {
@@ -113,6 +115,7 @@ fn table(byte: u8, given: &[u8]) -> Decoded
         5 => whole(given, 0, Command::Begin),
         6 => whole(given, 2, Command::Done(two(given))),
         7 => whole(given, 0, Command::Fetch),
+        8 => whole(given, 4, Command::Places(four(given))),
         _ => Decoded::Refused(2),
     }
 }
@@ -173,5 +176,9 @@ pub fn encode(command: Command, buffer: &mut [u8], place: usize) -> usize
         Command::Begin => put::byte(buffer, place, 5),
         Command::Done(task) => start(buffer, place, 6, task),
         Command::Fetch => put::byte(buffer, place, 7),
+        Command::Places(bound) => {
+            let next = put::byte(buffer, place, 8);
+            put::little(buffer, next, 4, bound as u64)
+        }
     }
 }

@@ -1,17 +1,16 @@
 -- BEGIN in code: what the survey answers is the ground of the rules, and what it leaves is what preparing the day asks.
 use mathlib.Core.Path.{_≡_, sym, ap, ap₂, subst, _∙_}
-use mathlib.Core.Bool.{Bool, true, false, cond, _&&_, _||_}
+use mathlib.Core.Bool.{Bool, true, false, _&&_, _||_}
 use mathlib.Core.Logic.{⊎-elim}
 use mathlib.Core.List.{List}
 use Prim.Native.Nat.{ℕ, _≤_, _<_}
 use native.Mathlib.Omega.{arith}
 use lib.Dec.{eqb, leb}
 use lib.ListN.{length, take}
-use lib.Seq.{getD-take}
 use borrow.Author.Tests.{eq-eqb, le-leb, lt-leb}
 use Rattle.rules.specs.Lists.{at, every, distinct}
 use Rattle.rules.specs.Limits.{leastStarts}
-use Rattle.rules.specs.Peak.{roots, ordered, peak, Peaked, peaked, noPeak}
+use Rattle.rules.specs.Peak.{roots, ordered, peak, Peaked}
 use Rattle.rules.specs.Phase
 use Rattle.rules.specs.State.{State}
 use Rattle.rules.specs.Command.{begin}
@@ -31,10 +30,11 @@ use Rattle.store.specs.Cached.{Placed}
 use Rattle.survey.specs.Survey.{Ordered, orderGround, groundOf, peakedOf}
 use Rattle.survey.proofs.Grounds as surveying
 use Rattle.answer.specs.Meaning.{meaning}
-use Rattle.answer.specs.Sound.{Unused, Noted, Sound}
+use Rattle.answer.specs.Sound.{Unused, Sound}
 use Rattle.day.specs.Day.{begins, MayBegin, Begun}
-use Rattle.answer.proofs.Meant.{parents-meant, works-meant, outs-meant, ranked-length, placed-length, parents-small}
+use Rattle.answer.proofs.Meant.{ranked-length, placed-length, parents-small}
 use Rattle.day.proofs.Staying.{Whole}
+use Rattle.day.proofs.Surveying.{noted-in, whole-order, ground-is, high-is-peaked, high-is-peak}
 use Rattle.day.proofs.Proceeding.{same, sound-then}
 
 -- the ground against BEGIN, from the ground against its activation order
@@ -77,17 +77,6 @@ module _ (s : State) where
       (let there : orderGround (s .size) (at (s .parents)) (s .activation) ≡ 7 = rw r in absurd (omega arith)))
       (decide (eqb (roots (s .size) (at (s .parents))) 1))
 
--- the places noted of an order that is whole
-noted-in :
-    (size count : ℕ) (order places : List ℕ)
-    → count ≡ size
-    → Noted size count order places
-    → (e : ℕ)
-    → e < size
-    → at places (at (take size order) e) ≡ e
-noted-in size count order places all noted e h =
-    ap (at places) (getD-take size order e 0 h) ∙ noted .noted e (omega arith)
-
 module _ (c : Contents) (sound : Sound c) (long : Lengths c) where
   turn-is : grounds.inTurn (meaning c) begin ≡ begins c
   unfolding grounds.inTurn begins
@@ -107,64 +96,32 @@ module _ (c : Contents) (sound : Sound c) (long : Lengths c) where
     ranked-all : c .ranked ≡ c .size
     ranked-all = sym (ranked-length c sound long) ∙ begin-turn (meaning c) (in-turn turn) .activated
 
-    formed : Formed (meaning c)
-    formed = lives reached .formed
-
-    order-is : meaning c .activation ≡ activationOf c
-    order-is = ap (λ (k : ℕ). take k (c .activation)) ranked-all
-
     -- what the survey asks
     pub may-survey : Ordered c
-    may-survey =
-        record {
-          parented = record { small = sound .small; inside = λ i _. parents-small c sound reached i };
-          ranked =
-              record {
-                inside = subst (λ (l : List ℕ). every (λ i. grounds.within i (c .size)) l ≡ true) order-is (formed .activation-inside);
-                once = subst (λ (l : List ℕ). distinct l ≡ true) order-is (formed .activation-once);
-                whole = ap length (sym order-is) ∙ ranked-length c sound long ∙ ranked-all;
-                placed = noted-in (c .size) (c .ranked) (c .activation) (c .ranks) ranked-all (sound .activation);
-              };
-        }
+    may-survey = whole-order c sound long reached ranked-all
 
     own : grounds.ground (meaning c) begin ≡ grounds.ownGround (meaning c) begin
     own = begin-ground (meaning c) (in-turn turn)
 
-    ground-is : orderGround (c .size) (at (meaning c .parents)) (meaning c .activation) ≡ groundOf c
-    ground-is =
-        ap₂ (λ (f : ℕ → ℕ) (l : List ℕ). orderGround (c .size) f l) (parents-meant c sound) order-is
-
-    peak-is :
-        grounds.peakedOf (meaning c)
-        ≡ peaked (c .size) (at (c .parents)) (at (c .chilled .works)) (at (c .chilled .outs)) (activationOf c)
-    unfolding grounds.peakedOf
-    peak-is =
-        λ z.
-        peaked (c .size) (parents-meant c sound z) (works-meant c sound z) (outs-meant c sound z) (order-is z)
+    order-ground-is : orderGround (c .size) (at (meaning c .parents)) (meaning c .activation) ≡ groundOf c
+    order-ground-is = ground-is c sound long reached ranked-all
 
     module _ {number : ℕ} {high : Peaked} (is-number : number ≡ groundOf c) (is-high : high ≡ peakedOf c) where
       -- 7 or 8
       pub surveyed-refused : (number ≡ 0 → ⊥) → grounds.ground (meaning c) begin ≡ number
-      surveyed-refused some = own ∙ begin-refused (meaning c) number (ground-is ∙ sym is-number) some
+      surveyed-refused some = own ∙ begin-refused (meaning c) number (order-ground-is ∙ sym is-number) some
 
       module _ (fine : number ≡ 0) where
         -- no ground against the activation order
         pub no-order-ground : orderGround (c .size) (at (meaning c .parents)) (meaning c .activation) ≡ 0
-        no-order-ground = ground-is ∙ sym is-number ∙ fine
+        no-order-ground = order-ground-is ∙ sym is-number ∙ fine
 
         -- the peak with its task
         pub high-is : high ≡ grounds.peakedOf (meaning c)
-        high-is =
-            is-high
-            ∙ ap
-            (λ (b : Bool).
-            cond b (peaked (c .size) (at (c .parents)) (at (c .chilled .works)) (at (c .chilled .outs)) (activationOf c)) noPeak)
-            (eq-eqb (groundOf c) 0 (sym is-number ∙ fine))
-            ∙ sym peak-is
+        high-is = high-is-peaked c sound long reached ranked-all is-high (sym is-number ∙ fine)
 
         trays-are : high .trays ≡ grounds.peakOf (meaning c)
-        unfolding grounds.peakOf grounds.peakedOf peaked
-        trays-are = ap (λ (p : Peaked). p .trays) high-is
+        trays-are = high-is-peak c sound long reached ranked-all is-high (sym is-number ∙ fine)
 
         weighed : grounds.ground (meaning c) begin ≡ grounds.demand (leb (grounds.peakOf (meaning c)) (c .chilled .bound)) 9 0
         weighed = own ∙ begin-weighed (meaning c) no-order-ground
@@ -237,7 +194,7 @@ module _ (c : Contents) {d : Contents} (sound : Sound d) (long : Lengths d) (rea
     fine-then : groundOf d ≡ 0
     unfolding completed withOrders
     fine-then =
-        sym (ground-is d sound long reached in-turn-then)
+        sym (order-ground-is d sound long reached in-turn-then)
         ∙ ap (λ (t : State). orderGround (t .size) (at (t .parents)) (t .activation)) means
         ∙ fine
 

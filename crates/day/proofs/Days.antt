@@ -1,5 +1,5 @@
--- BEGIN and DONE, one part after the other.
-use mathlib.Core.Path.{_≡_, refl, ap, _∙_}
+-- BEGIN, DONE and 08, one part after the other.
+use mathlib.Core.Path.{_≡_, refl, sym, ap, subst, _∙_}
 use mathlib.Core.List.{List}
 use Prim.Native.Nat.{ℕ, _≤_}
 use native.Mathlib.Omega.{arith}
@@ -10,13 +10,21 @@ use Rattle.rules.specs.Standing.{running, finished, count}
 use Rattle.rules.proofs.Reporting.{one-fewer}
 use Rattle.words.specs.Contents.{Contents, withHead, storeWithHead}
 use Rattle.store.specs.Rows.{books}
+use Rattle.store.specs.Kept.{Kept}
 use Rattle.store.proofs.Rows.{at-rows}
+use Rattle.store.proofs.Same.{same-refl}
 use Rattle.starting.specs.Started.{MayStart}
 use Rattle.survey.specs.Prepare.{Prepared}
 use Rattle.dispatch.specs.Finished.{Finished}
 use Rattle.day.specs.Advanced.{Advanced}
-use Rattle.day.specs.Day.{MayBegin, Begun, MayGoOn, WentOn}
+use Rattle.day.specs.Day.{MayBegin, Begun, MayGoOn, WentOn, withBound, MayResize, Resized}
 use Rattle.day.proofs.Same.{same-tasks, prepared-same}
+use Rattle.day.proofs.Staying.{head-cached}
+
+-- a running day is in its phase
+same-phase : (d : Contents) → d .phase ≡ Phase.running → d ≡ withHead 0 Phase.running d
+unfolding withHead storeWithHead
+same-phase d e = ap (λ (p : ℕ). withHead 0 p d) e
 
 -- a day on which nothing has happened
 module _ {c c₁ : Contents} {list : List ℕ} (may : MayBegin c list) (prepared : Prepared c c₁) where
@@ -66,11 +74,6 @@ module _ {c c₁ : Contents} {j : ℕ} {list : List ℕ} {offers : ℕ} (may : M
       let less = fewer in
       record { kept = ends .kept; busy = omega arith; few = omega arith; room = may .room }
 
-  -- the phase stays
-  same-phase : (d : Contents) → d .phase ≡ Phase.running → d ≡ withHead 0 Phase.running d
-  unfolding withHead storeWithHead
-  same-phase d e = ap (λ (p : ℕ). withHead 0 p d) e
-
   pub went-on :
       {c₂ : Contents} {list₂ : List ℕ} {count : ℕ}
       → Advanced c₁ c₂ list list₂ count
@@ -90,3 +93,61 @@ module _ {c c₁ : Contents} {j : ℕ} {list : List ℕ} {offers : ℕ} (may : M
               phased = same-phase c₂ (advanced .same .phase ∙ ends .same .phase ∙ may .now);
             };
       }
+
+-- a day with another bound
+module _ {c : Contents} {bound : ℕ} {list : List ℕ} (may : MayResize c bound list) where
+  -- the books are within it
+  kept-within : Kept (withBound bound c)
+  unfolding withBound withHead storeWithHead
+  kept-within =
+      let i = may .kept .invariant in
+      let booked = may .kept .cached .store .totals in
+      let within = may .within in
+      record {
+        invariant =
+            record {
+              small = i .small;
+              bounded = may .bounded;
+              valid = i .valid;
+              parents = i .parents;
+              roomy = i .roomy;
+              good =
+                  record {
+                    sized = i .good .sized;
+                    shape = i .good .shape;
+                    stock =
+                        record { sized = i .good .stock .sized; books = i .good .stock .books; within = omega arith };
+                  };
+            };
+        cached = head-cached (c .phase) bound (may .kept .cached);
+      }
+
+  then-starts : MayStart (withBound bound c) list
+  unfolding withBound withHead storeWithHead
+  then-starts = record { kept = kept-within; busy = may .busy; few = may .few; room = may .room }
+
+  then-resized :
+      {c₂ : Contents} {list₂ : List ℕ} {count : ℕ}
+      → Advanced (withBound bound c) c₂ list list₂ count
+      → Resized c bound c₂ list list₂ count
+  unfolding withBound withHead storeWithHead
+  then-resized {c₂ = c₂} advanced =
+      record {
+        between = withBound bound c;
+        after = c₂;
+        same = same-tasks (same-refl (withBound bound c));
+        kept = kept-within;
+        books = refl;
+        advanced = advanced;
+        phased = same-phase c₂ (advanced .same .phase ∙ may .now);
+      }
+
+  -- once it is written
+  module _ {c₁ : Contents} (is : c₁ ≡ withBound bound c) where
+    pub resize-advances : MayStart c₁ list
+    resize-advances = subst (λ (d : Contents). MayStart d list) (sym is) then-starts
+
+    pub resized :
+        {c₂ : Contents} {list₂ : List ℕ} {count : ℕ} → Advanced c₁ c₂ list list₂ count → Resized c bound c₂ list list₂ count
+    resized {c₂ = c₂} {list₂ = list₂} {count = count} advanced =
+        then-resized (subst (λ (d : Contents). Advanced d c₂ list list₂ count) is advanced)

@@ -1,4 +1,4 @@
--- Booking ahead and starting, the end of BEGIN and of DONE, said of the plan: the answer, the plan and the start list are those of
+-- Booking ahead and starting, the end of BEGIN, of DONE and of 08, said of the plan: the answer, the plan and the start list are those of
 -- the rules, and the plan stays sound.
 use mathlib.Core.Path.{_≡_, sym, ap, ap₂, subst, fun-ext, _∙_}
 use mathlib.Core.List.{List}
@@ -22,7 +22,7 @@ use Rattle.day.specs.Advanced.{bookedAhead, startsThen}
 use Rattle.day.specs.Day.{SameTasks, Proceeded}
 use Rattle.answer.proofs.Meant.{parents-meant, needs-columns}
 use Rattle.day.proofs.Same.{same-tasks, then-same}
-use Rattle.day.proofs.Staying.{Whole, phase-same, day-sound}
+use Rattle.day.proofs.Staying.{Whole, phase-same, head-cached, day-sound}
 
 module _ {c : Contents} (whole : Whole c) {k : Books} {c′ : Contents} {list list′ : List ℕ} {count : ℕ}
     (p : Proceeded c k c′ list list′ count) where
@@ -123,28 +123,7 @@ module _ {c : Contents} (whole : Whole c) {k : Books} {c′ : Contents} {list li
 
   then-cached : Cached then
   unfolding withHead storeWithHead
-  then-cached =
-      let k = p .advanced .kept .cached in
-      record {
-        long = k .long;
-        counted = k .counted;
-        marks = record { marked = k .marks .marked; filled = k .marks .filled };
-        reached = k .reached;
-        runs = k .runs;
-        ends = k .ends;
-        placed = k .placed;
-        standings-zero = k .standings-zero;
-        unended-zero = k .unended-zero;
-        store =
-            record {
-              needed = k .store .needed;
-              figured = k .store .figured;
-              totals = k .store .totals;
-              uses = k .store .uses;
-              booked-zero = k .store .booked-zero;
-              figures-zero = k .store .figures-zero;
-            };
-      }
+  then-cached = head-cached Phase.running (p .after .chilled .bound) (p .advanced .kept .cached)
 
   pub sound-then : Sound c′
   unfolding withHead storeWithHead

@@ -1,4 +1,4 @@
--- What a day leaves of what is given of a plan.
+-- What the parts of a command leave of what is given of a plan.
 use mathlib.Core.Path.{ap, _∙_}
 use Rattle.words.specs.Contents.{Contents}
 use Rattle.store.specs.Kept.{SamePlan}

@@ -5,7 +5,7 @@ use Prim.Native.Nat.{ℕ, suc, _≤_, _<_}
 use native.Mathlib.Omega.{arith}
 use Rattle.rules.specs.Lists.{at}
 use Rattle.rules.specs.Phase
-use Rattle.words.specs.Layout.{words}
+use Rattle.words.specs.Layout.{words, chilled}
 use Rattle.words.specs.Contents.{Contents, withHead, storeWithHead}
 use Rattle.store.specs.Cached.{Cached}
 use Rattle.store.specs.Store.{withStore, withHoldings, heldAlone}
@@ -48,6 +48,31 @@ phase-same phase t =
       bound = t .bound;
       works = t .works;
       outs = t .outs;
+    }
+
+-- nor do the figures of a day hang on the phase and the bound
+pub head-cached : {c : Contents} (phase bound : ℕ) → Cached c → Cached (withHead 0 phase (withHead chilled bound c))
+unfolding withHead storeWithHead
+head-cached phase bound k =
+    record {
+      long = k .long;
+      counted = k .counted;
+      marks = record { marked = k .marks .marked; filled = k .marks .filled };
+      reached = k .reached;
+      runs = k .runs;
+      ends = k .ends;
+      placed = k .placed;
+      standings-zero = k .standings-zero;
+      unended-zero = k .unended-zero;
+      store =
+          record {
+            needed = k .store .needed;
+            figured = k .store .figured;
+            totals = k .store .totals;
+            uses = k .store .uses;
+            booked-zero = k .store .booked-zero;
+            figures-zero = k .store .figures-zero;
+          };
     }
 
 -- nor on who runs and has ended, and on what one task holds alone

@@ -1,4 +1,4 @@
--- Booking ahead and starting, the end of BEGIN and of DONE: what they leave.
+-- Booking ahead and starting, the end of BEGIN, of DONE and of 08: what they leave.
 use mathlib.Core.Path.{_≡_}
 use mathlib.Core.List.{List}
 use Prim.Native.Nat.{ℕ}

@@ -1,14 +1,15 @@
--- What BEGIN, DONE and FETCH ask and leave of the contents of a plan.
+-- What BEGIN, DONE, 08 and FETCH ask and leave of the contents of a plan.
 use mathlib.Core.Path.{_≡_}
 use mathlib.Core.Bool.{Bool, _&&_, _||_}
 use mathlib.Core.List.{List}
-use Prim.Native.Nat.{ℕ, _≤_}
+use Prim.Native.Nat.{ℕ, _^_, _≤_, _<_}
 use lib.Dec.{eqb}
 use lib.ListN.{length}
 use Rattle.rules.specs.Limits.{maxProcessors, leastStarts}
 use Rattle.rules.specs.Phase
 use Rattle.rules.specs.Obey.{fresh}
 use Rattle.rules.specs.Booking.{Books}
+use Rattle.words.specs.Layout.{chilled}
 use Rattle.words.specs.Contents.{Contents, withHead}
 use Rattle.store.specs.Rows.{books}
 use Rattle.store.specs.Kept.{Kept}
@@ -23,7 +24,7 @@ unfoldable pub begins : Contents → Bool
 begins c =
     eqb (c .phase) Phase.orders && eqb (c .ranked) (c .size) && (eqb (c .placed) (c .size) || eqb (c .placed) 0)
 
--- what is given of a plan, which no day changes
+-- what is given of a plan, with the bound in force: sharing out, booking ahead and starting leave it
 pub record SameTasks (c c′ : Contents) : Type 0 where
   pub size : c′ .size ≡ c .size
   pub processors : c′ .processors ≡ c .processors
@@ -78,3 +79,21 @@ madeReady j c = withHead 0 Phase.ready (rootEnded j c)
 -- FETCH "frees it and leads to over"
 unfoldable pub madeOver : ℕ → Contents → Contents
 madeOver root c = withHead 0 Phase.over (withStore (heldAlone root 0 (c .chilled)) c)
+
+-- the plan with another bound of the cold room
+unfoldable pub withBound : ℕ → Contents → Contents
+withBound bound c = withHead chilled bound c
+
+-- 08, once there is no ground against it
+pub record MayResize (c : Contents) (bound : ℕ) (list : List ℕ) : Type 0 where
+  pub now : c .phase ≡ Phase.running
+  pub kept : Kept c
+  pub bounded : bound < 2 ^ 32
+  pub within : c .chilled .total ≤ bound
+  pub busy : c .active ≤ c .processors
+  pub few : c .processors ≤ maxProcessors
+  pub room : leastStarts ≤ length list
+
+-- "then booking ahead and starting follow"
+abbrev pub Resized : (c : Contents) (bound : ℕ) (c′ : Contents) (list list′ : List ℕ) (count : ℕ) → Type 0
+Resized c bound c′ list list′ count = Proceeded (withBound bound c) (books c) c′ list list′ count

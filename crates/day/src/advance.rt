@@ -1,4 +1,4 @@
-// Booking ahead and starting, the end of BEGIN and of DONE.
+// Booking ahead and starting, the end of BEGIN, of DONE and of 08.
 ghost use Rattle.words.specs.Contents.{contents};
 ghost use Rattle.starting.specs.Started.{MayStart};
 ghost use Rattle.day.specs.Advanced.{Advanced};

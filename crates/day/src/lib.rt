@@ -1,5 +1,7 @@
-// BEGIN, DONE and FETCH: a day begins, goes on where a task has ended, and is over with the fetch.
+// BEGIN, DONE, 08 and FETCH: a day begins, goes on where a task has ended or the cold room has another
+// bound, and is over with the fetch.
 mod advance;
 pub mod begin;
 pub mod fetch;
 pub mod report;
+pub mod resize;

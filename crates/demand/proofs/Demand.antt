@@ -10,6 +10,7 @@ use Rattle.rules.specs.Phase
 use Rattle.rules.specs.Standing
 use Rattle.rules.specs.State.{State, none}
 use Rattle.rules.specs.Command.{plan, read, decode}
+use Rattle.rules.specs.Grounds.{peakOf}
 use Rattle.rules.specs.Answer as rules
 use Rattle.rules.specs.Question as questions
 use Rattle.rules.specs.Why.{Reason, why}
@@ -191,8 +192,17 @@ module _ {w : List ℕ} (new : NewPlan w) (earlier : List Call) (opening : Call)
             subst₂ (λ (s t : State). SamePlan (completed s) t) (sym found) (sym stands)
             (theorem .plans (asked earlier) (opening .asking) (asked later) begins none-next);
         places =
-            subst₂ (λ (s t : State). t .chilled .bound ≡ s .chilled .bound) (sym found) (sym stands)
-            (theorem .places (asked earlier) (opening .asking) (asked later) begins none-next);
+            subst (λ (l : List days.Event). planOf (leftBy w (earlier ++ opening ∷ later)) .chilled .bound ≡ days.inForce (planOf (leftBy w earlier) .chilled .bound) l)
+            (sym log-is)
+            (subst₂
+            (λ (s t : State).
+            t .chilled .bound
+            ≡ days.inForce (s .chilled .bound) (days.log (days.after none (asked earlier)) (asked (opening ∷ later))))
+            (sym found) (sym stands)
+            (theorem .places (asked earlier) (opening .asking) (asked later) begins none-next));
+        fits =
+            subst (λ (s : State). peakOf s ≤ s .chilled .bound) (sym stands)
+            (theorem .fits (asked earlier) (opening .asking) (asked later) begins none-next);
         questions = answers-hold (leftBy w (earlier ++ opening ∷ later)) (history (opening ∷ later)) day;
       }
 
@@ -209,13 +219,16 @@ module _ {w : List ℕ} (new : NewPlan w) (earlier : List Call) (opening : Call)
       → accepted opening ≡ true
       → decode (opening .asking .stream) (opening .asking .place) ≡ read (plan n p m) used
       → nextPlan later ≡ false
-      → OpenedWith n p m (planOf (leftBy w (earlier ++ opening ∷ later)))
+      → OpenedWith n p (days.inForce m (history later)) (planOf (leftBy w (earlier ++ opening ∷ later)))
   unfolding Calls asked days.after
   plan-of n p m used granted bytes next =
-      subst (λ (s : State). OpenedWith n p m s)
+      subst₂ (λ (s : State) (l : List days.Event). OpenedWith n p (days.inForce m l) s)
       (ap (λ (s : State). days.after s (asked (opening ∷ later))) found
       ∙ sym (after-append (asked earlier) (asked (opening ∷ later)) none)
       ∙ sym stands)
+      (sym
+      (history-is later (opening .left) (parts .1 .1)
+      ∙ ap (λ (s : State). days.log s (asked later)) (state-is (parts .1 .0))))
       (opened-stays (asked later) (rules.command (planOf (leftBy w earlier)) (opening .asking) .state)
       (opened-first (planOf (leftBy w earlier)) (opening .asking) used (sym (accepted-is (parts .1 .0)) ∙ granted) bytes)
       (ap (λ (s : State). days.nextPlan s (asked later)) (sym (state-is (parts .1 .0)))
@@ -270,7 +283,7 @@ every-call-holds w new calls e =
           λ earlier call later split. peak-of new earlier call later (subst (λ (l : List Call). Calls w l) split e);
       plans =
           λ earlier opening later n p m used split granted bytes next.
-          subst (λ (l : List Call). OpenedWith n p m (planOf (leftBy w l))) (sym split)
+          subst (λ (l : List Call). OpenedWith n p (days.inForce m (history later)) (planOf (leftBy w l))) (sym split)
           (plan-of new earlier opening later (subst (λ (l : List Call). Calls w l) split e) n p m used granted bytes next);
       days =
           λ earlier opening later split opens next.

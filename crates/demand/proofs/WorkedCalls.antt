@@ -9,13 +9,14 @@ use Rattle.rules.specs.State.{State}
 use Rattle.rules.specs.Command.{plan, bytes, decode}
 use Rattle.rules.specs.Reachable.{Reachable, next}
 use Rattle.rules.specs.Answer as rules
+use Rattle.rules.specs.Day.{inForce}
 use Rattle.rules.specs.Marked.{ask, reading}
 use Rattle.rules.proofs.Computing.{computing}
 use Rattle.words.specs.Layout.{words, headBase}
 use Rattle.words.specs.Contents.{contents}
 use Rattle.answer.specs.Meaning.{planOf}
 use Rattle.answer.specs.ValidPlan.{Judged, NewPlan}
-use Rattle.demand.specs.Calls.{Call, CallContract, Calls, Entries, Answers, leftBy, asked, allReceived, nextPlan}
+use Rattle.demand.specs.Calls.{Call, CallContract, Calls, Entries, Answers, leftBy, asked, allReceived, nextPlan, history}
 use Rattle.demand.specs.Demand.{OpenedWith, CallsHold}
 use Rattle.answer.proofs.Obeying.{refused, accepted, acceptance}
 use Rattle.opening.proofs.Opening.{opening-contents, opening-sound, opening-means, open-free}
@@ -86,7 +87,7 @@ worked-numbers w = refl
 
 -- the plan is the one that the second call opened
 pub worked-plan : OpenedWith 3 2 7 (planOf (leftBy (replicate words 0) (worked (replicate words 0))))
-unfolding worked opens ask computing nextPlan
+unfolding worked opens ask computing nextPlan history inForce
 worked-plan =
     worked-hold .plans (unknown (replicate words 0) ∷ []) (opens (replicate words 0)) [] 3 2 7 8 refl refl refl refl
 

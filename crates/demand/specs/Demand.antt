@@ -11,7 +11,7 @@ use Rattle.rules.specs.Phase
 use Rattle.rules.specs.Standing
 use Rattle.rules.specs.State.{State, none}
 use Rattle.rules.specs.Command as rules
-use Rattle.rules.specs.Grounds.{inTurn}
+use Rattle.rules.specs.Grounds.{inTurn, peakOf}
 use Rattle.rules.specs.Question as questions
 use Rattle.rules.specs.Why.{why}
 use Rattle.rules.specs.Reasons.{ReasonHolds}
@@ -21,7 +21,7 @@ use Rattle.rules.specs.Restored.{WriteHolds}
 use Rattle.rules.specs.Find.{findOrder}
 use Rattle.rules.specs.FoundOrder.{SameTasks, BeginsUnlessNoneFits, FindHolds}
 use Rattle.rules.specs.PeakTask.{PeakHolds}
-use Rattle.rules.specs.Day.{Event, ends, isFetched, after, answers}
+use Rattle.rules.specs.Day.{Event, ends, isFetched, inForce, after, answers}
 use Rattle.rules.specs.Obey.{withOrders, completed}
 use Rattle.rules.specs.Theorem.{DayHolds, OrdersHold, SamePlan, runs, usedBy}
 use Rattle.answer.specs.Meaning.{planOf}
@@ -47,8 +47,8 @@ use Rattle.demand.specs.Calls.{
   history,
 }
 
--- what the questions answer in a day: w are the words of the plan as it stands, and `happened` the day's starts, ends and fetch so
--- far
+-- what the questions answer in a day: w are the words of the plan as it stands, and `happened` the day's starts, ends, fetch and new
+-- bounds so far
 pub record AnswersHold (w : List ℕ) (happened : List Event) (q : Answers w) : Type 0 where
   -- running while fewer than n reports were accepted, ready from the n-th to the fetch, and over from then on
   pub running : (q .phase ≡ Phase.running) ↔ (length (ends happened) < planOf w .size)
@@ -77,13 +77,15 @@ pub record DayOfCalls (w w′ : List ℕ) (happened : List Event) : Type 0 where
   -- all that the rules promise of a day holds of the plan and of what happened
   pub day : DayHolds (planOf w′) happened
   pub orders : OrdersHold (planOf w′)
-  -- the plan is the one that BEGIN found, with the activation order used for both where no 04 was given, and with its places
+  -- the plan is the one that BEGIN found, with the activation order used for both where no 04 was given
   pub plan : SamePlan (completed (planOf w)) (planOf w′)
-  pub places : planOf w′ .chilled .bound ≡ planOf w .chilled .bound
+  -- its places are those of the last accepted 08 of the day, or those that BEGIN found, and never below the peak
+  pub places : planOf w′ .chilled .bound ≡ inForce (planOf w .chilled .bound) happened
+  pub fits : peakOf (planOf w′) ≤ planOf w′ .chilled .bound
   -- and the questions answer what is promised of them in a day
   pub questions : (q : Answers w′) → AnswersHold w′ happened q
 
--- "PLAN: n, p, M": a plan that was opened with these
+-- "PLAN: n, p, M": a plan with these
 pub record OpenedWith (n p m : ℕ) (s : State) : Type 0 where
   pub size : s .size ≡ n
   pub processors : s .processors ≡ p
@@ -156,14 +158,15 @@ pub record CallsHold (w : List ℕ) (calls : List Call) : Type 0 where
       (earlier : List Call) (call : Call) (later : List Call)
       → calls ≡ earlier ++ call ∷ later
       → PeakHolds (planOf (leftBy w earlier)) (call .asking) (received call)
-  -- a call that opens a plan: as long as no next plan is opened, n, p and M are those that its bytes gave
+  -- a call that opens a plan: as long as no next plan is opened, n and p are those that its bytes gave, and M is that of the last
+  -- accepted 08, or the one that they gave
   pub plans :
       (earlier : List Call) (opening : Call) (later : List Call) (n p m used : ℕ)
       → calls ≡ earlier ++ opening ∷ later
       → accepted opening ≡ true
       → rules.decode (opening .asking .stream) (opening .asking .place) ≡ rules.read (rules.plan n p m) used
       → nextPlan later ≡ false
-      → OpenedWith n p m (planOf (leftBy w calls))
+      → OpenedWith n p (inForce m (history later)) (planOf (leftBy w calls))
   -- a call that opens a day: as long as no next plan is opened, all that is promised of a day holds
   pub days :
       (earlier : List Call) (opening : Call) (later : List Call)

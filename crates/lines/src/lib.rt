@@ -3,7 +3,7 @@
 mod tail;
 
 ghost use lib.ListN.{take};
-ghost use Rattle.rules.specs.Text.{beginLine, doneLine, fetchLine, refusedLine};
+ghost use Rattle.rules.specs.Text.{beginLine, doneLine, fetchLine, placesLine, refusedLine};
 ghost use Rattle.lines.specs.Line.{Line};
 
 // No line has more bytes.
@@ -58,6 +58,23 @@ pub fn fetch_line(buffer: &mut [u8], booked: u32) -> usize
     let next = put::text(buffer, 0, b"fetch booked=");
     let next = put::decimal(buffer, next, booked as u64);
     put::byte(buffer, next, b'\n')
+}
+
+// The line of an accepted 08: the new bound, and the rest as for BEGIN.
+pub fn places_line(
+    buffer: &mut [u8],
+    bound: u32,
+    booked: u32,
+    used: u32,
+    full: u32,
+    starts: &[u16],
+    count: usize,
+) -> usize
+    ensures { λ r. ⌜ Line (placesLine bound booked used full (take count (now (starts .entry)))) count (now (buffer .entry)) (now (buffer .exit)) r ⌝ }
+{
+    let next = put::text(buffer, 0, b"places M=");
+    let next = put::decimal(buffer, next, bound as u64);
+    tail::figures(buffer, next, booked, used, full, starts, count)
 }
 
 // The line of a refusal: its number, and the byte offset of the command.

@@ -1,4 +1,4 @@
-// What the lines of BEGIN and DONE go on with: the figures, and the tasks that were started.
+// What the lines of BEGIN, DONE and 08 go on with: the figures, and the tasks that were started.
 ghost use mathlib.Core.Path.{_≡_};
 ghost use mathlib.Core.List.{[], _∷_};
 ghost use lib.ListN.{take};

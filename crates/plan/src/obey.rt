@@ -11,6 +11,7 @@ use codec::decode;
 use day::begin::begin;
 use day::fetch::fetch;
 use day::report::report;
+use day::resize::resize;
 use opening::add_task;
 use opening::open;
 use ordering::place;
@@ -32,6 +33,7 @@ fn obey(plan: &mut [u32; Plan::WORDS], asked: Decoded, starts: &mut [u16]) -> An
             Command::Begin => begin(plan, used, starts),
             Command::Done(task) => report(plan, task, used, starts),
             Command::Fetch => fetch(plan, used),
+            Command::Places(bound) => resize(plan, bound, used, starts),
         },
     }
 }

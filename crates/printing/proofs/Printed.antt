@@ -5,11 +5,11 @@ use Prim.Native.Nat.{ℕ}
 use native.Mathlib.Omega.{arith}
 use lib.ListN.{take}
 use Rattle.rules.specs.Answer as rules
-use Rattle.rules.specs.Text.{beginLine, doneLine, fetchLine, line, acceptedLine}
+use Rattle.rules.specs.Text.{beginLine, doneLine, fetchLine, placesLine, line, acceptedLine}
 use Rattle.rules.specs.Question.{booked, inUse, fullness}
 use Rattle.codec.specs.Meaning.{commandOf, decoded}
 use Rattle.codec.specs.declared.Command.{Command}
-use Rattle.codec.specs.declared.Command.the-variants.{Begin, Done, Fetch}
+use Rattle.codec.specs.declared.Command.the-variants.{Begin, Done, Fetch, Places}
 use Rattle.codec.specs.declared.Decoded.{Decoded}
 use Rattle.codec.specs.declared.Decoded.the-variants.{Refused, Read}
 use Rattle.put.proofs.Pieces.{nothing, whole}
@@ -41,7 +41,7 @@ unfolding acceptedLine
 of-read a e e′ = ap (λ (d : Decoded). acceptedLine (decoded d) a) e ∙ ap (λ (k : Command). line (commandOf k) a) e′
 
 module _ (a : rules.Answered) {b u f : ℕ} (eb : b ≡ booked (a .state)) (eu : u ≡ inUse (a .state)) (ef : f ≡ fullness (a .state)) where
-  -- the lines of BEGIN and DONE with the figures that the questions answered
+  -- the lines of BEGIN, DONE and 08 with the figures that the questions answered
   pub of-begin : line (commandOf Begin) a ≡ beginLine (a .answer .peak) b u f (take (a .answer .starts) (a .list))
   unfolding line
   of-begin = rw (eb, eu, ef)
@@ -50,6 +50,10 @@ module _ (a : rules.Answered) {b u f : ℕ} (eb : b ≡ booked (a .state)) (eu :
       → line (commandOf (Done j)) a ≡ doneLine j (a .answer .offers) b u f (take (a .answer .starts) (a .list))
   unfolding line
   of-done j = rw (eb, eu, ef)
+
+  pub of-places : (bound : ℕ) → line (commandOf (Places bound)) a ≡ placesLine bound b u f (take (a .answer .starts) (a .list))
+  unfolding line
+  of-places bound = rw (eb, eu, ef)
 
 -- a line that tells no tasks is no longer for their number
 pub no-tasks : {text buffer buffer′ : List ℕ} {count n : ℕ} → Line text 0 buffer buffer′ n → Line text count buffer buffer′ n

@@ -74,7 +74,8 @@ Short f = room (f .widths) ≤ 7
 
 all-short : All Short forms
 unfolding forms room
-all-short = (omega arith, (omega arith, (omega arith, (omega arith, (omega arith, (omega arith, (omega arith, tt)))))))
+all-short =
+    (omega arith, (omega arith, (omega arith, (omega arith, (omega arith, (omega arith, (omega arith, (omega arith, tt))))))))
 
 -- so a command that is awaited has at most 7 bytes
 decode-few :

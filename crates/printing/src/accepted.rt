@@ -11,13 +11,14 @@ use codec::Decoded;
 use lines::begin_line;
 use lines::done_line;
 use lines::fetch_line;
+use lines::places_line;
 use question::booked;
 use question::fullness;
 use question::in_use;
 use words::plan::Plan;
 
-// It is put to the front of the buffer: a line of BEGIN, DONE or FETCH, and nothing for the others. The
-// figures are those of the plan that the command leaves.
+// It is put to the front of the buffer: a line of BEGIN, DONE, FETCH or 08, and nothing for the others.
+// The figures are those of the plan that the command leaves.
 pub(crate) fn accepted_line(
     plan: &[u32; Plan::WORDS],
     asked: Decoded,
@@ -66,6 +67,15 @@ pub(crate) fn accepted_line(
                 answer.starts,
             ),
             Command::Fetch => fetch_line(buffer, booked(plan)),
+            Command::Places(bound) => places_line(
+                buffer,
+                bound,
+                booked(plan),
+                in_use(plan),
+                fullness(plan),
+                starts,
+                answer.starts,
+            ),
         },
     }
 }

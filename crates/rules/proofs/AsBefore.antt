@@ -19,6 +19,7 @@ use Rattle.rules.specs.Command.{
   begin,
   done,
   fetch,
+  places,
   Decoded,
   refused,
   read,
@@ -134,6 +135,7 @@ begin-read stream place e = go (decode stream place) refl e
         let by = read-by stream place begin used is in ap (read begin) (sym (by .long) ∙ ap (λ (l : List ℕ). 1 + room l) (sym (by .wide)))
     go (read (done i) used) is e = absurd (clash e refl)
     go (read fetch used) is e = absurd (clash e refl)
+    go (read (places bound) used) is e = absurd (clash e refl)
 
 module _ (s : State) (a : Asking) where
   abbrev asked : Decoded

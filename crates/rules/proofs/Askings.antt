@@ -1,16 +1,18 @@
 -- One asking of a plan that commands led to: its starts are few, and fit its start list.
 use mathlib.Core.Path.{_≡_, ap}
+use mathlib.Core.Bool.{true}
 use mathlib.Core.List.{List}
 use Prim.Native.Nat.{ℕ, _≤_}
 use native.Mathlib.Omega.{arith}
 use lib.ListN.{length, drop, length-append, length-drop}
 use lib.Seq.{drop-append-seam}
-use Rattle.rules.specs.Lists.{at}
+use Rattle.rules.specs.Lists.{at, every}
 use Rattle.rules.specs.Peak.{Peaked}
 use Rattle.rules.specs.State.{State}
-use Rattle.rules.specs.Command.{Command, plan, task, activation, execution, begin, done, fetch}
+use Rattle.rules.specs.Command.{Command, plan, task, activation, execution, begin, done, fetch, places}
+use Rattle.rules.specs.Grounds.{within}
 use Rattle.rules.specs.Booking.{Books, free}
-use Rattle.rules.specs.Obey.{withOrders, completed, ahead, begun, proceed, obey}
+use Rattle.rules.specs.Obey.{withOrders, completed, withBound, ahead, begun, proceed, obey}
 use Rattle.rules.specs.Answer.{Asking, Answered, refuse, front, accept, command}
 use Rattle.rules.specs.Theorem.{AskingHolds}
 use Rattle.rules.proofs.Tests.{clash}
@@ -21,25 +23,26 @@ use Rattle.rules.proofs.Steps.{Refused, Obeyed, Step, is-refused, is-ob
 -- no more tasks start than there are processors
 proceed-few :
     (s : State) (phase : ℕ) (k : Books) (peak : Peaked) (offers : ℕ)
-    → Formed s
+    → every (λ i. within i (s .size)) (s .execution) ≡ true
     → length (proceed s phase k peak offers .started) ≤ s .processors
 unfolding proceed begun free
-proceed-few s phase k peak offers h =
+proceed-few s phase k peak offers inside =
     let few =
-    starts-length (s .size) (at (s .parents)) (s .execution) (h .execution-inside)
+    starts-length (s .size) (at (s .parents)) (s .execution) inside
     (free (s .size) (s .processors) (ahead s k .standings)) (ahead s k .standings)
     in
     omega arith
 
 obey-few : (s : State) (c : Command) → Formed s → length (obey s c .started) ≤ s .processors
-unfolding obey completed withOrders
+unfolding obey completed withOrders withBound
 obey-few s (plan n p bound) h = omega arith
 obey-few s (task parent work out) h = omega arith
 obey-few s (activation i) h = omega arith
 obey-few s (execution i) h = omega arith
-obey-few s begin h = proceed-few (completed s) _ _ _ _ (completed-formed s h)
-obey-few s (done j) h = proceed-few s _ _ _ _ h
+obey-few s begin h = proceed-few (completed s) _ _ _ _ (completed-formed s h .execution-inside)
+obey-few s (done j) h = proceed-few s _ _ _ _ (h .execution-inside)
 obey-few s fetch h = omega arith
+obey-few s (places bound) h = proceed-few (withBound s bound) _ _ _ _ (h .execution-inside)
 
 -- starts that fit leave a list as long as it was
 pub front-long : (l list : List ℕ) → length l ≤ length list → length (front l list) ≡ length list

@@ -13,7 +13,7 @@ use lib.ListN.{length, take, drop, length-append, length-drop}
 use lib.Seq.{drop-cons, getD-drop}
 use Rattle.rules.specs.Limits.{maxCount, maxBound}
 use Rattle.rules.specs.Lists.{at, AllBytes}
-use Rattle.rules.specs.Command.{Command, plan, task, activation, execution, begin, done, fetch, Form, forms, find, byteOf, operandsOf, widthsOf, littles, numbers, room, bytes, Decoded, refused, read, readBy, table, decode}
+use Rattle.rules.specs.Command.{Command, plan, task, activation, execution, begin, done, fetch, places, Form, forms, find, byteOf, operandsOf, widthsOf, littles, numbers, room, bytes, Decoded, refused, read, readBy, table, decode}
 use Rattle.rules.proofs.Tests.{decide, le-or-lt}
 use Rattle.rules.proofs.Number.{Fit, numbers-fit, numbers-littles, littles-numbers, length-littles, length-numbers}
 
@@ -115,7 +115,10 @@ all-kept = (
         record { byte = λ x. refl; operands = one-entry },
         (
           record { byte = λ x. refl; operands = no-entry },
-          (record { byte = λ x. refl; operands = one-entry }, (record { byte = λ x. refl; operands = no-entry }, tt)),
+          (
+            record { byte = λ x. refl; operands = one-entry },
+            (record { byte = λ x. refl; operands = no-entry }, (record { byte = λ x. refl; operands = one-entry }, tt)),
+          ),
         ),
       ),
     ),
@@ -181,6 +184,7 @@ line-of (execution i) = record { form = _; there = refl; means = refl }
 line-of begin = record { form = _; there = refl; means = refl }
 line-of (done i) = record { form = _; there = refl; means = refl }
 line-of fetch = record { form = _; there = refl; means = refl }
+line-of (places bound) = record { form = _; there = refl; means = refl }
 
 -- a line reads its operands where they are whole
 line-reads :
@@ -259,6 +263,10 @@ decode-fits stream place c used e all =
 pub bound-fits : (n p bound : ℕ) → fits (plan n p bound) → bound ≤ maxBound
 unfolding widthsOf find forms byteOf operandsOf
 bound-fits n p bound h = let last = h .1 .1 .0 in omega arith
+
+pub places-fit : (bound : ℕ) → fits (places bound) → bound ≤ maxBound
+unfolding widthsOf find forms byteOf operandsOf
+places-fit bound h = let first = h .0 in omega arith
 
 pub counts-fit : (parent work out : ℕ) → fits (task parent work out) → (work ≤ maxCount) × (out ≤ maxCount)
 unfolding widthsOf find forms byteOf operandsOf

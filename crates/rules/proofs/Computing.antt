@@ -54,6 +54,7 @@ use Rattle.rules.specs.Obey.{
   executionOrder,
   completed,
   withBooks,
+  withBound,
   ahead,
   begun,
   proceed,
@@ -86,6 +87,7 @@ use Rattle.rules.specs.Text.{
   beginLine,
   doneLine,
   fetchLine,
+  placesLine,
   line,
   refusedLine,
   acceptedLine,
@@ -164,6 +166,7 @@ unfolding
     executionOrder
     completed
     withBooks
+    withBound
     ahead
     begun
     proceed
@@ -234,6 +237,7 @@ unfolding
     beginLine
     doneLine
     fetchLine
+    placesLine
     line
     refusedLine
     acceptedLine

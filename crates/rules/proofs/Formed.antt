@@ -13,9 +13,9 @@ use Rattle.rules.specs.Limits.{maxTasks, maxProcessors, maxCount, maxBou
 use Rattle.rules.specs.Lists.{at, mem, every, distinct}
 use Rattle.rules.specs.Phase
 use Rattle.rules.specs.State.{State, none}
-use Rattle.rules.specs.Command.{Command, plan, task, activation, execution, begin, done, fetch}
+use Rattle.rules.specs.Command.{Command, plan, task, activation, execution, begin, done, fetch, places}
 use Rattle.rules.specs.Grounds.{inTurn, inLimits, within, demand, ownGround, ground}
-use Rattle.rules.specs.Obey.{opened, withTask, withOrders, completed, withBooks, proceed, phaseAfter, unloaded, obey}
+use Rattle.rules.specs.Obey.{opened, withTask, withOrders, completed, withBooks, withBound, proceed, phaseAfter, unloaded, obey}
 use Rattle.rules.proofs.Tests.{and-true, same-or-not}
 use Rattle.rules.proofs.Orders.{within-task, every-snoc, distinct-snoc}
 use Rattle.rules.proofs.Completing.{either-order, begin-turn}
@@ -221,6 +221,31 @@ one-more s l i h limits own =
       once = distinct-snoc l i (h .once) (new-entry i l own);
     }
 
+-- other places of the cold room
+pub with-bound-formed : (s : State) (bound : ℕ) → bound ≤ maxBound → Formed s → Formed (withBound s bound)
+unfolding withBound
+with-bound-formed s bound limit h =
+    record {
+      sized = h .sized;
+      parents = h .parents;
+      light = h .light;
+      bounded = limit;
+      columns =
+          record {
+            works-long = h .columns .works-long;
+            outs-long = h .columns .outs-long;
+            nobody = h .columns .nobody;
+            in-steps = h .columns .in-steps;
+            whole = h .columns .whole;
+          };
+      activation-inside = h .activation-inside;
+      activation-once = h .activation-once;
+      execution-inside = h .execution-inside;
+      execution-once = h .execution-once;
+      staffed = h .staffed;
+      limited = h .limited;
+    }
+
 -- BEGIN completes them
 pub completed-formed : (s : State) → Formed s → Formed (completed s)
 unfolding completed
@@ -231,7 +256,7 @@ completed-formed s h =
 
 -- an accepted command keeps it
 pub obey-formed : (s : State) (c : Command) → Accepted s c → Formed s → Formed (obey s c .state)
-unfolding obey opened withTask withOrders completed unloaded inTurn inLimits ownGround every distinct proceed
+unfolding obey opened withTask withOrders completed unloaded withBound inTurn inLimits ownGround every distinct proceed
 obey-formed s (plan n p bound) a h =
     let limits = and-true (within n maxTasks && within p maxProcessors) (leb bound maxBound) (a .limits) in
     let both = and-true (within n maxTasks) (within p maxProcessors) (limits .0) in
@@ -292,3 +317,7 @@ obey-formed s (done j) a h =
 obey-formed s fetch a h =
     let now = eqb-true (s .phase) Phase.ready (a .turn) in
     with-books-formed s _ _ _ (h .staffed (λ e. omega arith)) (omega arith) (omega arith) h
+obey-formed s (places bound) a h =
+    let now = eqb-true (s .phase) Phase.running (a .turn) in
+    with-books-formed (withBound s bound) _ _ _ (h .staffed (λ e. omega arith)) (omega arith) (omega arith)
+    (with-bound-formed s bound (leb-true bound maxBound (a .limits)) h)

@@ -7,7 +7,7 @@ use Prim.Native.Nat.{ℕ, _≤_, _<_}
 use native.Mathlib.Omega.{arith}
 use lib.Dec.{eqb}
 use lib.ListN.{length}
-use borrow.Author.Tests.{eqb-true, eq-eqb, ne-eqb, le-leb}
+use borrow.Author.Tests.{eqb-true, eq-eqb, ne-eqb, le-leb, leb-true}
 use Rattle.rules.specs.Sums.{countTo}
 use Rattle.rules.specs.Lists.{at, mem, every}
 use Rattle.rules.specs.Need
@@ -15,17 +15,21 @@ use Rattle.rules.specs.Phase
 use Rattle.rules.specs.Standing
 use Rattle.rules.specs.Standing.{waiting, activated, running, finished, count, counts}
 use Rattle.rules.specs.State.{State}
-use Rattle.rules.specs.Command.{fetch}
-use Rattle.rules.specs.Grounds.{within, inTurn, inLimits, ownGround, ground}
+use Rattle.rules.specs.Command.{fetch, places}
+use Rattle.rules.specs.Limits.{maxBound}
+use Rattle.rules.specs.Grounds.{within, inTurn, inLimits, peakOf, ownGround, ground}
+use Rattle.rules.specs.Booking.{total}
 use Rattle.rules.specs.Question
 use Rattle.rules.specs.Day.{Event, starts, ends, isFetched}
 use Rattle.rules.specs.Theorem.{runs, DayHolds}
 use Rattle.rules.proofs.Tests.{clash, same-or-not}
-use Rattle.rules.proofs.Sums.{Task, count-le, count-none}
+use Rattle.rules.proofs.Sums.{Task, count-le, count-none, only-true, only-le}
 use Rattle.rules.proofs.Counts.{count-full, count-cong}
 use Rattle.rules.proofs.Orders.{within-task, every-mem}
 use Rattle.rules.proofs.Log.{reports, all-reported}
-use Rattle.rules.proofs.Formed.{demand-none}
+use Rattle.rules.proofs.Judging.{ground-own}
+use Rattle.rules.proofs.Formed.{Accepted, demand-none, no-ground}
+use Rattle.rules.proofs.Placing.{grounds-fit}
 use Rattle.rules.proofs.Going.{not-all, somebody-runs}
 use Rattle.rules.proofs.Stores.{runs-is, nobody-then, store-holds}
 use Rattle.rules.proofs.InDay.{Going, Closed, Course, goes, closed, InDay, past-running}
@@ -129,6 +133,32 @@ module _ (s : State) (happened : List Event) (day : InDay s happened) where
     (λ e. rw (eq-eqb (s .phase) Phase.ready e) refl),
   )
 
+  -- 08 is taken in running, with a bound that is at least the peak and at least what is booked
+  placing :
+      (m : ℕ)
+      → (ground s (places m) ≡ 0)
+      ↔ ((s .phase ≡ Phase.running) × (m ≤ maxBound) × (peakOf s ≤ m) × (Question.booked s ≤ m))
+  unfolding inTurn inLimits ownGround Phase.holdsTrays Question.booked
+  placing m = (
+    (λ e.
+        let a : Accepted s (places m) = no-ground s (places m) e in
+        let fits = grounds-fit s m (a .own) in
+        let low = only-le (Phase.holdsTrays (s .phase)) (total (s .size) (at (s .chilled .booked))) in
+        let most = fits .booked in (
+          eqb-true (s .phase) Phase.running (a .turn),
+          leb-true m maxBound (a .limits),
+          fits .peak,
+          omega arith,
+        )),
+    (λ h.
+        let held : Phase.holdsTrays (s .phase) ≡ true = rw (h .0) refl in
+        let all = only-true (Phase.holdsTrays (s .phase)) (total (s .size) (at (s .chilled .booked))) held in
+        let most = h .3 in
+        let booked : total (s .size) (at (s .chilled .booked)) ≤ m = omega arith in
+        ground-own s (places m) (eq-eqb (s .phase) Phase.running (h .0)) (le-leb m maxBound (h .1))
+        ∙ rw (le-leb (peakOf s) m (h .2), le-leb _ m booked) refl),
+  )
+
   -- once all have ended the four counts are these
   all-counted :
       length (ends happened) ≡ s .size → counts (s .size) (at (s .standings)) ≡ 0 ∷ 0 ∷ 0 ∷ s .size ∷ []
@@ -162,6 +192,7 @@ module _ (s : State) (happened : List Event) (day : InDay s happened) where
             );
         fetch = day .order .fetch;
         fetching = fetching;
+        placing = placing;
         running = phases .running;
         ready = phases .ready;
         over = phases .over;

@@ -1,4 +1,4 @@
--- A plan in its day: what holds after an accepted BEGIN, after each accepted DONE and after the FETCH.
+-- A plan in its day: what holds after an accepted BEGIN, after each accepted DONE and 08, and after the FETCH.
 use mathlib.Core.Path.{_≡_, refl, sym, _∙_}
 use mathlib.Core.Bool.{Bool, true, false, cond}
 use mathlib.Core.List.{List, _++_, map}
@@ -31,7 +31,7 @@ use Rattle.rules.proofs.Log.{Logged, InOrder, starts-unfetched}
 use Rattle.rules.proofs.Completing.{begin-turn}
 use Rattle.rules.proofs.Formed.{Formed, Accepted, demand-none, with-books-formed, completed-formed}
 
--- the plan as BEGIN found it in order and completed it, and the bound in force above its peak
+-- the plan as BEGIN found it in order and completed it, and the bound in force, at least its peak
 pub record Planned (s : State) : Type 0 where
   pub formed : Formed s
   pub given : Phase.orders ≤ s .phase

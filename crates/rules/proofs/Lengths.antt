@@ -18,6 +18,7 @@ use Rattle.rules.specs.Text.{
   beginLine,
   doneLine,
   fetchLine,
+  placesLine,
   refusedLine,
 }
 
@@ -95,6 +96,10 @@ module _ (total used full count : ℕ) (list : List ℕ) (few : count ≤ maxPro
   doneLine-short j offers h h′ =
       simp length-append
       (omega (arith, decimal-short 4 j (omega arith), decimal-short 19 offers (omega arith), figures-short))
+
+  pub placesLine-short : (bound : ℕ) → Wide 32 bound → length (placesLine bound total used full (take count list)) ≤ longestLine
+  unfolding placesLine ascii
+  placesLine-short bound h = simp length-append (omega (arith, decimal-short 9 bound (omega arith), figures-short))
 
 pub refusedLine-short : (k offset : ℕ) → Wide 8 k → Wide 64 offset → length (refusedLine k offset) ≤ longestLine
 unfolding refusedLine ascii

@@ -47,10 +47,12 @@ pub mod Opening
 pub mod Closing
 pub mod Reporting
 pub mod Fetching
+pub mod Placing
 pub mod Questions
 pub mod Going
 pub mod Stores
 pub mod Holds
+pub mod InForce
 pub mod Staying
 pub mod Steps
 pub mod Refusals

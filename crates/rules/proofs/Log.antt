@@ -1,4 +1,4 @@
--- Laws of what happens in a day: starts, ends and the fetch in order, and how they agree with the standings.
+-- Laws of what happens in a day: starts, ends, the fetch and other bounds in order, and how they agree with the standings.
 use mathlib.Core.Path.{_≡_, refl, sym, ap, ap₂, subst, _∙_}
 use mathlib.Core.Bool.{Bool, true, false, not, _&&_, _||_}
 use mathlib.Core.Logic.{_⊎_, ⊎-elim}
@@ -12,7 +12,7 @@ use Rattle.rules.specs.Lists.{at, mem, every, distinct}
 use Rattle.rules.specs.Grounds.{within}
 use Rattle.rules.specs.Standing.{activated, running, finished, count}
 use Rattle.rules.specs.Booking.{start}
-use Rattle.rules.specs.Day.{Event, started, ended, fetched, starts, ends, isFetched}
+use Rattle.rules.specs.Day.{Event, started, ended, fetched, bounded, starts, ends, isFetched}
 use Rattle.rules.specs.Theorem.{runs}
 use Rattle.rules.proofs.Tests.{same-or-not, or-right, or-none, eqb-above}
 use Rattle.rules.proofs.Sums.{Task, count-all}
@@ -29,6 +29,7 @@ starts-append [] m = refl
 starts-append (started i ∷ l) m = ap (λ (k : List ℕ). i ∷ k) (starts-append l m)
 starts-append (ended i ∷ l) m = starts-append l m
 starts-append (fetched ∷ l) m = starts-append l m
+starts-append (bounded b ∷ l) m = starts-append l m
 
 pub ends-append : (l m : List Event) → ends (l ++ m) ≡ ends l ++ ends m
 unfolding ends
@@ -36,6 +37,7 @@ ends-append [] m = refl
 ends-append (started i ∷ l) m = ends-append l m
 ends-append (ended i ∷ l) m = ap (λ (k : List ℕ). i ∷ k) (ends-append l m)
 ends-append (fetched ∷ l) m = ends-append l m
+ends-append (bounded b ∷ l) m = ends-append l m
 
 -- the fetch, in what happens one after the other
 pub fetched-append : (l m : List Event) → isFetched (l ++ m) ≡ (isFetched l || isFetched m)
@@ -44,6 +46,7 @@ fetched-append [] m = refl
 fetched-append (started i ∷ l) m = fetched-append l m
 fetched-append (ended i ∷ l) m = fetched-append l m
 fetched-append (fetched ∷ l) m = refl
+fetched-append (bounded b ∷ l) m = fetched-append l m
 
 -- starts are no fetch
 pub starts-unfetched : (l : List ℕ) (happened : List Event) → isFetched (happened ++ map started l) ≡ isFetched happened
@@ -176,6 +179,22 @@ module _ (n : ℕ) (par : ℕ → ℕ) where
       no-end : (i : ℕ) → ended i ≡ fetched → ⊥
       no-end i q = let z : _≡_ {A = ℕ} 0 1 = cc in omega arith
 
+  -- another bound
+  pub bounded-in-order :
+      (old : List Event) (bound : ℕ) → InOrder n par old → InOrder n par (old ++ (bounded bound ∷ []))
+  bounded-in-order old bound h =
+      one-more old (bounded bound) h (λ i q. absurd (no-start i q)) (λ i q. absurd (no-start i q)) (λ i q. absurd (no-end i q))
+      (λ q. absurd (no-fetch q))
+    where
+      no-start : (i : ℕ) → started i ≡ bounded bound → ⊥
+      no-start i q = let z : _≡_ {A = ℕ} 0 1 = cc in omega arith
+
+      no-end : (i : ℕ) → ended i ≡ bounded bound → ⊥
+      no-end i q = let z : _≡_ {A = ℕ} 0 1 = cc in omega arith
+
+      no-fetch : fetched ≡ bounded bound → ⊥
+      no-fetch q = let z : _≡_ {A = ℕ} 0 1 = cc in omega arith
+
   -- a start comes once, and after those that feed it
   started-in-order :
       (old : List Event) (x : ℕ)
@@ -253,16 +272,19 @@ nothing-logged n st idle =
       apart = refl;
     }
 
--- a fetch starts and ends nobody
-pub fetched-logged :
-    (n : ℕ) (st : ℕ → ℕ) (happened : List Event) → Logged n st happened → Logged n st (happened ++ (fetched ∷ []))
-unfolding starts ends
-fetched-logged n st happened h =
-    let s-is : starts (happened ++ (fetched ∷ [])) ≡ starts happened =
-    starts-append happened (fetched ∷ []) ∙ append-nil (starts happened)
+-- an event that starts and ends nobody
+silent-logged :
+    (n : ℕ) (st : ℕ → ℕ) (happened : List Event) (new : Event)
+    → starts (new ∷ []) ≡ []
+    → ends (new ∷ []) ≡ []
+    → Logged n st happened
+    → Logged n st (happened ++ (new ∷ []))
+silent-logged n st happened new no-start no-end h =
+    let s-is : starts (happened ++ (new ∷ [])) ≡ starts happened =
+    starts-append happened (new ∷ []) ∙ ap (λ (l : List ℕ). starts happened ++ l) no-start ∙ append-nil (starts happened)
     in
-    let e-is : ends (happened ++ (fetched ∷ [])) ≡ ends happened =
-    ends-append happened (fetched ∷ []) ∙ append-nil (ends happened)
+    let e-is : ends (happened ++ (new ∷ [])) ≡ ends happened =
+    ends-append happened (new ∷ []) ∙ ap (λ (l : List ℕ). ends happened ++ l) no-end ∙ append-nil (ends happened)
     in
     record {
       begun = λ i t. ap (mem i) s-is ∙ h .begun i t;
@@ -271,6 +293,19 @@ fetched-logged n st happened h =
       inside = ap (every (λ i. within i n)) e-is ∙ h .inside;
       apart = ap distinct e-is ∙ h .apart;
     }
+
+-- the fetch, and another bound
+pub fetched-logged :
+    (n : ℕ) (st : ℕ → ℕ) (happened : List Event) → Logged n st happened → Logged n st (happened ++ (fetched ∷ []))
+unfolding starts ends
+fetched-logged n st happened h = silent-logged n st happened fetched refl refl h
+
+pub bounded-logged :
+    (n : ℕ) (st : ℕ → ℕ) (happened : List Event) (bound : ℕ)
+    → Logged n st happened
+    → Logged n st (happened ++ (bounded bound ∷ []))
+unfolding starts ends
+bounded-logged n st happened bound h = silent-logged n st happened (bounded bound) refl refl h
 
 -- standings that differ only in who waits and who is booked
 pub logged-same :

@@ -1,4 +1,5 @@
--- The † table, the table of the grounds and that of other sentences hold, and plan A prints its five lines: all by computation.
+-- The † table, the table of the grounds, that of other sentences and that of other bounds hold, and plan A prints its five lines: all by
+-- computation.
 use mathlib.Core.Path.{_≡_, refl}
 use mathlib.Core.Bool.{true}
 use mathlib.Core.List.{[], _∷_, _++_}
@@ -20,6 +21,7 @@ use Rattle.rules.specs.Marked.{
   inOrders,
   tasksA,
   planA,
+  begunA,
   readyA,
   overA,
   oneOrderA,
@@ -38,6 +40,14 @@ use Rattle.rules.specs.Marked.{
   surveyed,
   inRoom,
   sentences,
+  lackTold,
+  lackAfter,
+  writtenAfter,
+  writtenA,
+  cleanedA,
+  alone,
+  narrow,
+  bounds,
   same,
   holds,
   dayA,
@@ -91,6 +101,40 @@ unfolding
     same
     holds
 sentences-hold = refl
+
+-- so does each row of other bounds
+pub bounds-hold : holds bounds ≡ true
+unfolding
+    computing
+    ask
+    asks
+    last
+    startedBy
+    inOrder
+    tasksA
+    planA
+    begunA
+    readyA
+    overA
+    dayA
+    reading
+    short
+    told
+    refusal
+    counts
+    standing
+    inRoom
+    lackTold
+    lackAfter
+    writtenAfter
+    writtenA
+    cleanedA
+    alone
+    narrow
+    bounds
+    same
+    holds
+bounds-hold = refl
 
 -- "Choosing by activation order where the execution order should choose": with execution order 2, 1, 3 step 2 starts first
 pub execution-chooses :

@@ -13,7 +13,7 @@ use Rattle.rules.specs.Lists.{at, mem, every, distinct, place, largest}
 use Rattle.rules.specs.Limits.{maxTasks}
 use Rattle.rules.specs.Peak.{sumAt, sums, peak, Peaked, peakTask, peaked, noPeak, roots, ordered}
 use Rattle.rules.specs.State.{State}
-use Rattle.rules.specs.Command.{Command, plan, task, activation, execution, begin, done, fetch, read, decode, byteOf}
+use Rattle.rules.specs.Command.{Command, plan, task, activation, execution, begin, done, fetch, places, read, decode, byteOf}
 use Rattle.rules.specs.Grounds.{within, demand, peakedOf}
 use Rattle.rules.specs.Obey.{withOrders, completed, proceed, obey}
 use Rattle.rules.specs.Answer.{Asking, Answered, refuse, accept, command}
@@ -163,6 +163,7 @@ obeyed-told s (execution i) used h a e = absurd (clash e refl)
 obeyed-told s begin used h a e = begun-peak s h a
 obeyed-told s (done j) used h a e = absurd (clash e refl)
 obeyed-told s fetch used h a e = absurd (clash e refl)
+obeyed-told s (places bound) used h a e = absurd (clash e refl)
 
 obeyed-none : (s : State) (c : Command) (used : ℕ) → isBegin (read c used) ≡ false → obey s c .peak ≡ noPeak
 unfolding byteOf isBegin obey proceed
@@ -173,6 +174,7 @@ obeyed-none s (execution i) used e = refl
 obeyed-none s begin used e = absurd (clash refl e)
 obeyed-none s (done j) used e = refl
 obeyed-none s fetch used e = refl
+obeyed-none s (places bound) used e = refl
 
 -- one asking
 pub peak-holds : (s : State) → Reachable s → (a : Asking) → PeakHolds s a (command s a)

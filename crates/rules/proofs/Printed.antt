@@ -20,6 +20,7 @@ use Rattle.rules.specs.Command.{
   begin,
   done,
   fetch,
+  places,
   Decoded,
   refused,
   read,
@@ -110,6 +111,7 @@ line-alike (execution i) h = refl
 line-alike begin h = rw (h .started, h .answer, h .state)
 line-alike (done j) h = rw (h .started, h .answer, h .state)
 line-alike fetch h = rw (h .state)
+line-alike (places bound) h = rw (h .started, h .state)
 
 acceptedLine-alike : (d : Decoded) {a a′ : Answered} → Alike a a′ → acceptedLine d a ≡ acceptedLine d a′
 unfolding acceptedLine

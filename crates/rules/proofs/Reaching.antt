@@ -11,11 +11,11 @@ use borrow.Author.Tests.{eqb-true, eq-eqb}
 use Rattle.rules.specs.Limits.{leastStarts}
 use Rattle.rules.specs.Phase
 use Rattle.rules.specs.State.{State, none}
-use Rattle.rules.specs.Command.{Command, plan, task, activation, execution, begin, done, fetch, Decoded, refused, read, decode}
+use Rattle.rules.specs.Command.{Command, plan, task, activation, execution, begin, done, fetch, places, Decoded, refused, read, decode}
 use Rattle.rules.specs.Grounds.{inTurn, ground}
 use Rattle.rules.specs.Obey.{opened, withTask, withOrders, obey}
 use Rattle.rules.specs.Answer.{Asking, Answered, refuse, accept, judge, respond, command}
-use Rattle.rules.specs.Day.{Event, started, ended, fetched, after}
+use Rattle.rules.specs.Day.{Event, started, ended, fetched, bounded, after}
 use Rattle.rules.specs.Reachable.{Reachable, start, next}
 use Rattle.rules.proofs.Tests.{decide, and-true}
 use Rattle.rules.proofs.Formed.{Formed, Accepted, no-ground, none-formed, obey-formed}
@@ -23,6 +23,7 @@ use Rattle.rules.proofs.InDay.{InDay}
 use Rattle.rules.proofs.Opening.{begin-in-day}
 use Rattle.rules.proofs.Reporting.{done-in-day}
 use Rattle.rules.proofs.Fetching.{fetch-in-day}
+use Rattle.rules.proofs.Placing.{places-in-day}
 
 -- a command leaves the plan as it was, or is obeyed without a ground against it
 pub data Response (s : State) (d : Decoded) (list : List ℕ) : Type 0 where
@@ -129,6 +130,12 @@ obey-day s fetch a lived h =
     let e = eqb-true (s .phase) Phase.ready (a .turn) in
     let day = lived .day (omega arith) in
     (day .0 ++ (fetched ∷ []), fetch-in-day s (day .0) (day .1) a)
+obey-day s (places bound) a lived h =
+    let e = eqb-true (s .phase) Phase.running (a .turn) in
+    let day = lived .day (omega arith) in (
+      day .0 ++ (bounded bound ∷ map started (obey s (places bound) .started)),
+      places-in-day s (day .0) (day .1) bound a,
+    )
 
 none-lived : Lived none
 none-lived = record { formed = none-formed; day = λ h. absurd (omega arith) }

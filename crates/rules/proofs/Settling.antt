@@ -1,4 +1,4 @@
--- Booking ahead and starting, the end of BEGIN and of DONE: what they leave behind.
+-- Booking ahead and starting, the end of BEGIN, of DONE and of 08: what they leave behind.
 use mathlib.Core.Path.{_≡_, refl, sym, ap, _∙_}
 use mathlib.Core.Bool.{Bool, true, false, not, _&&_}
 use mathlib.Core.Logic.{_⊎_, inl, inr, ⊎-elim}

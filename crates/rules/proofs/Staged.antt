@@ -10,9 +10,9 @@ use borrow.Author.Tests.{eqb-true}
 use Rattle.rules.specs.Limits.{maxTasks, maxProcessors, maxBound}
 use Rattle.rules.specs.Phase
 use Rattle.rules.specs.State.{State, none}
-use Rattle.rules.specs.Command.{Command, plan, task, activation, execution, begin, done, fetch}
+use Rattle.rules.specs.Command.{Command, plan, task, activation, execution, begin, done, fetch, places}
 use Rattle.rules.specs.Grounds.{inTurn, inLimits, within}
-use Rattle.rules.specs.Obey.{opened, withTask, withOrders, completed, withBooks, unloaded, proceed, obey}
+use Rattle.rules.specs.Obey.{opened, withTask, withOrders, completed, withBooks, withBound, unloaded, proceed, obey}
 use Rattle.rules.specs.Reachable.{Reachable}
 use Rattle.rules.proofs.Tests.{and-true}
 use Rattle.rules.proofs.Orders.{within-task}
@@ -51,8 +51,13 @@ day-staged s phase st b before after h =
       no-books = λ early. absurd (omega arith);
     }
 
+-- other places leave it
+bound-staged : (s : State) (bound : ℕ) → Staged s → Staged (withBound s bound)
+unfolding withBound
+bound-staged s bound h = record { some = h .some; no-orders = h .no-orders; no-books = h .no-books }
+
 obey-staged : (s : State) (c : Command) → Accepted s c → Staged s → Staged (obey s c .state)
-unfolding obey opened withTask withOrders completed unloaded inTurn inLimits proceed
+unfolding obey opened withTask withOrders completed unloaded withBound inTurn inLimits proceed
 obey-staged s (plan n p bound) a h =
     let limits = and-true (within n maxTasks && within p maxProcessors) (leb bound maxBound) (a .limits) in
     let tasks = within-task maxTasks n (and-true (within n maxTasks) (within p maxProcessors) (limits .0) .0) in
@@ -77,6 +82,9 @@ obey-staged s (done j) a h =
 obey-staged s fetch a h =
     let now = eqb-true (s .phase) Phase.ready (a .turn) in
     day-staged s _ _ _ (omega arith) (omega arith) h
+obey-staged s (places bound) a h =
+    let now = eqb-true (s .phase) Phase.running (a .turn) in
+    day-staged (withBound s bound) _ _ _ (omega arith) (omega arith) (bound-staged s bound h)
 
 pub staged : {s : State} → Reachable s → Staged s
 staged = by-commands Staged none-staged obey-staged

@@ -1,25 +1,26 @@
--- In a day the plan stays as BEGIN found and completed it, but for its phase and its books.
-use mathlib.Core.Path.{_≡_, refl}
-use mathlib.Core.List.{List}
+-- In a day the plan stays as BEGIN found and completed it, but for its phase, its books and the bound in force.
+use mathlib.Core.Path.{_≡_, refl, sym, ap, _∙_}
+use mathlib.Core.List.{List, [], _++_}
 use Prim.Native.Nat.{ℕ}
 use Rattle.rules.specs.State.{State}
-use Rattle.rules.specs.Obey.{withOrders, completed, withBooks}
-use Rattle.rules.specs.Day.{Event}
+use Rattle.rules.specs.Obey.{withOrders, completed, withBooks, withBound}
+use Rattle.rules.specs.Day.{Event, inForce}
 use Rattle.rules.specs.Theorem.{SamePlan}
+use Rattle.rules.proofs.InForce.{in-force-append}
 use Rattle.rules.proofs.InDay.{InDay}
 
--- the plan is the one that BEGIN found, completed, and the places of the cold room are those that it found
-pub record Stays (found s : State) : Type 0 where
+-- the plan is the one that BEGIN found, completed, and the places of the cold room are those in force
+pub record Stays (found s : State) (happened : List Event) : Type 0 where
   pub plan : SamePlan (completed found) s
-  pub places : s .chilled .bound ≡ found .chilled .bound
+  pub places : s .chilled .bound ≡ inForce (found .chilled .bound) happened
 
 -- a day of the plan that BEGIN found
 pub record DayOf (found s : State) (happened : List Event) : Type 0 where
   pub day : InDay s happened
-  pub stays : Stays found s
+  pub stays : Stays found s happened
 
-pub completes : (s : State) → Stays s (completed s)
-unfolding completed withOrders
+pub completes : (s : State) → Stays s (completed s) []
+unfolding completed withOrders inForce
 completes s =
     record {
       plan =
@@ -35,11 +36,14 @@ completes s =
       places = refl;
     }
 
--- another phase and other books
+-- another phase, other books, and the bound that the events give
 pub books-stay :
-    (found s : State) (phase : ℕ) (st b : List ℕ) → Stays found s → Stays found (withBooks s phase st b)
-unfolding withBooks
-books-stay found s phase st b h =
+    (found s : State) (bound phase : ℕ) (st b : List ℕ) (happened new : List Event)
+    → inForce (s .chilled .bound) new ≡ bound
+    → Stays found s happened
+    → Stays found (withBooks (withBound s bound) phase st b) (happened ++ new)
+unfolding withBooks withBound
+books-stay found s bound phase st b happened new given h =
     record {
       plan =
           record {
@@ -51,5 +55,9 @@ books-stay found s phase st b h =
             activation = h .plan .activation;
             execution = h .plan .execution;
           };
-      places = h .places;
+      places =
+          sym
+          (in-force-append happened new (found .chilled .bound)
+          ∙ ap (λ (m : ℕ). inForce m new) (sym (h .places))
+          ∙ given);
     }

@@ -8,13 +8,14 @@ use lib.Dec.{eqb}
 use borrow.Author.Tests.{eqb-true}
 use Rattle.rules.specs.Phase
 use Rattle.rules.specs.State.{State, none}
-use Rattle.rules.specs.Command.{Command, plan, task, activation, execution, begin, done, fetch, byteOf, operandsOf, read, decode}
+use Rattle.rules.specs.Command.{Command, plan, task, activation, execution, begin, done, fetch, places, byteOf, operandsOf, read, decode}
 use Rattle.rules.specs.Grounds.{inTurn}
-use Rattle.rules.specs.Obey.{completed, unloaded, proceed, obey}
+use Rattle.rules.specs.Obey.{completed, withBooks, withBound, unloaded, proceed, obey}
 use Rattle.rules.specs.Answer.{Asking, command}
 use Rattle.rules.specs.Day.{
   Event,
   started,
+  inForce,
   after,
   log,
   events,
@@ -33,7 +34,9 @@ use Rattle.rules.proofs.InDay.{Course, goes, closed, past-running, orde
 use Rattle.rules.proofs.Opening.{begin-in-day}
 use Rattle.rules.proofs.Reporting.{done-in-day}
 use Rattle.rules.proofs.Fetching.{fetch-in-day}
+use Rattle.rules.proofs.Placing.{places-in-day}
 use Rattle.rules.proofs.Holds.{day-holds}
+use Rattle.rules.proofs.InForce.{starts-in-force}
 use Rattle.rules.proofs.Staying.{DayOf, completes, books-stay}
 use Rattle.rules.proofs.Steps.{Step, is-refused, is-obeyed, step}
 use Rattle.rules.proofs.Askings.{asking-holds}
@@ -61,14 +64,14 @@ day-phase s (closed gone c) = let late = past-running gone c in omega arith
 out-of-turn : (s : State) → Course s → (k : ℕ) → eqb (s .phase) k ≡ true → k < Phase.running → ⊥
 out-of-turn s c k turn early = let e = eqb-true (s .phase) k turn in let d = day-phase s c in omega arith
 
--- in a day only DONE and FETCH are obeyed, as long as no plan is opened
+-- in a day only DONE, FETCH and 08 are obeyed, as long as no plan is opened
 obeyed-in-day :
     (found s : State) (happened : List Event) (c : Command) (used : ℕ)
     → DayOf found s happened
     → Accepted s c
     → isPlan (read c used) ≡ false
     → DayOf found (obey s c .state) (happened ++ (reported (read c used) ++ map started (obey s c .started)))
-unfolding inTurn byteOf operandsOf isPlan reported obey unloaded proceed
+unfolding inTurn byteOf operandsOf isPlan reported inForce obey unloaded proceed withBooks withBound
 obeyed-in-day found s happened (plan n p bound) used day a e = absurd (clash refl e)
 obeyed-in-day found s happened (task parent work out) used day a e =
     absurd (out-of-turn s (day .day .course) Phase.steps (a .turn) (omega arith))
@@ -79,9 +82,17 @@ obeyed-in-day found s happened (execution i) used day a e =
 obeyed-in-day found s happened begin used day a e =
     absurd (out-of-turn s (day .day .course) Phase.orders (and-true _ _ (and-true _ _ (a .turn) .0) .0) (omega arith))
 obeyed-in-day found s happened (done j) used day a e =
-    record { day = done-in-day s happened (day .day) j a; stays = books-stay found s _ _ _ (day .stays) }
+    record {
+      day = done-in-day s happened (day .day) j a;
+      stays = books-stay found s _ _ _ _ happened _ (starts-in-force (obey s (done j) .started) _) (day .stays);
+    }
 obeyed-in-day found s happened fetch used day a e =
-    record { day = fetch-in-day s happened (day .day) a; stays = books-stay found s _ _ _ (day .stays) }
+    record { day = fetch-in-day s happened (day .day) a; stays = books-stay found s _ _ _ _ happened _ refl (day .stays) }
+obeyed-in-day found s happened (places bound) used day a e =
+    record {
+      day = places-in-day s happened (day .day) bound a;
+      stays = books-stay found s _ _ _ _ happened _ (starts-in-force (obey s (places bound) .started) bound) (day .stays);
+    }
 
 -- one asking of a day
 asked-in-day :
@@ -126,14 +137,19 @@ begun-by :
     → Accepted s c
     → isBegin (read c used) ≡ true
     → DayOf s (obey s c .state) (reported (read c used) ++ map started (obey s c .started))
-unfolding byteOf operandsOf isBegin reported obey proceed
+unfolding byteOf operandsOf isBegin reported obey proceed withBooks withBound
 begun-by s (plan n p bound) used h a e = absurd (clash e refl)
 begun-by s (task parent work out) used h a e = absurd (clash e refl)
 begun-by s (activation i) used h a e = absurd (clash e refl)
 begun-by s (execution i) used h a e = absurd (clash e refl)
-begun-by s begin used h a e = record { day = begin-in-day s h a; stays = books-stay s (completed s) _ _ _ (completes s) }
+begun-by s begin used h a e =
+    record {
+      day = begin-in-day s h a;
+      stays = books-stay s (completed s) _ _ _ _ [] _ (starts-in-force (obey s begin .started) _) (completes s);
+    }
 begun-by s (done j) used h a e = absurd (clash e refl)
 begun-by s fetch used h a e = absurd (clash e refl)
+begun-by s (places bound) used h a e = absurd (clash e refl)
 
 opened-day : (s : State) (a : Asking) → Formed s → opensDay s a ≡ true → DayOf s (command s a .state) (events s a)
 unfolding accepted opensDay
@@ -174,6 +190,7 @@ theorem =
       orders = λ earlier opening later opens next. orders-hold _ (every-day earlier opening later opens next .day .planned);
       plans = λ earlier opening later opens next. every-day earlier opening later opens next .stays .plan;
       places = λ earlier opening later opens next. every-day earlier opening later opens next .stays .places;
+      fits = λ earlier opening later opens next. every-day earlier opening later opens next .day .planned .fits;
       askings = λ earlier a. asking-holds (after none earlier) a (after-formed earlier none none-formed);
       refusals = λ s asks. after-accepted asks s;
       silent = λ s asks. log-accepted asks s;

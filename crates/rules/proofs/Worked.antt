@@ -8,14 +8,14 @@ use lib.ListN.{length, take, replicate}
 use Rattle.rules.specs.Sums.{countTo}
 use Rattle.rules.specs.Phase
 use Rattle.rules.specs.State.{none}
-use Rattle.rules.specs.Command.{Command, plan, task, activation, begin, done, fetch, bytes}
+use Rattle.rules.specs.Command.{Command, plan, task, activation, begin, done, fetch, places, bytes}
 use Rattle.rules.specs.Answer.{Asking}
 use Rattle.rules.specs.Question
 use Rattle.rules.specs.Why
 use Rattle.rules.specs.Why.{why}
 use Rattle.rules.specs.Instance.{instanceOf, written}
 use Rattle.rules.specs.Write.{write}
-use Rattle.rules.specs.Day.{started, ended, fetched, ends, after, answers, acceptedOnly, log, opensDay, nextPlan}
+use Rattle.rules.specs.Day.{started, ended, fetched, bounded, inForce, ends, after, answers, acceptedOnly, log, opensDay, nextPlan}
 use Rattle.rules.specs.Theorem.{runs, DayHolds, EveryDay}
 use Rattle.rules.specs.Marked.{ask, asks, inOrder, tasksA, planA, oneOrderA, dayA, planC, reading, short}
 use Rattle.rules.proofs.Computing.{computing}
@@ -124,6 +124,39 @@ pub worked-over :
 unfolding computing asks alone inOrder ask
 worked-over = refl
 
+-- shelves out and in again: fewer places than the peak, the same, more, and fewer than are booked; once task 1 has ended fewer than the
+-- peak, and the first ones; then in ready and in over
+unfoldable pub cleaning : List Asking
+cleaning =
+    asks (places 6 ∷ places 7 ∷ places 12 ∷ places 11 ∷ done 1 ∷ places 6 ∷ places 7 ∷ done 2 ∷ done 3 ∷ places 12 ∷ fetch ∷ places 12 ∷ [])
+
+pub cleaned-numbers :
+    map (λ a. a .answer .number) (answers (after none (asks (planA 7))) (ask begin ∷ cleaning))
+    ≡ 0 ∷ 9 ∷ 0 ∷ 0 ∷ 13 ∷ 0 ∷ 9 ∷ 0 ∷ 0 ∷ 0 ∷ 3 ∷ 0 ∷ 3 ∷ []
+unfolding computing asks tasksA planA inOrder ask cleaning
+cleaned-numbers = refl
+
+pub cleaned-log :
+    log (after none (asks (planA 7))) (ask begin ∷ cleaning)
+    ≡ started 1 ∷ bounded 7 ∷ bounded 12 ∷ started 2 ∷ ended 1 ∷ bounded 7 ∷ ended 2 ∷ started 3 ∷ ended 3 ∷ fetched ∷ []
+unfolding computing asks tasksA planA inOrder ask cleaning
+cleaned-log = refl
+
+-- all that is promised of a day holds of it too
+cleaned-next : nextPlan (after none (asks (planA 7))) (ask begin ∷ cleaning) ≡ false
+unfolding computing asks tasksA planA inOrder ask cleaning
+cleaned-next = refl
+
+pub cleaned-holds :
+    DayHolds (after none (asks (planA 7) ++ ask begin ∷ cleaning))
+    (started 1 ∷ bounded 7 ∷ bounded 12 ∷ started 2 ∷ ended 1 ∷ bounded 7 ∷ ended 2 ∷ started 3 ∷ ended 3 ∷ fetched ∷ [])
+cleaned-holds = rw cleaned-log at (every-day-holds (asks (planA 7)) (ask begin) cleaning opens cleaned-next)
+
+-- the bound in force is the last one that was taken
+pub cleaned-bound : inForce 7 (log (after none (asks (planA 7))) (ask begin ∷ take 5 cleaning)) ≡ 12
+unfolding computing inForce asks tasksA planA inOrder ask cleaning
+cleaned-bound = refl
+
 -- plan A written back out: its orders were given in turns, and its bytes are those of the paper up to BEGIN
 pub worked-written : written (instanceOf (after none (asks (planA 7)))) ≡ take 47 dayA
 unfolding computing asks tasksA planA dayA inOrder ask
@@ -200,6 +233,10 @@ Done = EveryDay (λ _ s happened. length (ends happened) ≡ s .size → s .phas
 abbrev pub AsFound : Type 0
 AsFound = EveryDay (λ found s _. s .execution ≡ found .execution)
 
+-- wrong: "the places stay as BEGIN found them"
+abbrev pub Fixed : Type 0
+Fixed = EveryDay (λ found s _. s .chilled .bound ≡ found .chilled .bound)
+
 -- after the morning all seven places are booked
 pub not-below : Below → ⊥
 unfolding computing asks tasksA planA inOrder ask reading short morning
@@ -240,4 +277,11 @@ pub not-as-found : AsFound → ⊥
 unfolding computing asks tasksA oneOrderA ask
 not-as-found h =
     let three : _≡_ {A = ℕ} 3 0 = ap length (h (asks (oneOrderA 7 (1 ∷ 2 ∷ 3 ∷ []))) (ask begin) [] refl refl) in
+    omega arith
+
+-- 08 gives others
+pub not-fixed : Fixed → ⊥
+unfolding computing asks tasksA planA inOrder ask
+not-fixed h =
+    let other : _≡_ {A = ℕ} 12 7 = h (asks (planA 7)) (ask begin) (ask (places 12) ∷ []) refl refl in
     omega arith

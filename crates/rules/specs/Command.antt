@@ -20,8 +20,10 @@ pub data Command : Type 0 where
   done : ℕ → Command
   -- the trolley is fetched
   fetch : Command
+  -- "a new M": other places of the cold room
+  places : ℕ → Command
 
--- the bytes by which a day is told: PLAN, BEGIN, DONE and FETCH
+-- the bytes by which a day is told: PLAN, BEGIN, DONE, FETCH and 08
 abbrev pub planByte : ℕ
 planByte = 1
 
@@ -33,6 +35,9 @@ doneByte = 6
 
 abbrev pub fetchByte : ℕ
 fetchByte = 7
+
+abbrev pub placesByte : ℕ
+placesByte = 8
 
 -- a line of the table of commands: the byte, the widths of the operands in bytes, and the meaning by the operands
 pub record Form : Type 0 where
@@ -50,6 +55,7 @@ forms =
     ∷ record { byte = 5; widths = []; means = λ x. begin }
     ∷ record { byte = 6; widths = 2 ∷ []; means = λ x. done (at x 0) }
     ∷ record { byte = 7; widths = []; means = λ x. fetch }
+    ∷ record { byte = 8; widths = 4 ∷ []; means = λ x. places (at x 0) }
     ∷ []
 
 -- the line with a byte, where there is one
@@ -66,6 +72,7 @@ byteOf (execution i) = 4
 byteOf begin = 5
 byteOf (done i) = 6
 byteOf fetch = 7
+byteOf (places bound) = 8
 
 unfoldable pub operandsOf : Command → List ℕ
 operandsOf (plan n p bound) = n ∷ p ∷ bound ∷ []
@@ -75,6 +82,7 @@ operandsOf (execution i) = i ∷ []
 operandsOf begin = []
 operandsOf (done i) = i ∷ []
 operandsOf fetch = []
+operandsOf (places bound) = bound ∷ []
 
 -- the widths of its operands, by its line
 unfoldable pub widthsOf : Command → List ℕ
@@ -122,7 +130,7 @@ whole given width c = cond (ltb (length given) width) (refused 1) (read c (1 + w
 unfoldable pub readBy : Form → List ℕ → Decoded
 readBy f given = whole given (room (f .widths)) (f .means (numbers (f .widths) given))
 
--- the byte picks operand width and meaning; "the byte is none of 01 to 06" (2), and 07 "leaves the unknown ones"
+-- the byte picks operand width and meaning; "the byte is none of 01 to 06" (2); 07 "leaves the unknown ones", and 08 "is known"
 unfoldable pub table : ℕ → List ℕ → Decoded
 table byte given = elim (find forms byte) [ none ↦ refused 2 | some f ↦ readBy f given ]
 

@@ -6,7 +6,7 @@ use Prim.Native.Nat.{ℕ}
 use lib.Dec.{eqb}
 use lib.ListN.{take}
 use Rattle.rules.specs.State.{State}
-use Rattle.rules.specs.Command.{planByte, beginByte, doneByte, fetchByte, byteOf, operandsOf, Decoded, refused, read, decode}
+use Rattle.rules.specs.Command.{planByte, beginByte, doneByte, fetchByte, placesByte, byteOf, operandsOf, Decoded, refused, read, decode}
 use Rattle.rules.specs.Answer.{Asking, Answered, command}
 
 -- "Each finds the plan as the one before left it": the plan after a list of askings
@@ -47,12 +47,15 @@ pub data Event : Type 0 where
   ended : ℕ → Event
   -- the trolley is fetched
   fetched : Event
+  -- the cold room has another bound: "A day may hold such commands between its reports"
+  bounded : ℕ → Event
 
--- what a command reports: DONE the end of its task, and FETCH the fetch
+-- what a command reports: DONE the end of its task, FETCH the fetch, and 08 the new bound
 unfoldable pub reported : Decoded → List Event
 reported (refused k) = []
 reported (read c used) =
-    cond (eqb (byteOf c) doneByte) (map ended (operandsOf c)) (cond (eqb (byteOf c) fetchByte) (fetched ∷ []) [])
+    cond (eqb (byteOf c) doneByte) (map ended (operandsOf c))
+    (cond (eqb (byteOf c) fetchByte) (fetched ∷ []) (cond (eqb (byteOf c) placesByte) (map bounded (operandsOf c)) []))
 
 -- what happens with one asking, as its bytes, its answer and its start list say
 abbrev pub happens : Asking → Answered → List Event
@@ -74,12 +77,14 @@ starts [] = []
 starts (started i ∷ later) = i ∷ starts later
 starts (ended i ∷ later) = starts later
 starts (fetched ∷ later) = starts later
+starts (bounded m ∷ later) = starts later
 
 unfoldable pub ends : List Event → List ℕ
 ends [] = []
 ends (started i ∷ later) = ends later
 ends (ended i ∷ later) = i ∷ ends later
 ends (fetched ∷ later) = ends later
+ends (bounded m ∷ later) = ends later
 
 -- the trolley was fetched
 unfoldable pub isFetched : List Event → Bool
@@ -87,6 +92,15 @@ isFetched [] = false
 isFetched (started i ∷ later) = isFetched later
 isFetched (ended i ∷ later) = isFetched later
 isFetched (fetched ∷ later) = true
+isFetched (bounded m ∷ later) = isFetched later
+
+-- "the bound in force": the last that was given, or the one found
+unfoldable pub inForce : ℕ → List Event → ℕ
+inForce found [] = found
+inForce found (started i ∷ later) = inForce found later
+inForce found (ended i ∷ later) = inForce found later
+inForce found (fetched ∷ later) = inForce found later
+inForce found (bounded m ∷ later) = inForce m later
 
 -- "A day is an accepted BEGIN and all commands after it, until a next plan is opened or the list ends."
 abbrev pub beginsDay : Asking → Answered → Bool

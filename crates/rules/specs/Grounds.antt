@@ -1,5 +1,5 @@
 -- The grounds for refusing a whole command, in the order of checks: "3; 4; then 5 for 03 and 04, 6 for DONE, and 7, 8, 9 for
--- BEGIN". 0 is no ground.
+-- BEGIN"; for 08 "3; then 9 if below the peak; then 13 if below the booked trays". 0 is no ground.
 use mathlib.Core.Bool.{Bool, true, not, cond, _&&_, _||_}
 use Prim.Native.Nat.{ℕ}
 use lib.Dec.{eqb, leb, ltb}
@@ -10,7 +10,8 @@ use Rattle.rules.specs.Peak
 use Rattle.rules.specs.Phase
 use Rattle.rules.specs.Standing
 use Rattle.rules.specs.State.{State}
-use Rattle.rules.specs.Command.{Command, plan, task, activation, execution, begin, done, fetch}
+use Rattle.rules.specs.Command.{Command, plan, task, activation, execution, begin, done, fetch, places}
+use Rattle.rules.specs.Booking.{total}
 
 -- "no 04 at all"
 abbrev pub noExecution : State → Bool
@@ -18,7 +19,8 @@ noExecution s = eqb (length (s .execution)) 0
 
 -- "PLAN is in turn in every phase but running .. STEP is in turn in steps .. 03 and 04 are in turn in orders, in any mix, n of
 -- each at most. BEGIN is in turn in orders once both orders have n entries .. DONE is in turn only in running"; "BEGIN with a full
--- activation order and no 04 at all shall now be in turn"; "PLAN is not in turn in ready", and FETCH only there
+-- activation order and no 04 at all shall now be in turn"; "PLAN is not in turn in ready", and FETCH only there; 08 "is in turn in
+-- running"
 unfoldable pub inTurn : State → Command → Bool
 inTurn s (plan n p bound) = not (Phase.holdsTrays (s .phase))
 inTurn s (task parent work out) = eqb (s .phase) Phase.steps
@@ -30,6 +32,7 @@ inTurn s begin =
     && (eqb (length (s .execution)) (s .size) || noExecution s)
 inTurn s (done i) = eqb (s .phase) Phase.running
 inTurn s fetch = eqb (s .phase) Phase.ready
+inTurn s (places bound) = eqb (s .phase) Phase.running
 
 -- a number from 1 to a limit
 abbrev pub within : ℕ → ℕ → Bool
@@ -45,6 +48,7 @@ inLimits s (execution i) = within i (s .size)
 inLimits s begin = true
 inLimits s (done i) = within i (s .size)
 inLimits s fetch = true
+inLimits s (places bound) = leb bound maxBound
 
 -- the peak of the plan's activation order
 unfoldable pub peakOf : State → ℕ
@@ -75,6 +79,10 @@ ownGround s begin =
 -- 6 "DONE for a step that isn't running"
 ownGround s (done i) = demand (eqb (at (s .standings) i) Standing.running) 6 0
 ownGround s fetch = 0
+-- "It is taken if the new M is at least the peak and at least the booked trays": 9 "if below the peak; then 13 if below the booked
+-- trays"
+ownGround s (places bound) =
+    demand (leb (peakOf s) bound) 9 (demand (leb (total (s .size) (at (s .chilled .booked))) bound) 13 0)
 
 unfoldable pub ground : State → Command → ℕ
 ground s c = demand (inTurn s c) 3 (demand (inLimits s c) 4 (ownGround s c))

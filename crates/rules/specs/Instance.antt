@@ -1,4 +1,4 @@
--- "A plan here is n, p, M, the steps and both orders": what is given of a plan, apart from its day. "PLAN, the steps, the activation
+-- "A plan here is n, p, M, the steps and both orders": what is given of a plan, with the bound in force, apart from its day. "PLAN, the steps, the activation
 -- order, the execution order, without BEGIN" are its commands.
 use mathlib.Core.List.{List, [], _∷_, _++_, map, flatMap}
 use Prim.Native.Nat.{ℕ, zero, suc}
@@ -20,7 +20,7 @@ pub record Instance : Type 0 where
   pub activation : List ℕ
   pub execution : List ℕ
 
--- what is given of a plan
+-- what is given of a plan as it stands
 abbrev pub instanceOf : State → Instance
 instanceOf s =
     record {

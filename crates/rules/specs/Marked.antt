@@ -4,12 +4,14 @@ use mathlib.Core.Bool.{Bool, true, false, _&&_}
 use mathlib.Core.List.{List, [], _∷_, _++_, map}
 use Prim.Native.Nat.{ℕ}
 use lib.Dec.{eqb}
-use lib.ListN.{take, replicate}
+use lib.ListN.{take, drop, replicate}
 use Rattle.rules.specs.Lists.{at}
 use Rattle.rules.specs.State.{State, none, needs}
-use Rattle.rules.specs.Command.{Command, plan, task, activation, execution, begin, done, fetch, bytes}
+use Rattle.rules.specs.Command.{Command, plan, task, activation, execution, begin, done, fetch, places, bytes}
 use Rattle.rules.specs.Answer.{Asking, Answered, command}
 use Rattle.rules.specs.Question.{booked, inUse, fullnessOf, fullness, standing}
+use Rattle.rules.specs.Why.{Reason, refused, ended, running, notBooked, unfed, noProcessor, why}
+use Rattle.rules.specs.Write.{write}
 use Rattle.rules.specs.Desk.{StepRecord, desk}
 use Rattle.rules.specs.Text.{ascii}
 use Rattle.rules.specs.Printer.{print}
@@ -70,6 +72,10 @@ dayA =
     ∷ 6 ∷ 3 ∷ 0
     ∷ 7
     ∷ []
+
+-- plan A once its day has begun
+unfoldable pub begunA : ℕ → List Command
+begunA bound = planA bound ++ (begin ∷ [])
 
 -- plan A once its trolley stands loaded, and once it is fetched
 unfoldable pub readyA : List Command
@@ -321,7 +327,7 @@ sentences =
     -- in ready as elsewhere 10 comes first, a command that is cut is 1 and an unknown byte 2, and 3 comes ahead of 4
     ∷ record { given = told (asks readyA) (short (bytes fetch)); stated = refusal 10 }
     ∷ record { given = told (asks readyA) (reading (1 ∷ 3 ∷ 0 ∷ []) 0); stated = refusal 1 }
-    ∷ record { given = told (asks readyA) (reading (8 ∷ []) 0); stated = refusal 2 }
+    ∷ record { given = told (asks readyA) (reading (9 ∷ []) 0); stated = refusal 2 }
     ∷ record { given = told (asks readyA) (ask (plan 0 2 7)); stated = refusal 3 }
     -- "3 for FETCH outside ready": in empty, steps, running and over
     ∷ record { given = told [] (ask fetch); stated = refusal 3 }
@@ -333,6 +339,101 @@ sentences =
     -- a root without an out goes to ready too, and is fetched
     ∷ record { given = inRoom (after none (asks (single ++ (begin ∷ done 1 ∷ [])))); stated = 5 ∷ 0 ∷ 0 ∷ 0 ∷ 0 ∷ 0 ∷ 0 ∷ 1 ∷ [] }
     ∷ record { given = told (asks (single ++ (begin ∷ done 1 ∷ []))) (ask fetch); stated = 0 ∷ 1 ∷ 0 ∷ 0 ∷ 0 ∷ 0 ∷ [] }
+    ∷ []
+
+-- of a task that is told as not booked: the first that waits, and what it lacks
+unfoldable pub lackTold : Reason → List ℕ
+lackTold (refused k) = []
+lackTold ended = []
+lackTold running = []
+lackTold (notBooked x lack) = x ∷ lack ∷ []
+lackTold (unfed c) = []
+lackTold noProcessor = []
+
+unfoldable pub lackAfter : List Command → ℕ → List ℕ
+lackAfter given i = lackTold (why (after none (asks given)) i)
+
+-- a list of 47 bytes once a plan is written into it, and those of plan A
+unfoldable pub writtenAfter : List Command → List ℕ
+writtenAfter given = write (after none (asks given)) (replicate 47 0) .list
+
+unfoldable pub writtenA : ℕ → List ℕ
+writtenA bound = 1 ∷ 3 ∷ 0 ∷ 2 ∷ bound ∷ 0 ∷ 0 ∷ 0 ∷ drop 8 (take 47 dayA)
+
+-- plan A at M = 7 once it has had 12 places, and its trolley is fetched
+unfoldable pub cleanedA : List Command
+cleanedA = begunA 7 ++ (places 12 ∷ done 1 ∷ done 2 ∷ done 3 ∷ fetch ∷ [])
+
+-- plan A with one station and M = 12: all three steps are booked, and one runs
+unfoldable pub alone : List Command
+alone = plan 3 1 12 ∷ drop 1 (begunA 12)
+
+-- three steps of one tray each and their root, two stations and one place: one runs, and nobody else is booked
+unfoldable pub narrow : List Command
+narrow =
+    (plan 4 2 1 ∷ task 4 1 0 ∷ task 4 1 0 ∷ task 4 1 0 ∷ task 0 0 0 ∷ [])
+    ++ inOrder (1 ∷ 2 ∷ 3 ∷ 4 ∷ [])
+    ++ (begin ∷ [])
+
+-- "Shelves out for cleaning": rows beside the † table
+unfoldable pub bounds : List Row
+bounds =
+    -- A at M = 12 has all three steps booked, B = 12: 08 with 6 is 9, with 11 it is 13, and with 12 it is taken, the same M again
+    record { given = inRoom (after none (asks (begunA 12))); stated = 3 ∷ 12 ∷ 12 ∷ 1000 ∷ 0 ∷ 1 ∷ 2 ∷ 0 ∷ [] }
+    ∷ record { given = told (asks (begunA 12)) (ask (places 6)); stated = refusal 9 }
+    ∷ record { given = told (asks (begunA 12)) (ask (places 11)); stated = refusal 13 }
+    ∷ record { given = told (asks (begunA 12)) (ask (places 12)); stated = 0 ∷ 5 ∷ 0 ∷ 0 ∷ 0 ∷ 0 ∷ [] }
+    -- 13 is told by the booked trays: of these 12, 6 are in use
+    ∷ record { given = told (asks alone) (ask (places 11)); stated = refusal 13 }
+    -- a refused one leaves the bound: of 24 places 12 are booked
+    ∷ record { given = inRoom (after none (asks (begunA 24 ++ (places 6 ∷ places 11 ∷ [])))); stated = 3 ∷ 12 ∷ 12 ∷ 500 ∷ 0 ∷ 1 ∷ 2 ∷ 0 ∷ [] }
+    -- "then booking ahead and starting follow and the starts are answered as for DONE, with no offers": A at 7 with 08 of 12 starts 2 at
+    -- once; no peak is answered
+    ∷ record { given = told (asks (begunA 7)) (ask (places 12)); stated = 0 ∷ 5 ∷ 1 ∷ 0 ∷ 0 ∷ 0 ∷ [] }
+    ∷ record { given = startedBy (last (begunA 7) (places 12)); stated = 2 ∷ [] }
+    -- one place fewer does not book step 2
+    ∷ record { given = startedBy (last (begunA 7) (places 11)); stated = [] }
+    -- "every rule about the cold room's places speaks of the bound in force": what a later DONE books does
+    ∷ record { given = startedBy (last narrow (done 1)); stated = 2 ∷ [] }
+    ∷ record { given = startedBy (last (narrow ++ (places 2 ∷ [])) (done 1)); stated = 3 ∷ [] }
+    -- fullness does, in ready too
+    ∷ record { given = inRoom (after none (asks (begunA 7 ++ (places 24 ∷ [])))); stated = 3 ∷ 12 ∷ 12 ∷ 500 ∷ 0 ∷ 1 ∷ 2 ∷ 0 ∷ [] }
+    ∷ record {
+      given = inRoom (after none (asks (begunA 7 ++ (places 24 ∷ done 1 ∷ done 2 ∷ done 3 ∷ []))));
+      stated = 5 ∷ 1 ∷ 1 ∷ 41 ∷ 0 ∷ 0 ∷ 0 ∷ 3 ∷ [];
+    }
+    -- so does what a step lacks: at 7 places step 2 lacks 5, at 11 it lacks 1
+    ∷ record { given = lackAfter (begunA 7) 2; stated = 2 ∷ 5 ∷ [] }
+    ∷ record { given = lackAfter (begunA 7 ++ (places 11 ∷ [])) 2; stated = 2 ∷ 1 ∷ [] }
+    -- "the writer writes that one", when the day is over too; a next plan has the places that it was opened with
+    ∷ record { given = writtenAfter (begunA 7 ++ (places 12 ∷ [])); stated = writtenA 12 }
+    ∷ record { given = writtenAfter cleanedA; stated = writtenA 12 }
+    ∷ record { given = writtenAfter (cleanedA ++ planA 7); stated = writtenA 7 }
+    -- fewer places: 7 is below what is booked until step 1 has ended, and is B then
+    ∷ record { given = told (asks (begunA 7 ++ (places 12 ∷ []))) (ask (places 7)); stated = refusal 13 }
+    ∷ record { given = told (asks (begunA 7 ++ (places 12 ∷ done 1 ∷ []))) (ask (places 7)); stated = 0 ∷ 5 ∷ 0 ∷ 0 ∷ 0 ∷ 0 ∷ [] }
+    -- "the peak" is that of the whole order: step 2 sets it, has ended, and B is 3
+    ∷ record { given = told (asks (begunA 7 ++ (done 1 ∷ done 2 ∷ []))) (ask (places 6)); stated = refusal 9 }
+    ∷ record { given = told (asks (begunA 7 ++ (done 1 ∷ done 2 ∷ []))) (ask (places 7)); stated = 0 ∷ 5 ∷ 0 ∷ 0 ∷ 0 ∷ 0 ∷ [] }
+    -- M is any number of 32 bits
+    ∷ record { given = told (asks (begunA 7)) (ask (places 4294967295)); stated = 0 ∷ 5 ∷ 1 ∷ 0 ∷ 0 ∷ 0 ∷ [] }
+    -- 10, and operands that are cut short, come first; "3" outside running, in empty, steps, orders, ready and over, ahead of 9 and 13
+    ∷ record { given = told (asks (begunA 7)) (short (bytes (places 12))); stated = refusal 10 }
+    ∷ record { given = told (asks (begunA 7)) (reading (8 ∷ 12 ∷ 0 ∷ 0 ∷ []) 0); stated = refusal 1 }
+    ∷ record { given = told [] (ask (places 12)); stated = refusal 3 }
+    ∷ record { given = told (asks (plan 3 2 7 ∷ [])) (ask (places 12)); stated = refusal 3 }
+    ∷ record { given = told (asks (planA 7)) (ask (places 12)); stated = refusal 3 }
+    ∷ record { given = told (asks readyA) (ask (places 0)); stated = refusal 3 }
+    ∷ record { given = told (asks overA) (ask (places 12)); stated = refusal 3 }
+    -- "Its line is `places M=` and the new bound, then booked to start as in a done line": in A's day, after `05`
+    ∷ record {
+      given = print (take 48 dayA ++ (8 ∷ 12 ∷ 0 ∷ 0 ∷ 0 ∷ 8 ∷ 24 ∷ 0 ∷ 0 ∷ 0 ∷ 8 ∷ 11 ∷ 0 ∷ 0 ∷ 0 ∷ []));
+      stated =
+          ascii "begin peak=7 by=2 booked=6 used=6 full=857 start 1\n"
+          ++ ascii "places M=12 booked=12 used=12 full=1000 start 2\n"
+          ++ ascii "places M=24 booked=12 used=12 full=500 start -\n"
+          ++ ascii "refused 13 at 58\n";
+    }
     ∷ []
 
 -- the two lists of a row are the same

@@ -9,7 +9,7 @@ use Rattle.rules.specs.Peak.{Peaked, noPeak}
 use Rattle.rules.specs.Phase
 use Rattle.rules.specs.Standing
 use Rattle.rules.specs.State.{State, rootOf, needs}
-use Rattle.rules.specs.Command.{Command, plan, task, activation, execution, begin, done, fetch}
+use Rattle.rules.specs.Command.{Command, plan, task, activation, execution, begin, done, fetch, places}
 use Rattle.rules.specs.Grounds.{noExecution, peakedOf}
 use Rattle.rules.specs.Booking.{Books, Climbed, activate, starts, start, free, dispatch}
 
@@ -125,7 +125,7 @@ unfoldable pub begun : State → Books → List ℕ
 begun s k =
     starts (s .size) (at (s .parents)) (s .execution) (free (s .size) (s .processors) (k .standings)) (k .standings)
 
--- booking ahead and starting, the end of BEGIN and of DONE
+-- booking ahead and starting, the end of BEGIN, of DONE and of 08
 unfoldable pub proceed : State → ℕ → Books → Peaked → ℕ → Outcome
 proceed s phase k peak offers =
     record {
@@ -164,7 +164,8 @@ unloaded s = withBooks s Phase.over (s .standings) (set (s .chilled .booked) (ro
 abbrev pub plain : State → Outcome
 plain s = record { state = s; started = []; peak = noPeak; offers = 0 }
 
--- "BEGIN books ahead and starts. DONE shares out, books ahead and starts. Nothing else books or starts."
+-- "BEGIN books ahead and starts. DONE shares out, books ahead and starts. Nothing else books or starts", but for 08: "then booking ahead
+-- and starting follow", by the new bound, "with no offers"
 unfoldable pub obey : State → Command → Outcome
 obey s (plan n p bound) = plain (opened n p bound)
 obey s (task parent work out) = plain (withTask s parent work out)
@@ -173,3 +174,4 @@ obey s (execution i) = plain (withOrders s (s .activation) (s .execution ++ (i �
 obey s begin = proceed (completed s) Phase.running (fresh (s .size)) (peakedOf s) 0
 obey s (done j) = proceed s (phaseAfter s j) (ended s j) noPeak (length (shared s j .offered))
 obey s fetch = plain (unloaded s)
+obey s (places bound) = proceed (withBound s bound) Phase.running (booksOf s) noPeak 0

@@ -1,5 +1,6 @@
 -- The day printer, turn by turn. "The program reads commands from standard input and prints one line per accepted BEGIN or DONE, and
--- on a refusal `refused K at O` (number, byte offset of the command counted from 0), then stops"; "FETCH prints `fetch booked=0`".
+-- on a refusal `refused K at O` (number, byte offset of the command counted from 0), then stops"; "FETCH prints `fetch booked=0`", and
+-- 08 `places M=` with the new bound.
 use mathlib.Core.Path.{_≡_}
 use mathlib.Core.Bool.{Bool, true, false, cond}
 use mathlib.Core.List.{List, [], _∷_, _++_}
@@ -34,7 +35,7 @@ pub record Turn : Type 0 where
 unfoldable pub idle : ℕ → State → List ℕ → Turn
 idle verdict s list = record { verdict = verdict; used = 0; text = []; state = s; list = list }
 
--- "one line per accepted BEGIN or DONE", and FETCH, "and on a refusal `refused K at O`"
+-- "one line per accepted BEGIN or DONE", FETCH and 08, "and on a refusal `refused K at O`"
 unfoldable pub said : Decoded → ℕ → Answered → List ℕ
 said d offset a = cond (eqb (a .answer .number) 0) (acceptedLine d a) (refusedLine (a .answer .number) offset)
 

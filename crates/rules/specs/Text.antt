@@ -8,7 +8,7 @@ use Prim.Native.String.{String}
 use lib.Dec.{ltb}
 use lib.ListN.{take}
 use Rattle.rules.specs.Peak.{Peaked}
-use Rattle.rules.specs.Command.{Command, plan, task, activation, execution, begin, done, fetch, Decoded, refused, read}
+use Rattle.rules.specs.Command.{Command, plan, task, activation, execution, begin, done, fetch, places, Decoded, refused, read}
 use Rattle.rules.specs.Answer.{Answered}
 use Rattle.rules.specs.Question.{booked, inUse, fullness}
 
@@ -38,7 +38,8 @@ unfoldable pub listed : List ℕ → List ℕ
 listed [] = ascii " -"
 listed (i ∷ later) = spaced (i ∷ later)
 
--- "Both lines go on with B, the trays in use, fullness of B in M, and the started steps"; every line ends with a line feed
+-- "Both lines go on with B, the trays in use, fullness of B in M, and the started steps", and so does that of 08; every line ends with a
+-- line feed
 unfoldable pub figures : ℕ → ℕ → ℕ → List ℕ → List ℕ
 figures total used full started =
     ascii " booked="
@@ -68,6 +69,10 @@ doneLine j offers total used full started =
 unfoldable pub fetchLine : ℕ → List ℕ
 fetchLine total = ascii "fetch booked=" ++ decimal total ++ ascii "\n"
 
+-- "Its line is `places M=` and the new bound, then booked to start as in a done line"
+unfoldable pub placesLine : ℕ → ℕ → ℕ → ℕ → List ℕ → List ℕ
+placesLine bound total used full started = ascii "places M=" ++ decimal bound ++ figures total used full started
+
 -- "on a refusal `refused K at O` (number, byte offset of the command counted from 0)"
 unfoldable pub refusedLine : ℕ → ℕ → List ℕ
 refusedLine k offset = ascii "refused " ++ decimal k ++ ascii " at " ++ decimal offset ++ ascii "\n"
@@ -85,6 +90,8 @@ line (done j) a =
     doneLine j (a .answer .offers) (booked (a .state)) (inUse (a .state)) (fullness (a .state))
     (take (a .answer .starts) (a .list))
 line fetch a = fetchLine (booked (a .state))
+line (places bound) a =
+    placesLine bound (booked (a .state)) (inUse (a .state)) (fullness (a .state)) (take (a .answer .starts) (a .list))
 
 -- the line of what was decoded and accepted
 unfoldable pub acceptedLine : Decoded → Answered → List ℕ

@@ -5,7 +5,7 @@ use mathlib.Core.Logic.{_↔_}
 use mathlib.Core.List.{List, [], _∷_, _++_}
 use Prim.Native.Nat.{ℕ, _≤_, _<_}
 use lib.ListN.{length, drop}
-use Rattle.rules.specs.Limits.{leastStarts}
+use Rattle.rules.specs.Limits.{maxBound, leastStarts}
 use Rattle.rules.specs.Sums.{Task, countTo}
 use Rattle.rules.specs.Lists.{at, mem}
 use Rattle.rules.specs.Need
@@ -14,12 +14,12 @@ use Rattle.rules.specs.Phase
 use Rattle.rules.specs.Standing
 use Rattle.rules.specs.State.{Store, State, none, needsIn}
 use Rattle.rules.specs.Command
-use Rattle.rules.specs.Grounds.{ground}
+use Rattle.rules.specs.Grounds.{peakOf, ground}
 use Rattle.rules.specs.Booking.{total}
 use Rattle.rules.specs.Obey.{completed}
 use Rattle.rules.specs.Answer.{Asking, refuse, command}
 use Rattle.rules.specs.Question
-use Rattle.rules.specs.Day.{Event, started, ended, fetched, starts, ends, isFetched, log, after, accepted, acceptedOnly, opensDay, nextPlan}
+use Rattle.rules.specs.Day.{Event, started, ended, fetched, starts, ends, isFetched, inForce, log, after, accepted, acceptedOnly, opensDay, nextPlan}
 
 -- a task has started and not ended, by what happened
 unfoldable pub runs : List Event → ℕ → Bool
@@ -51,8 +51,8 @@ pub record StoreHolds (s : State) (happened : List Event) (store : Store) (booke
       → (booked ≡ at (store .outs) r) × (inUse ≡ at (store .outs) r)
   pub unloaded : s .phase ≡ Phase.over → (booked ≡ 0) × (inUse ≡ 0)
 
--- what is promised of a day: s is the plan as it stands, and `happened` the day's starts, ends and fetch so far, in order. The day's
--- reports that were accepted are its ends
+-- what is promised of a day: s is the plan as it stands, and `happened` the day's starts, ends, fetch and new bounds so far, in order.
+-- The day's reports that were accepted are its ends
 pub record DayHolds (s : State) (happened : List Event) : Type 0 where
   -- what starts and what ends is a step of the plan
   pub starting : (i : ℕ) → mem i (starts happened) ≡ true → Task (s .size) i
@@ -88,6 +88,11 @@ pub record DayHolds (s : State) (happened : List Event) : Type 0 where
       → (isFetched earlier ≡ false) × (length (ends earlier) ≡ s .size)
   -- FETCH is taken in ready, and only there
   pub fetching : (ground s Command.fetch ≡ 0) ↔ (s .phase ≡ Phase.ready)
+  -- 08 is taken in running, "if the new M is at least the peak and at least the booked trays"; its 4 bytes keep M in its limits
+  pub placing :
+      (m : ℕ)
+      → (ground s (Command.places m) ≡ 0)
+      ↔ ((s .phase ≡ Phase.running) × (m ≤ maxBound) × (peakOf s ≤ m) × (Question.booked s ≤ m))
   -- the phase is running until the n-th report, ready from then to the fetch, and over from then on
   pub running : (s .phase ≡ Phase.running) ↔ (length (ends happened) < s .size)
   pub ready : (s .phase ≡ Phase.ready) ↔ ((length (ends happened) ≡ s .size) × (isFetched happened ≡ false))
@@ -146,12 +151,14 @@ EveryDayHolds = EveryDay (λ _ s happened. DayHolds s happened)
 -- the theorem: what holds of every list of askings, day by day and as a whole
 pub record Theorem : Type 0 where
   pub days : EveryDayHolds
-  -- in a day both orders are what they must be, and the plan stays as BEGIN found it, with the activation order used for both where
-  -- no 04 was given
+  -- in a day both orders are what they must be, and steps, stations and orders stay as BEGIN found them, with the activation order used
+  -- for both where no 04 was given
   pub orders : EveryDay (λ _ s _. OrdersHold s)
   pub plans : EveryDay (λ found s _. SamePlan (completed found) s)
-  -- and so do the places of the cold room
-  pub places : EveryDay (λ found s _. s .chilled .bound ≡ found .chilled .bound)
+  -- the places of the cold room are those of the last accepted 08 of the day, or those that BEGIN found: "the bound in force"
+  pub places : EveryDay (λ found s happened. s .chilled .bound ≡ inForce (found .chilled .bound) happened)
+  -- which is never below the peak
+  pub fits : EveryDay (λ _ s _. peakOf s ≤ s .chilled .bound)
   -- all that is promised of an asking holds of each of the list
   pub askings : (earlier : List Asking) (a : Asking) → AskingHolds (after none earlier) a
   -- "from the accepted commands alone": without those that are refused the plan is the same, and so is what happened

@@ -1,4 +1,4 @@
--- What no command of a day changes stays over several parts of a command.
+-- What one part of a command leaves of a plan, several do.
 use mathlib.Core.Path.{refl, _∙_}
 use Rattle.words.specs.Contents.{Contents}
 use Rattle.store.specs.Kept.{SamePlan}

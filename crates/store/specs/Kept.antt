@@ -25,7 +25,7 @@ pub record Kept (c : Contents) : Type 0 where
       (books c)
   pub cached : Cached c
 
--- what no command of a day changes
+-- what sharing out, booking ahead and starting leave of a plan
 pub record SamePlan (c c′ : Contents) : Type 0 where
   pub phase : c′ .phase ≡ c .phase
   pub size : c′ .size ≡ c .size

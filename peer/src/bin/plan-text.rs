@@ -20,17 +20,20 @@ what a line says as soon as the line has come.
 One thing a line; # starts a comment. Steps are numbered from 1 in each plan;
 a step may say its number. Parent - (or 0) is the last step. Execution lines may
 be left out altogether: then the activation order is used for both. With some of
-its steps missing, begin is refused 3. After the last step is done its trays stay
-in the cold room until fetch, and a next plan is refused 3 before it. Where the
-line ends with ... it may go on, and each number is a command. The lines:
+its steps missing, begin is refused 3. While the day runs, places says how many
+tray places there are from then on; it is refused 9 below the peak, then 13 below
+the trays booked. After the last step is done its trays stay in the cold room
+until fetch, and a next plan is refused 3 before it. Where the line ends with ...
+it may go on, and each number is a command. The lines:
 ";
 
 const WRITTEN: &str = "
 --written gives the commands one after another to an empty plan, and at the end
 writes the bytes of the plan that they lead to: its opening, its steps, the
-activation order, the execution order, and nothing of its day. So all texts of
-one plan give the same bytes, whatever mix the orders come in, and the tidy text
-is 'plan-text --written FILE | plan-text --back'. Of a plan that has begun
+activation order, the execution order, and nothing of its day but the places in
+force, those of its last 'places' line. So all texts of one plan give the same
+bytes, whatever mix the orders come in, and the tidy text is
+'plan-text --written FILE | plan-text --back'. Of a plan that has begun
 without an execution line the activation order is written twice; before its
 'begin' its execution order is not complete. A command that is refused is told
 with its line and its number K. Then, after a wrong line, and where an order is

@@ -3,7 +3,7 @@
 use super::day::Habit;
 use super::draft::Draft;
 use super::random::Random;
-use super::{flaw, nuisance, orders};
+use super::{flaw, nuisance, orders, places};
 use crate::command::Command;
 use crate::encode::encode;
 use crate::phase::Phase;
@@ -109,8 +109,8 @@ impl Asker {
     }
 
     /// Sends a whole plan and, where BEGIN is accepted, reports until the last
-    /// task has ended; mostly FETCH follows. A refused BEGIN may come again, with
-    /// the execution order whole.
+    /// task has ended, with any bounds in between; mostly FETCH follows. A refused
+    /// BEGIN may come again, with the execution order whole.
     fn send(&mut self, draft: &Draft) {
         let n = draft.records.len().max(1) as u16;
         let commands = draft.commands(&mut self.random);
@@ -127,8 +127,9 @@ impl Asker {
         }
         let habit = Habit::random(&mut self.random);
         while self.plan.phase() == Phase::Running {
-            let task = habit.take(&mut self.random, &mut self.running);
-            self.ask(&encode(Command::Done(task)), n);
+            let (plan, running) = (&self.plan, &mut self.running);
+            let next = habit.next(&mut self.random, plan, running, places::any);
+            self.ask(&encode(next), n);
         }
         if self.plan.phase() == Phase::Ready && self.random.chance(85) {
             self.ask(&encode(Command::Fetch), n);

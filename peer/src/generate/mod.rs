@@ -11,6 +11,7 @@ mod flaw;
 mod nuisance;
 mod orders;
 mod pairs;
+mod places;
 mod random;
 mod siblings;
 mod steps_only;

@@ -7,7 +7,7 @@ use crate::record::Record;
 
 /// Any whole command, with numbers around the limits of a plan of n tasks.
 pub(crate) fn any_command(random: &mut Random, n: u16) -> Vec<u8> {
-    let command = match random.between(0, 8) {
+    let command = match random.between(0, 9) {
         0 => Command::Plan {
             tasks: random.pick(&[0, 1, n, 1024, 1025, 65_535]),
             processors: random.pick(&[0, 1, 64, 65, 255]),
@@ -22,6 +22,7 @@ pub(crate) fn any_command(random: &mut Random, n: u16) -> Vec<u8> {
         3 => Command::Execution(number(random, n)),
         4 => Command::Begin,
         5 => Command::Fetch,
+        6 => Command::Places(random.pick(&[0, 7, u32::MAX])),
         _ => Command::Done(number(random, n)),
     };
     encode(command)
@@ -36,10 +37,10 @@ fn number(random: &mut Random, n: u16) -> u16 {
     }
 }
 
-/// A byte that is none of 01 to 07, with any bytes after it.
+/// A byte that is none of 01 to 08, with any bytes after it.
 pub(crate) fn unknown_byte(random: &mut Random) -> Vec<u8> {
-    let any = random.between(0x08, 0xff) as u8;
-    let mut bytes = vec![random.pick(&[0x00, 0x08, 0x09, 0x0b, 0x11, 0x12, 0xff, any])];
+    let any = random.between(0x09, 0xff) as u8;
+    let mut bytes = vec![random.pick(&[0x00, 0x09, 0x0a, 0x0b, 0x11, 0x12, 0xff, any])];
     bytes.extend(random.bytes(6));
     bytes
 }

@@ -2,7 +2,7 @@
 
 use super::draft::Draft;
 use super::random::Random;
-use super::{day, flaw, nuisance};
+use super::{day, flaw, nuisance, places};
 use crate::command::Command;
 use crate::encode::encode;
 
@@ -57,7 +57,7 @@ fn disturb(random: &mut Random, commands: &mut Vec<Vec<u8>>, n: u16) {
     let begin = commands
         .iter()
         .position(|command| command == &encode(Command::Begin));
-    match (random.between(0, 6), begin) {
+    match (random.between(0, 9), begin) {
         (0, _) => {
             commands.remove(random.below(commands.len()));
         }
@@ -77,6 +77,7 @@ fn disturb(random: &mut Random, commands: &mut Vec<Vec<u8>>, n: u16) {
             commands.insert(random.pick(&[0, any, end]), encode(Command::Fetch));
         }
         (4, _) => disturb_ready(random, commands, n),
+        (5..=7, Some(begin)) => disturb_bound(random, commands, begin),
         _ => {
             let place = random.below(commands.len() + 1);
             commands.insert(place, nuisance::any_command(random, n));
@@ -95,6 +96,14 @@ fn disturb_ready(random: &mut Random, commands: &mut Vec<Vec<u8>>, n: u16) {
         _ => nuisance::any_command(random, n),
     };
     commands.insert(place, command);
+}
+
+/// Lets a bound come, somewhere behind BEGIN, that is refused there.
+fn disturb_bound(random: &mut Random, commands: &mut Vec<Vec<u8>>, begin: usize) {
+    let place = begin + 1 + random.below(commands.len() - begin);
+    let (plan, _) = day::led_by(&commands[..place]);
+    let bound = places::refused(random, &plan);
+    commands.insert(place, encode(Command::Places(bound)));
 }
 
 /// Cuts the stream at any byte, changes a byte, or lets any bytes follow.

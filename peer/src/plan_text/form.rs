@@ -21,12 +21,21 @@ pub(crate) enum Shape {
     Opening,
     /// The same, with the number of this step ahead.
     Numbered,
+    /// One number alone.
+    Single,
     /// Numbers alone, one or more: each is a command.
     List,
 }
 
-/// A number of a command: its word, which in a list is the command's, its
-/// width in bytes, its limits, and how 0 is written.
+impl Shape {
+    /// Whether each number stands after a word of its own.
+    pub fn names_numbers(&self) -> bool {
+        !matches!(self, Shape::Single | Shape::List)
+    }
+}
+
+/// A number of a command: its word, which is the command's where the number
+/// stands alone, its width in bytes, its limits, and how 0 is written.
 pub(crate) struct Field {
     pub word: &'static str,
     pub width: usize,
@@ -91,6 +100,12 @@ static FORMS: &[Form] = &[
         &[field("done", 2, 1, Most::Steps)],
     ),
     form(0x07, "fetch", Shape::Plain, &[]),
+    form(
+        0x08,
+        "places",
+        Shape::Single,
+        &[field("places", 4, 0, Most::Fitting)],
+    ),
 ];
 
 const fn form(byte: u8, word: &'static str, shape: Shape, fields: &'static [Field]) -> Form {
@@ -189,7 +204,7 @@ impl Steps {
                 self.given += 1;
                 return Some(self.given);
             }
-            Shape::Plain | Shape::List => {}
+            Shape::Plain | Shape::Single | Shape::List => {}
         }
         None
     }
@@ -213,6 +228,7 @@ fn pattern(form: &Form) -> String {
     for field in form.fields {
         pattern += &match form.shape {
             Shape::List => " N ...".to_string(),
+            Shape::Single => " N".to_string(),
             _ => format!(" {} N", field.word),
         };
     }

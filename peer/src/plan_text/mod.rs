@@ -4,8 +4,8 @@
 //! turn, and all else that the rules ask, is asked only where the plan that
 //! they lead to is written; of its opening and its steps also where an order is
 //! found for them. A plan needs no execution line: the activation
-//! order is then used for both. A `fetch` line fetches what a day leaves; the next
-//! plan comes only behind it.
+//! order is then used for both. A `places` line changes the bound while a day runs.
+//! A `fetch` line fetches what a day leaves; the next plan comes only behind it.
 
 mod form;
 mod found;

@@ -93,7 +93,7 @@ fn read_command(
     bytes.push(form.byte);
     let mut numbers = Vec::new();
     for field in form.fields {
-        if form.shape != Shape::List {
+        if form.shape.names_numbers() {
             expect(form, field, words.next())?;
         }
         let number = read_number(field, words.next(), steps)?;

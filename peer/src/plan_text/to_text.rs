@@ -101,7 +101,7 @@ fn write_numbers(command: &Whole, text: &mut String) {
         let number = bytes
             .iter()
             .rfold(0, |number, &byte| number << 8 | u32::from(byte));
-        if command.form.shape != Shape::List {
+        if command.form.shape.names_numbers() {
             text.push_str(&format!(" {}", field.word));
         }
         text.push_str(&format!(" {}", field.text(number)));

@@ -12,7 +12,8 @@ fn is_small(command: Command) -> bool {
     !matches!(command, Command::Plan { tasks, .. } if tasks > LARGEST && tasks <= 1024)
 }
 
-fn compare(plan: &mut Plan, naive: &mut Naive, asking: &Asking) {
+/// Asks both the same, and compares all that they answer. Answers the number.
+pub fn compare(plan: &mut Plan, naive: &mut Naive, asking: &Asking) -> u8 {
     let Asking {
         bytes,
         place,
@@ -44,6 +45,7 @@ fn compare(plan: &mut Plan, naive: &mut Naive, asking: &Asking) {
     for list_len in [enough - 1, enough] {
         assert_eq!(written(plan, list_len), naive.written(list_len));
     }
+    answer.number
 }
 
 #[test]
@@ -79,11 +81,12 @@ fn naive_lines(stream: &[u8]) -> Option<String> {
         lines += &match (reply.number, command) {
             (0, Ok(Command::Begin)) => format!("begin peak={} by={}", reply.peak, reply.peak_task),
             (0, Ok(Command::Done(task))) => format!("done {task} offers={}", reply.offers),
+            (0, Ok(Command::Places(bound))) => format!("places M={bound}"),
             (0, Ok(Command::Fetch)) => format!("fetch booked={}\n", naive.booked()),
             (0, _) => String::new(),
             (number, _) => return Some(format!("{lines}refused {number} at {place}\n")),
         };
-        if let Ok(Command::Begin | Command::Done(_)) = command {
+        if let Ok(Command::Begin | Command::Done(_) | Command::Places(_)) = command {
             let (booked, used, full) = (naive.booked(), naive.in_use(), naive.fullness());
             let starts: Vec<String> = reply.starts.iter().map(u16::to_string).collect();
             let starts = if starts.is_empty() {

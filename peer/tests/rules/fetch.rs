@@ -1,8 +1,8 @@
 //! The trolley stands until it is fetched: ready, and FETCH.
 
 use crate::menu::{
-    accepting, answers, ask, bytes_of, done, fetch, finish, give, hex, plan_a, plan_c, reading,
-    refused_plans, written, Menu,
+    ahead_of_days, answers, ask, bytes_of, done, fetch, finish, give, hex, plan_a, plan_c, reading,
+    written, Menu,
 };
 use crate::plan_a;
 use crate::printer::printed;
@@ -58,7 +58,7 @@ fn booked_by_all(plan: &Plan, menu: &Menu) -> Vec<u32> {
 }
 
 /// Everything that leads nowhere in ready, whatever its operands say.
-const OTHERS: [&str; 13] = [
+const OTHERS: [&str; 15] = [
     "01 01 00 01 00 00 00 00",
     "01 03 00 02 07 00 00 00",
     "01 00 00 00 00 00 00 00",
@@ -72,6 +72,8 @@ const OTHERS: [&str; 13] = [
     "06 01 00",
     "06 03 00",
     "06 00 00",
+    "08 00 00 00 00",
+    "08 ff ff ff ff",
 ];
 
 #[test]
@@ -165,7 +167,7 @@ fn unknown_bytes_cut_commands_and_short_lists_in_ready() {
     for place in [2, 3, usize::MAX] {
         assert_eq!(ask(&mut plan, &whole, place, 64).0.number, 1);
     }
-    for byte in (0x00..=0xff).filter(|byte| !(0x01..=0x07).contains(byte)) {
+    for byte in (0x00..=0xff).filter(|byte| !(0x01..=0x08).contains(byte)) {
         assert_eq!(give(&mut plan, &[byte]).0.number, 2);
     }
     for text in [
@@ -175,6 +177,7 @@ fn unknown_bytes_cut_commands_and_short_lists_in_ready() {
         "03",
         "04 01",
         "06 03",
+        "08 07 00 00",
     ] {
         assert_eq!(give(&mut plan, &hex(text)).0.number, 1, "{text}");
     }
@@ -221,16 +224,8 @@ fn check_out_of_turn(plan: &mut Plan, phase: Phase) {
 
 #[test]
 fn fetch_is_out_of_turn_outside_ready() {
-    check_out_of_turn(&mut Plan::new(), Phase::Empty);
-    let commands = plan_a().commands();
-    for given in 1..=3 {
-        check_out_of_turn(&mut accepting(&commands[..given]), Phase::Steps);
-    }
-    for given in 4..=commands.len() {
-        check_out_of_turn(&mut accepting(&commands[..given]), Phase::Orders);
-    }
-    for (menu, _) in refused_plans() {
-        check_out_of_turn(&mut menu.begun().2, Phase::Orders);
+    for (mut plan, phase) in ahead_of_days() {
+        check_out_of_turn(&mut plan, phase);
     }
     let (_, _, mut plan) = plan_a().begun();
     for task in 1..=3 {
@@ -241,7 +236,7 @@ fn fetch_is_out_of_turn_outside_ready() {
     for _ in 0..3 {
         check_out_of_turn(&mut plan, Phase::Over);
     }
-    give(&mut plan, &commands[0]);
+    give(&mut plan, &plan_a().commands()[0]);
     check_out_of_turn(&mut plan, Phase::Steps);
 }
 
@@ -397,7 +392,9 @@ fn lines_of_refusals() {
     // The next plan comes too early, and the last report again.
     check_behind_a("01 01 00 01 00 00 00 00 07", "refused 3 at 57\n");
     check_behind_a("06 03 00 07", "refused 3 at 57\n");
-    check_behind_a("08 07", "refused 2 at 57\n");
+    check_behind_a("09 07", "refused 2 at 57\n");
+    check_behind_a("08 07", "refused 1 at 57\n");
+    check_behind_a("08 07 00 00 00", "refused 3 at 57\n");
     check_behind_a("06 03", "refused 1 at 57\n");
     check_behind_a("07 07", "fetch booked=0\nrefused 3 at 58\n");
     // FETCH comes in place of the last report.

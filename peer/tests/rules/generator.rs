@@ -34,7 +34,7 @@ fn encoding_is_the_reverse_of_decoding() {
     while read < 2000 {
         let mut bytes = random.bytes(12);
         if let Some(first) = bytes.first_mut() {
-            *first %= 8;
+            *first %= 9;
         }
         if let Ok((command, used)) = decode(&bytes, 0) {
             assert_eq!(encode(command), bytes[..used]);
@@ -76,7 +76,7 @@ fn streams_end_in_every_way() {
         }
         sizes.extend(opened);
     }
-    assert_eq!(numbers, (1..=9).collect());
+    assert_eq!(numbers, (1..=9).chain([13]).collect());
     let ended_in = |wanted| phases.iter().filter(|&&phase| phase == wanted).count();
     assert!(ended_in(Phase::Over) > 100 && ended_in(Phase::Ready) > 20);
     assert!(sizes.contains(&1) && sizes.contains(&1024));
@@ -95,7 +95,7 @@ fn askings_go_on_after_every_refusal() {
         ready += usize::from(plan.phase() == Phase::Ready);
         over += usize::from(plan.phase() == Phase::Over);
     }
-    assert_eq!(numbers, (0..=10).collect());
+    assert_eq!(numbers, (0..=10).chain([13]).collect());
     assert!(over > 65 && ready > 5, "{over} {ready}");
 }
 

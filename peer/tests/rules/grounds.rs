@@ -61,7 +61,7 @@ fn no_byte_then_unknown_then_cut() {
     for place in [1, 2, usize::MAX] {
         assert_eq!(ask(&mut Plan::new(), &[0x05], place, 64).0.number, 1);
     }
-    for byte in (0x00..=0xff).filter(|byte| !(0x01..=0x07).contains(byte)) {
+    for byte in (0x00..=0xff).filter(|byte| !(0x01..=0x08).contains(byte)) {
         assert_eq!(give(&mut Plan::new(), &[byte]).0.number, 2);
     }
     // Cut operands are 1 even out of turn or outside limits.
@@ -72,6 +72,8 @@ fn no_byte_then_unknown_then_cut() {
         "03",
         "04 01",
         "06 00",
+        "08",
+        "08 00 00 00",
     ];
     for text in cut {
         assert_eq!(empty(text), 1);
@@ -94,12 +96,20 @@ fn turns() {
         "04 00 00",
         "06 00 00",
         "07",
+        "08 00 00 00 00",
     ] {
         assert_eq!(empty(text), 3);
     }
     let mut plan = accepting(&plan_a().steps()[..3]);
     assert_eq!(plan.phase(), Phase::Steps);
-    for text in ["03 01 00", "04 01 00", "05", "06 01 00", "07"] {
+    for text in [
+        "03 01 00",
+        "04 01 00",
+        "05",
+        "06 01 00",
+        "07",
+        "08 07 00 00 00",
+    ] {
         assert_eq!(number(&mut plan, text), 3);
     }
     let mut plan = plan_a().given();
@@ -111,6 +121,7 @@ fn turns() {
         "03 09 00",
         "06 01 00",
         "07",
+        "08 07 00 00 00",
     ] {
         assert_eq!(number(&mut plan, text), 3);
     }
@@ -133,6 +144,7 @@ fn turns() {
         "05",
         "06 03 00",
         "07",
+        "08 07 00 00 00",
     ] {
         assert_eq!(number(&mut plan, text), 3);
     }

@@ -1,4 +1,4 @@
-//! The rules of document 01, and requests 01 to 07 of document 02, tried on
+//! The rules of document 01, and requests 01 to 08 of document 02, tried on
 //! this implementation.
 
 mod against_naive;
@@ -16,6 +16,7 @@ mod fullness_line;
 mod generator;
 mod generator_fetch;
 mod generator_fullness;
+mod generator_places;
 mod generator_steps;
 mod grounds;
 mod limits;
@@ -29,10 +30,18 @@ mod peak_task_days;
 mod peak_task_every;
 mod peak_task_refused;
 mod peak_ties;
+mod places;
+mod places_astray;
+mod places_days;
+mod places_every;
+mod places_in_force;
+mod places_line;
+mod places_refused;
 mod plan_a;
 mod plan_c;
 mod plan_text;
 mod plan_text_order;
+mod plan_text_places;
 mod plan_text_program;
 mod plan_text_typed;
 mod plan_text_written;

@@ -102,6 +102,14 @@ pub fn plan_a() -> Menu {
     Menu::new(2, 7, &[(3, 5, 1), (3, 5, 1), (0, 0, 1)])
 }
 
+/// Plan A in a cold room of so many places.
+pub fn plan_a_within(memory_bound: u32) -> Menu {
+    Menu {
+        memory_bound,
+        ..plan_a()
+    }
+}
+
 /// Plan C.
 pub fn plan_c() -> Menu {
     Menu::new(2, 6, &[(3, 1, 2), (3, 2, 1), (4, 1, 2), (0, 0, 3)])
@@ -123,6 +131,26 @@ pub fn refused_plans() -> Vec<(Menu, u8)> {
         (menu(&[(0, 1, 1), (1, 1, 1)], &[1, 2]), 8),
         (menu(&[(0, 1, 1), (1, 1, 1)], &[2, 1]), 9),
     ]
+}
+
+/// Plans ahead of their day, and the phase of each: plan A after each of its
+/// commands, and those whose BEGIN was refused.
+pub fn ahead_of_days() -> Vec<(Plan, Phase)> {
+    let menu = plan_a();
+    let (commands, steps) = (menu.commands(), menu.steps());
+    let mut plans = vec![(Plan::new(), Phase::Empty)];
+    for given in 1..=commands.len() {
+        let is_missing_steps = given < steps.len();
+        let phase = if is_missing_steps {
+            Phase::Steps
+        } else {
+            Phase::Orders
+        };
+        plans.push((accepting(&commands[..given]), phase));
+    }
+    let refused = refused_plans().into_iter();
+    plans.extend(refused.map(|(menu, _)| (menu.begun().2, Phase::Orders)));
+    plans
 }
 
 /// A plan that accepted these commands from empty on.
@@ -172,6 +200,11 @@ pub fn done(plan: &mut Plan, task: u16) -> (Answer, Vec<u16>) {
 /// Gives FETCH.
 pub fn fetch(plan: &mut Plan) -> (Answer, Vec<u16>) {
     give(plan, &encode(Command::Fetch))
+}
+
+/// Gives 08 with a bound.
+pub fn places(plan: &mut Plan, bound: u32) -> (Answer, Vec<u16>) {
+    give(plan, &encode(Command::Places(bound)))
 }
 
 /// Goes on with a day until its last task has ended, always reporting the longest running task.

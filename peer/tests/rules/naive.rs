@@ -23,16 +23,18 @@ pub struct Reply {
 }
 
 /// A plan. Lists by step have an unused entry 0, so that a step is its index.
+#[derive(Clone)]
 pub struct Naive {
     pub phase: Phase,
     pub n: usize,
     p: usize,
-    m: usize,
+    /// The bound in force.
+    pub m: usize,
     parent: Vec<usize>,
     work: Vec<usize>,
     out: Vec<usize>,
-    activation: Vec<usize>,
-    execution: Vec<usize>,
+    pub activation: Vec<usize>,
+    pub execution: Vec<usize>,
     state: Vec<State>,
     booked: Vec<usize>,
 }
@@ -72,6 +74,7 @@ impl Naive {
             0x02 => 6,
             0x03 | 0x04 | 0x06 => 2,
             0x05 | 0x07 => 0,
+            0x08 => 4,
             _ => return Err(2),
         };
         refuse(1, bytes.len() - place < 1 + width)?;
@@ -117,10 +120,18 @@ impl Naive {
                     self.phase = Phase::Ready;
                 }
             }
-            _ => {
+            0x07 => {
                 let root = self.root();
                 self.booked[root] = 0;
                 self.phase = Phase::Over;
+            }
+            _ => {
+                let m = operand(0, 4);
+                refuse(9, m < self.peak().0)?;
+                refuse(13, m < self.booked())?;
+                self.m = m;
+                self.book_ahead();
+                reply.starts = self.start();
             }
         }
         Ok(reply)
@@ -137,7 +148,7 @@ impl Naive {
                 let none_or_all = execution == 0 || execution == self.n;
                 self.phase == Phase::Orders && activation == self.n && none_or_all
             }
-            0x06 => self.phase == Phase::Running,
+            0x06 | 0x08 => self.phase == Phase::Running,
             _ => self.phase == Phase::Ready,
         }
     }
@@ -207,13 +218,13 @@ impl Naive {
         self.steps().filter(move |&child| self.parent[child] == i)
     }
 
-    fn need(&self, i: usize) -> usize {
+    pub fn need(&self, i: usize) -> usize {
         let outs: usize = self.children(i).map(|child| self.out[child]).sum();
         outs + self.work[i] + self.out[i]
     }
 
-    /// The largest sum, and the first step in the activation order that has it.
-    fn peak(&self) -> (usize, usize) {
+    /// What the cold room holds while each step of the activation order runs.
+    pub fn sums(&self) -> Vec<usize> {
         let while_running = |k: usize| {
             let i = self.activation[k];
             let ended = &self.activation[..k];
@@ -225,7 +236,12 @@ impl Naive {
                 .sum();
             self.need(i) + outs
         };
-        let sums: Vec<usize> = (0..self.n).map(while_running).collect();
+        (0..self.n).map(while_running).collect()
+    }
+
+    /// The largest sum, and the first step in the activation order that has it.
+    pub fn peak(&self) -> (usize, usize) {
+        let sums = self.sums();
         let peak = *sums.iter().max().unwrap();
         let first = sums.iter().position(|&sum| sum == peak).unwrap();
         (peak, self.activation[first])
@@ -244,7 +260,7 @@ impl Naive {
         self.booked.iter().sum()
     }
 
-    fn first_waiting(&self) -> Option<usize> {
+    pub fn first_waiting(&self) -> Option<usize> {
         let mut order = self.activation.iter().copied();
         order.find(|&i| self.state[i] == State::Waiting)
     }
@@ -258,18 +274,26 @@ impl Naive {
         self.need(i).saturating_sub(self.booked[i] + of_children)
     }
 
-    fn book_ahead(&mut self) {
+    pub fn book_ahead(&mut self) {
         while let Some(i) = self.first_waiting() {
-            let missing = self.missing(i);
-            if self.sum_of_booked() + missing > self.m {
+            if !self.book(i) {
                 return;
             }
-            self.booked[i] += missing;
-            self.state[i] = State::Booked;
         }
     }
 
-    fn start(&mut self) -> Vec<u16> {
+    /// Books a step if B + missing is at most M; answers whether it is.
+    pub fn book(&mut self, i: usize) -> bool {
+        let missing = self.missing(i);
+        let fits = self.sum_of_booked() + missing <= self.m;
+        if fits {
+            self.booked[i] += missing;
+            self.state[i] = State::Booked;
+        }
+        fits
+    }
+
+    pub fn start(&mut self) -> Vec<u16> {
         let mut starts = vec![];
         while self.count(State::Running) < self.p {
             let may_start = |i: usize| {
@@ -432,7 +456,7 @@ fn say(bytes: &mut Vec<u8>, byte: u8, operands: &[(usize, u32)]) {
 }
 
 /// Refuses with this number where its ground holds.
-fn refuse(number: u8, ground: bool) -> Result<(), u8> {
+pub fn refuse(number: u8, ground: bool) -> Result<(), u8> {
     if ground {
         Err(number)
     } else {

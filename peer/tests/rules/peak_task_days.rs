@@ -158,6 +158,7 @@ fn begin_lines_of_the_examples() {
         include_str!("../../../examples/plan-a.plan"),
         include_str!("../../../examples/breakfast.plan"),
         include_str!("../../../examples/lunch.plan"),
+        include_str!("../../../examples/cleaning.plan"),
     ] {
         assert_eq!(check_lines(&to_bytes(text).unwrap()), 1);
     }

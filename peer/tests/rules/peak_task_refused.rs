@@ -1,7 +1,9 @@
 //! Where no peak is answered, its task is 0: refusals, and commands other than
 //! BEGIN.
 
-use crate::menu::{accepting, ask, give, hex, plan_a, plan_c, refused, refused_plans, Menu};
+use crate::menu::{
+    accepting, ask, give, hex, plan_a, plan_a_within, plan_c, refused, refused_plans, Menu,
+};
 use peer::{desk_peak, Answer, DeskAnswer, Plan, Record};
 
 /// Asks with a start list of so many entries, and with nothing in between.
@@ -77,8 +79,16 @@ fn all_other_refusals() {
     check_refused(&mut accepting(&plan_a().commands()[..9]), &one_missing);
     let complete = [("", 1), ("06 01", 1), ("ff", 2), ("03 01 00", 3)];
     check_refused(&mut plan_a().given(), &complete);
-    let running = [("05", 3), ("06 04 00", 4), ("06 02 00", 6), ("07", 3)];
+    let running = [
+        ("05", 3),
+        ("06 04 00", 4),
+        ("06 02 00", 6),
+        ("07", 3),
+        ("08 06 00 00 00", 9),
+    ];
     check_refused(&mut plan_a().begun().2, &running);
+    let all_booked = [("08 06 00 00 00", 9), ("08 0b 00 00 00", 13)];
+    check_refused(&mut plan_a_within(12).begun().2, &all_booked);
     let ready = [("05", 3), ("06 03 00", 3), ("01 01 00 01 00 00 00 00", 3)];
     check_refused(&mut plan_a().ready(), &ready);
     let over = [("05", 3), ("07", 3), ("01 00 00 01 00 00 00 00", 4)];

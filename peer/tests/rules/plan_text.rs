@@ -41,7 +41,10 @@ fn outside_limits(stream: &[u8]) -> Option<usize> {
                 (1..=Plan::TASKS).contains(&tasks.into())
                     && (1..=Plan::PROCESSORS).contains(&processors.into())
             }
-            Command::Step(Record { parent: 0, .. }) | Command::Begin | Command::Fetch => true,
+            Command::Step(Record { parent: 0, .. })
+            | Command::Begin
+            | Command::Fetch
+            | Command::Places(_) => true,
             Command::Step(Record { parent: step, .. })
             | Command::Activation(step)
             | Command::Execution(step)
@@ -83,7 +86,7 @@ fn streams_of_the_generator_both_ways() {
 fn any_commands(random: &mut Random) -> Vec<u8> {
     let mut commands = Vec::new();
     for _ in 0..random.below(200) {
-        let mut bytes = vec![random.between(0x01, 0x07) as u8];
+        let mut bytes = vec![random.between(0x01, 0x08) as u8];
         bytes.extend(random.bytes(12));
         if let Ok((_, used)) = decode(&bytes, 0) {
             commands.extend(&bytes[..used]);
@@ -102,7 +105,7 @@ fn commands_within_limits(random: &mut Random) -> Vec<u8> {
     });
     for _ in 0..random.below(200) {
         let step = random.between(1, most.into()) as u16;
-        commands.extend(encode(match random.between(0x02, 0x07) {
+        commands.extend(encode(match random.between(0x02, 0x08) {
             0x02 => Command::Step(Record {
                 parent: step - u16::from(random.chance(50)),
                 work: random.between(0, 65_535) as u16,
@@ -112,7 +115,8 @@ fn commands_within_limits(random: &mut Random) -> Vec<u8> {
             0x04 => Command::Execution(step),
             0x05 => Command::Begin,
             0x06 => Command::Done(step),
-            _ => Command::Fetch,
+            0x07 => Command::Fetch,
+            _ => Command::Places(random.between(0, u32::MAX)),
         }));
     }
     commands
@@ -139,7 +143,7 @@ fn any_bytes_both_ways() {
             &random
                 .bytes(40)
                 .iter()
-                .map(|byte| byte % 9)
+                .map(|byte| byte % 10)
                 .collect::<Vec<_>>(),
         );
     }
@@ -218,6 +222,12 @@ fn ways_to_write_a_line() {
             "03 02 00 03 01 00 04 01 02",
         ),
         ("done 2 1024\ndone 1", "06 02 00 06 00 04 06 01 00"),
+        ("places 0", "08 00 00 00 00"),
+        ("places 67305985 # at ten\n", "08 01 02 03 04"),
+        (
+            "places 4294967295\nplaces 007",
+            "08 ff ff ff ff 08 07 00 00 00",
+        ),
         ("\u{feff}begin\n\u{feff}# Tuesday\n\u{feff}begin", "05 05"),
     ] {
         assert_eq!(to_bytes(text), Ok(hex(bytes)), "{text}");
@@ -349,6 +359,24 @@ fn wrong_lines() {
         ("fetch fetch", "'fetch' wants nothing more, found 'fetch'"),
         ("Fetch", "'Fetch' is no command"),
         ("fetched", "'fetched' is no command"),
+        (
+            "places",
+            "'places' wants a number from 0 to 4294967295, found nothing",
+        ),
+        (
+            "places places 7",
+            "'places' wants a number from 0 to 4294967295, found 'places'",
+        ),
+        (
+            "places -",
+            "'places' wants a number from 0 to 4294967295, found '-'",
+        ),
+        (
+            "places 4294967296",
+            "'places' wants a number from 0 to 4294967295, found '4294967296'",
+        ),
+        ("places 7 12", "'places' wants nothing more, found '12'"),
+        ("place 7", "'place' is no command"),
         (
             "done 1 65536",
             "'done' wants a number from 1 to 1024, found '65536'",
@@ -534,7 +562,14 @@ fn wrong_bytes() {
         ("09", "", 0, "09 is no command"),
         ("05 00", begin, 1, "00 is no command"),
         ("05 ff 05", begin, 1, "ff is no command"),
-        ("05 08 05", begin, 1, "08 is no command"),
+        ("05 0a 05", begin, 1, "0a is no command"),
+        ("05 08 05", begin, 1, "'places' is cut short"),
+        (
+            "08 07 00 00 00 08 07 00 00",
+            "places 7\n",
+            5,
+            "'places' is cut short",
+        ),
         ("07 02 03", "fetch\n", 1, "'step' is cut short"),
         ("01", "", 0, "'plan' is cut short"),
         ("05 01 03 00 02 07 00 00", begin, 1, "'plan' is cut short"),
@@ -558,6 +593,7 @@ fn the_patterns_of_all_lines() {
         "begin",
         "done N ...",
         "fetch",
+        "places N",
     ];
     assert_eq!(patterns(), wanted);
 }

@@ -172,7 +172,12 @@ fn a_file_that_is_not_there() {
 fn help_and_usage() {
     let (help, errors, status) = run(&["--help"], b"");
     let help = String::from_utf8(help).unwrap();
-    for line in ["plan steps N stations N places N", "begin", "fetch"] {
+    for line in [
+        "plan steps N stations N places N",
+        "begin",
+        "fetch",
+        "places N",
+    ] {
         assert!(help.contains(&format!("\n    {line}\n")), "{help}");
     }
     let words = help.split_whitespace().collect::<Vec<_>>().join(" ");
@@ -182,6 +187,10 @@ fn help_and_usage() {
         next plan is refused 3 before it.";
     assert!(words.contains(one_order), "{help}");
     assert!(words.contains(trolley), "{help}");
+    let cleaning =
+        "While the day runs, places says how many tray places there are from then on; it \
+        is refused 9 below the peak, then 13 below the trays booked.";
+    assert!(words.contains(cleaning), "{help}");
     assert_eq!((errors, status), (String::new(), 0));
     for arguments in [
         &["--forth"][..],

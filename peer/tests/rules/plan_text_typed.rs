@@ -12,6 +12,7 @@ use std::sync::mpsc::Receiver;
 const PLAN_A: &str = include_str!("../../../examples/plan-a.plan");
 const BREAKFAST: &str = include_str!("../../../examples/breakfast.plan");
 const LUNCH: &str = include_str!("../../../examples/lunch.plan");
+const CLEANING: &str = include_str!("../../../examples/cleaning.plan");
 
 /// Where lines are typed, and where what comes of them is heard.
 struct Typed {
@@ -94,7 +95,7 @@ fn printed(stream: &[u8]) -> Vec<u8> {
 /// Types a day line by line; what is due of the bytes so far has to be there
 /// before the next line.
 fn type_days(begin: fn() -> Typed, due: fn(&[u8]) -> Vec<u8>) {
-    for text in [PLAN_A, BREAKFAST, LUNCH] {
+    for text in [PLAN_A, BREAKFAST, LUNCH, CLEANING] {
         let (mut translator, mut stream) = (Translator::default(), Vec::new());
         let mut typed = begin();
         for line in text.lines() {

@@ -1,14 +1,7 @@
 //! The cases marked with a dagger.
 
-use crate::menu::{done, plan_a, plan_c, Menu};
+use crate::menu::{done, plan_a, plan_a_within, plan_c, Menu};
 use peer::{desk_peak, needs, Answer};
-
-fn plan_a_within(memory_bound: u32) -> Menu {
-    Menu {
-        memory_bound,
-        ..plan_a()
-    }
-}
 
 /// What BEGIN answers: number, peak, the peak's task, starts and B.
 fn begin(menu: &Menu) -> (u8, u32, u16, Vec<u16>, u32) {

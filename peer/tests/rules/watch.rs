@@ -4,11 +4,12 @@ use crate::menu::{ask, Menu};
 use peer::{decode, fullness, needs, Answer, Command, Phase, Plan, Record};
 
 /// What the accepted commands of a plan say: the plan itself, and of its day
-/// the starts, the ends and the fetch alone.
+/// the bounds, the starts, the ends and the fetch alone.
 #[derive(Default)]
 pub struct Watch {
     pub tasks: usize,
     pub processors: usize,
+    /// The bound in force.
     pub memory_bound: u32,
     pub records: Vec<Record>,
     pub activation: Vec<u16>,
@@ -70,6 +71,7 @@ impl Watch {
             }
             Command::Done(task) => self.end(task),
             Command::Fetch => self.fetched = true,
+            Command::Places(bound) => self.memory_bound = bound,
         }
         for &task in starts {
             self.start(task);
@@ -93,8 +95,9 @@ impl Watch {
         }
     }
 
-    /// The plan as it was given, and its activation order twice if it began
-    /// without the other; none unless both its orders are complete.
+    /// The plan as it was given, but for the bound in force, and its activation
+    /// order twice if it began without the other; none unless both its orders are
+    /// complete.
     pub fn menu(&self) -> Option<Menu> {
         let is_complete = |order: &[u16]| self.tasks > 0 && order.len() == self.tasks;
         let both_are = is_complete(&self.activation) && is_complete(&self.execution);

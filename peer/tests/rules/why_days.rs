@@ -135,7 +135,7 @@ fn check_not_running(watch: &Watch, plan: &Plan) {
 #[test]
 fn the_first_that_is_true() {
     let (mut small, mut large) = (Seen::new(), Seen::new());
-    for stream in (3000..3300).map(stream) {
+    for stream in (3000..3450).map(stream) {
         follow(&stream, |watch, plan| match plan.phase() {
             Phase::Running if watch.records.len() <= SMALL => {
                 check_running(watch, plan, &mut small);

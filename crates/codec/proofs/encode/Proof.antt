@@ -46,10 +46,21 @@ fetch c =
     let byte = c .before .before in
     rw (byte .before .before .enum-told2 .given .1) (byte .byte2 .ensures)
 
+places : tie.Need-returns-8
+unfolding bytes byteOf operandsOf widthsOf find forms littles little
+places c =
+    let bound = c .before .before in
+    let byte = bound .before .before .before .before in
+    rw (byte .before .before .before .command6 .given .1) (byte .byte3 .ensures then bound .little3 .ensures)
+
 pub encode-spec : {M : Type 1} → statement M
 encode-spec =
     tie.close
     (tie.spec
+    (λ c. search needs)
+    (λ c κs. search needs)
+    (λ c. search needs)
+    (λ c κs. search needs)
     (λ c. search needs)
     (λ c κs. search needs)
     (λ c. search needs)
@@ -81,4 +92,6 @@ encode-spec =
     (λ c. search needs)
     done
     (λ c. search needs)
-    fetch)
+    fetch
+    (λ c. search needs)
+    places)

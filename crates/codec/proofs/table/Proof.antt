@@ -3,7 +3,7 @@ use mathlib.Core.Path.{sym}
 use borrow.Author.Tests.{ne-eqb}
 use Rattle.rules.specs.Command.{forms, find}
 use Rattle.codec.proofs.Free.{free}
-use Rattle.codec.proofs.Lines.{plan-line, task-line, activation-line, execution-line, begin-line, done-line, fetch-line, no-line}
+use Rattle.codec.proofs.Lines.{plan-line, task-line, activation-line, execution-line, begin-line, done-line, fetch-line, places-line, no-line}
 use Rattle.codec.proofs.table.Statement.{statement}
 use Rattle.codec.proofs.table.Tie as tie
 
@@ -44,8 +44,11 @@ done c = rw (c .before .before .match .keys6, done-line) (rw (c .before .two7 .e
 fetch : tie.Need-returns-7
 fetch c = rw (c .before .match .keys7, fetch-line) (c .whole7 .ensures)
 
+places : tie.Need-returns-8
+places c = rw (c .before .before .match .keys8, places-line) (rw (c .before .four2 .ensures) at (c .whole8 .ensures))
+
 -- the byte is none of the arms': the last arm's fact stands outermost
-unknown : tie.Need-returns-8
+unknown : tie.Need-returns-9
 unfolding forms find
 unknown c =
     let rest = c .match .rest in
@@ -59,6 +62,7 @@ unknown c =
       ne-eqb _ _ (rest .0 .0 .0 .0 .1),
       ne-eqb _ _ (rest .0 .0 .0 .0 .0 .1),
       ne-eqb _ _ (rest .0 .0 .0 .0 .0 .0 .1),
+      ne-eqb _ _ (rest .0 .0 .0 .0 .0 .0 .0 .1),
     )))
 
 -- one line a command: what its callees require
@@ -73,4 +77,5 @@ table-spec =
     free
     free free
     free
-    plan task activation execution begin done fetch unknown)
+    free free
+    plan task activation execution begin done fetch places unknown)

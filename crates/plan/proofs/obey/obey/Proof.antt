@@ -48,6 +48,15 @@ fetches c =
     as-read (told .before .before .before .asked2 .given .1) (told .enum-told2 .given .1)
     (no-start (start .args .starts .now) (start .pre .0) (start .pre .1) (c .fetch .ensures))
 
+-- 08 may start tasks
+resizes : tie.Need-returns-9
+resizes c =
+    let done = c .before .before in
+    let told = done .before .before .before .before in
+    let start = told .before .before .before .before .before .before in
+    as-read (told .before .before .before .asked2 .given .1) (told .command6 .given .1)
+    (a-start (start .pre .0) (start .pre .1) (done .resize .ensures))
+
 pub obey-spec : {M : Type 1} → statement M
 obey-spec =
     tie.close
@@ -55,6 +64,8 @@ obey-spec =
     (λ c. search needs)
     (λ c κs. search needs)
     (λ c. search needs)
+    (λ c. search needs)
+    (λ c κs. search needs)
     (λ c. search needs)
     (λ c κs. search needs)
     (λ c. search needs)
@@ -78,4 +89,6 @@ obey-spec =
     begins
     (λ c. search needs)
     reports
-    fetches)
+    fetches
+    (λ c. search needs)
+    resizes)

@@ -2,7 +2,7 @@
 use mathlib.Core.Path.{_∙_}
 use borrow.Author.Needs.{needs}
 use Rattle.rules.specs.Text.{line}
-use Rattle.printing.proofs.Printed.{as-text, no-text, of-refused, of-read, of-begin, of-done, no-tasks, of-fetch}
+use Rattle.printing.proofs.Printed.{as-text, no-text, of-refused, of-read, of-begin, of-done, of-places, no-tasks, of-fetch}
 use Rattle.printing.proofs.accepted.accepted_line.Statement.{statement}
 use Rattle.printing.proofs.accepted.accepted_line.Tie as tie
 
@@ -51,6 +51,15 @@ returns-8 c =
     (of-read _ (read .before .before .before .asked .given .1) (read .enum-told7 .given .1) ∙ of-fetch _ (fetch .before .booked3 .ensures))
     (no-tasks (fetch .fetch-line .ensures))
 
+returns-9 : tie.Need-returns-9
+returns-9 c =
+    let figures = c .before .before .before in
+    let read = figures .before .before .before .before .before in
+    as-text
+    (of-read _ (read .before .before .before .asked .given .1) (read .command2 .given .1)
+    ∙ of-places _ (figures .before .before .booked4 .ensures) (figures .before .in-use3 .ensures) (figures .fullness3 .ensures) _)
+    (c .before .before .places-line .ensures)
+
 pub accepted-line-spec : {M : Type 1} → statement M
 accepted-line-spec =
     tie.close
@@ -74,6 +83,11 @@ accepted-line-spec =
     (λ c. search needs)
     (λ c κs. search needs)
     (λ c κs. search needs)
+    (λ c. search needs)
+    (λ c κs. search needs)
+    (λ c κs. search needs)
+    (λ c κs. search needs)
+    (λ c κs. search needs)
     returns
     returns-2
     returns-3
@@ -84,4 +98,6 @@ accepted-line-spec =
     (λ c. search needs)
     returns-7
     (λ c. search needs)
-    returns-8)
+    returns-8
+    (λ c. search needs)
+    returns-9)
