@@ -2,7 +2,7 @@
 
 use crate::kept::{give, Kept};
 use crate::records::{any_count, records};
-use crate::tool::bounds;
+use crate::tool::given_bounds;
 use peer::generate::{encode, Random, Shape};
 use peer::{desk_peak, Command, Plan};
 use std::ops::Range;
@@ -66,7 +66,7 @@ impl Day {
 
     /// 08 with the bound that PLAN gave.
     pub fn same_bound(&self) -> Vec<u8> {
-        encode(Command::Places(bounds(&self.bytes)[0]))
+        encode(Command::Places(given_bounds(&self.bytes)[0]))
     }
 
     /// A plan with all commands up to a place.

@@ -118,7 +118,7 @@ pub fn tasks(commands: &[u8]) -> u16 {
 }
 
 /// The bounds of the last plan: that of PLAN, and those of 08.
-pub fn bounds(commands: &[u8]) -> Vec<u32> {
+pub fn given_bounds(commands: &[u8]) -> Vec<u32> {
     let bound = |command| match command {
         Command::Plan { memory_bound, .. } => Some(memory_bound),
         Command::Places(bound) => Some(bound),
@@ -368,7 +368,7 @@ mod tests {
     fn a_lack_by_the_bound_of_plan_is_told() {
         for ordering in [Ordering::Less, Ordering::Greater] {
             told_behind::<Why>(|commands, answer, _| {
-                let [of_plan, .., in_force] = bounds(commands)[..] else {
+                let [of_plan, .., in_force] = given_bounds(commands)[..] else {
                     return;
                 };
                 if in_force.cmp(&of_plan) == ordering {

@@ -39,6 +39,15 @@ pub resize-late : (c : Contents) (bound : ℕ) → (c .phase ≡ Phase.running �
 unfolding inTurn
 resize-late c bound d = ground-turn (meaning c) (places bound) (ne-eqb (c .phase) Phase.running d)
 
+-- B is the total that is kept
+booked-is :
+    (c : Contents) (sound : Sound c)
+    → c .phase ≡ Phase.running
+    → total (c .size) (at (meaning c .chilled .booked)) ≡ c .chilled .total
+booked-is c sound now =
+    ap (λ (l : List ℕ). total (c .size) (at l)) (booked-rows c sound (in-running c sound now))
+    ∙ sym (cached-now c sound now .store .totals)
+
 module _ (c : Contents) (long : Lengths c) (reached : Reachable (meaning c)) (sound : Sound c) (now : c .phase ≡ Phase.running) where
   on : Phase.running ≤ c .phase
   on = in-running c sound now
@@ -57,11 +66,6 @@ module _ (c : Contents) (long : Lengths c) (reached : Reachable (meaning c)) (so
       sym (ground-is c sound long reached (sound .day on .ranked-all))
       ∙ rw (eq-eqb (roots (c .size) (at (meaning c .parents))) 1 (planned .rooted), planned .valid .upward) refl
 
-  -- B
-  booked-is : total (c .size) (at (meaning c .chilled .booked)) ≡ c .chilled .total
-  booked-is =
-      ap (λ (l : List ℕ). total (c .size) (at l)) (booked-rows c sound on) ∙ sym (cached-now c sound now .store .totals)
-
   module _ (bound : ℕ) (small : bound < 2 ^ 32) {high : Peaked} (is-high : high ≡ peakedOf c) where
     -- what is checked is the peak and B
     own :
@@ -71,7 +75,7 @@ module _ (c : Contents) (long : Lengths c) (reached : Reachable (meaning c)) (so
     own =
         ground-own (meaning c) (places bound) (eq-eqb (c .phase) Phase.running now) (le-leb bound maxBound (omega arith))
         ∙ ap₂ (λ (p b : ℕ). demand (leb p bound) 9 (demand (leb b bound) 13 0))
-        (sym (high-is-peak c sound long reached (sound .day on .ranked-all) is-high fine)) booked-is
+        (sym (high-is-peak c sound long reached (sound .day on .ranked-all) is-high fine)) (booked-is c sound now)
 
     -- 9
     pub resize-high : bound < high .trays → ground (meaning c) (places bound) ≡ 9
@@ -104,8 +108,7 @@ module _ (c : Contents) (reached : Reachable (meaning c)) (sound : Sound c) (bou
   -- what its parts ask
   pub may-resize : (list : List ℕ) → leastStarts ≤ length list → MayResize c bound list
   may-resize list room =
-      let booked = ap (λ (l : List ℕ). total (c .size) (at l)) (booked-rows c sound in-day) in
-      let totals = cached-now c sound runs .store .totals in
+      let booked = booked-is c sound runs in
       let fits = grounds-fit (meaning c) bound (no-ground (meaning c) (places bound) none .own) .booked in
       record {
         now = runs;

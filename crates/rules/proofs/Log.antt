@@ -58,6 +58,16 @@ starts-unfetched l happened =
     none [] = refl
     none (i ∷ l) = none l
 
+-- a number for each kind of event, by which those of two kinds differ
+unfoldable kind : Event → ℕ
+kind (started i) = 0
+kind (ended i) = 1
+kind fetched = 2
+kind (bounded m) = 3
+
+differ : {x y : Event} → (kind x ≡ kind y → ⊥) → x ≡ y → ⊥
+differ apart e = apart (ap kind e)
+
 -- where an event of a longer list stands: in the list before, or it is the new one
 pub data Where (old : List Event) (new : Event) (earlier : List Event) (x : Event) : Type 0 where
   last : earlier ≡ old → x ≡ new → Where old new earlier x
@@ -152,15 +162,10 @@ module _ (n : ℕ) (par : ℕ → ℕ) where
   -- the end of a running task
   pub ended-in-order :
       (old : List Event) (j : ℕ) → InOrder n par old → runs old j ≡ true → InOrder n par (old ++ (ended j ∷ []))
+  unfolding kind
   ended-in-order old j h running =
-      one-more old (ended j) h (λ i q. absurd (never i q)) (λ i q. absurd (never i q))
-      (λ i q. let same : i ≡ j = cc in rw same running) (λ q. absurd (no-fetch q))
-    where
-      never : (i : ℕ) → started i ≡ ended j → ⊥
-      never i q = let z : _≡_ {A = ℕ} 0 1 = cc in omega arith
-
-      no-fetch : fetched ≡ ended j → ⊥
-      no-fetch q = let z : _≡_ {A = ℕ} 0 1 = cc in omega arith
+      one-more old (ended j) h (λ i q. absurd (differ (λ e. omega arith) q)) (λ i q. absurd (differ (λ e. omega arith) q))
+      (λ i q. let same : i ≡ j = cc in rw same running) (λ q. absurd (differ (λ e. omega arith) q))
 
   -- the fetch, where all have ended
   pub fetched-in-order :
@@ -169,31 +174,18 @@ module _ (n : ℕ) (par : ℕ → ℕ) where
       → isFetched old ≡ false
       → length (ends old) ≡ n
       → InOrder n par (old ++ (fetched ∷ []))
+  unfolding kind
   fetched-in-order old h none all =
-      one-more old fetched h (λ i q. absurd (no-start i q)) (λ i q. absurd (no-start i q)) (λ i q. absurd (no-end i q))
-      (λ _. (none, all))
-    where
-      no-start : (i : ℕ) → started i ≡ fetched → ⊥
-      no-start i q = let z : _≡_ {A = ℕ} 0 1 = cc in omega arith
-
-      no-end : (i : ℕ) → ended i ≡ fetched → ⊥
-      no-end i q = let z : _≡_ {A = ℕ} 0 1 = cc in omega arith
+      one-more old fetched h (λ i q. absurd (differ (λ e. omega arith) q)) (λ i q. absurd (differ (λ e. omega arith) q))
+      (λ i q. absurd (differ (λ e. omega arith) q)) (λ _. (none, all))
 
   -- another bound
   pub bounded-in-order :
       (old : List Event) (bound : ℕ) → InOrder n par old → InOrder n par (old ++ (bounded bound ∷ []))
+  unfolding kind
   bounded-in-order old bound h =
-      one-more old (bounded bound) h (λ i q. absurd (no-start i q)) (λ i q. absurd (no-start i q)) (λ i q. absurd (no-end i q))
-      (λ q. absurd (no-fetch q))
-    where
-      no-start : (i : ℕ) → started i ≡ bounded bound → ⊥
-      no-start i q = let z : _≡_ {A = ℕ} 0 1 = cc in omega arith
-
-      no-end : (i : ℕ) → ended i ≡ bounded bound → ⊥
-      no-end i q = let z : _≡_ {A = ℕ} 0 1 = cc in omega arith
-
-      no-fetch : fetched ≡ bounded bound → ⊥
-      no-fetch q = let z : _≡_ {A = ℕ} 0 1 = cc in omega arith
+      one-more old (bounded bound) h (λ i q. absurd (differ (λ e. omega arith) q)) (λ i q. absurd (differ (λ e. omega arith) q))
+      (λ i q. absurd (differ (λ e. omega arith) q)) (λ q. absurd (differ (λ e. omega arith) q))
 
   -- a start comes once, and after those that feed it
   started-in-order :
@@ -202,15 +194,11 @@ module _ (n : ℕ) (par : ℕ → ℕ) where
       → mem x (starts old) ≡ false
       → ((c : ℕ) → Task n c → par c ≡ x → mem c (ends old) ≡ true)
       → InOrder n par (old ++ (started x ∷ []))
+  unfolding kind
   started-in-order old x h new ready =
       one-more old (started x) h (λ i q. let same : i ≡ x = cc in rw same new)
-      (λ i q c t r. let same : i ≡ x = cc in ready c t (r ∙ same)) (λ i q. absurd (never i q)) (λ q. absurd (no-fetch q))
-    where
-      never : (i : ℕ) → ended i ≡ started x → ⊥
-      never i q = let z : _≡_ {A = ℕ} 0 1 = cc in omega arith
-
-      no-fetch : fetched ≡ started x → ⊥
-      no-fetch q = let z : _≡_ {A = ℕ} 0 1 = cc in omega arith
+      (λ i q c t r. let same : i ≡ x = cc in ready c t (r ∙ same)) (λ i q. absurd (differ (λ e. omega arith) q))
+      (λ q. absurd (differ (λ e. omega arith) q))
 
 -- what happened agrees with the standings
 pub record Logged (n : ℕ) (st : ℕ → ℕ) (happened : List Event) : Type 0 where

@@ -45,7 +45,7 @@ use Rattle.rules.specs.Marked.{
   writtenAfter,
   writtenA,
   cleanedA,
-  alone,
+  oneProcessorA,
   narrow,
   bounds,
   same,
@@ -129,7 +129,7 @@ unfolding
     writtenAfter
     writtenA
     cleanedA
-    alone
+    oneProcessorA
     narrow
     bounds
     same

@@ -365,8 +365,8 @@ unfoldable pub cleanedA : List Command
 cleanedA = begunA 7 ++ (places 12 ∷ done 1 ∷ done 2 ∷ done 3 ∷ fetch ∷ [])
 
 -- plan A with one station and M = 12: all three steps are booked, and one runs
-unfoldable pub alone : List Command
-alone = plan 3 1 12 ∷ drop 1 (begunA 12)
+unfoldable pub oneProcessorA : List Command
+oneProcessorA = plan 3 1 12 ∷ drop 1 (begunA 12)
 
 -- three steps of one tray each and their root, two stations and one place: one runs, and nobody else is booked
 unfoldable pub narrow : List Command
@@ -384,7 +384,7 @@ bounds =
     ∷ record { given = told (asks (begunA 12)) (ask (places 11)); stated = refusal 13 }
     ∷ record { given = told (asks (begunA 12)) (ask (places 12)); stated = 0 ∷ 5 ∷ 0 ∷ 0 ∷ 0 ∷ 0 ∷ [] }
     -- 13 is told by the booked trays: of these 12, 6 are in use
-    ∷ record { given = told (asks alone) (ask (places 11)); stated = refusal 13 }
+    ∷ record { given = told (asks oneProcessorA) (ask (places 11)); stated = refusal 13 }
     -- a refused one leaves the bound: of 24 places 12 are booked
     ∷ record { given = inRoom (after none (asks (begunA 24 ++ (places 6 ∷ places 11 ∷ [])))); stated = 3 ∷ 12 ∷ 12 ∷ 500 ∷ 0 ∷ 1 ∷ 2 ∷ 0 ∷ [] }
     -- "then booking ahead and starting follow and the starts are answered as for DONE, with no offers": A at 7 with 08 of 12 starts 2 at
