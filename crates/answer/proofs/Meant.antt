@@ -9,23 +9,26 @@ use lib.Dec.{leb}
 use lib.ListN.{length, take, set, length-take, List·getD-eq-default}
 use lib.Seq.{length-take-le, getD-take, take-suc-set}
 use borrow.Author.Tests.{le-leb}
+use Rattle.rules.specs.Kind.{Kind, chilled}
 use Rattle.rules.specs.Lists.{at}
 use Rattle.rules.specs.Need.{need}
 use Rattle.rules.specs.Phase
 use Rattle.rules.specs.State.{needs}
-use Rattle.rules.specs.Obey.{booksOf}
+use Rattle.rules.specs.Booking.{Terms}
+use Rattle.rules.specs.Obey.{booksOf, termsOf}
 use Rattle.rules.specs.Reachable.{Reachable}
-use Rattle.rules.specs.Invariant.{Valid, Roomy}
+use Rattle.rules.specs.Invariant.{Valid, rankIn, Roomy, Good}
 use Rattle.rules.proofs.Tests.{le-or-lt}
 use Rattle.rules.proofs.Sums.{only-true}
 use Rattle.rules.proofs.InDay.{Going, still-going, needs-roomy}
 use Rattle.rules.proofs.Reaching.{lives}
 use Rattle.words.specs.Contents.{Contents}
 use Rattle.words.proofs.Contents.{Lengths}
-use Rattle.store.specs.Rows.{rowsOf, books, activationOf}
+use Rattle.store.specs.Rows.{rowsOf, books, termsIn, activationOf}
 use Rattle.store.specs.Cached.{Cached}
 use Rattle.store.specs.Kept.{Kept}
 use Rattle.store.proofs.Rows.{rows-is}
+use Rattle.store.proofs.InStore.{by-kind}
 use Rattle.answer.specs.Meaning.{dayRows, meaning}
 use Rattle.answer.specs.Sound.{Unused, Sound}
 
@@ -50,21 +53,21 @@ module _ (c : Contents) (sound : Sound c) where
   pub parents-meant : at (meaning c .parents) ≡ at (c .parents)
   parents-meant = given-is (c .given) (c .parents) (sound .parents)
 
-  pub works-meant : at (meaning c .chilled .works) ≡ at (c .chilled .works)
-  works-meant = given-is (c .given) (c .chilled .works) (sound .works)
+  pub works-meant : at (meaning c .stores .chilled .works) ≡ at (c .stores .chilled .works)
+  works-meant = given-is (c .given) (c .stores .chilled .works) (sound .works)
 
-  pub outs-meant : at (meaning c .chilled .outs) ≡ at (c .chilled .outs)
-  outs-meant = given-is (c .given) (c .chilled .outs) (sound .outs)
+  pub outs-meant : at (meaning c .stores .chilled .outs) ≡ at (c .stores .chilled .outs)
+  outs-meant = given-is (c .given) (c .stores .chilled .outs) (sound .outs)
 
   -- the needs, by the columns
   pub needs-columns :
-      needs (meaning c) ≡ need (c .size) (at (c .parents)) (at (c .chilled .works)) (at (c .chilled .outs))
+      needs (meaning c) ≡ need (c .size) (at (c .parents)) (at (c .stores .chilled .works)) (at (c .stores .chilled .outs))
   needs-columns = rw (parents-meant, works-meant, outs-meant)
 
   -- every parent is a task or nobody
   pub parents-small : Reachable (meaning c) → (i : ℕ) → at (c .parents) i ≤ c .size
   parents-small reached =
-      subst (λ (f : ℕ → ℕ). (i : ℕ) → f i ≤ c .size) parents-meant (lives reached .formed .parents)
+      subst (λ (f : ℕ → ℕ). (i : ℕ) → f i ≤ c .size) parents-meant (lives reached .formed .given .parents .limited)
 
 -- how many entries the two orders have
 module _ (c : Contents) (sound : Sound c) (long : Lengths c) where
@@ -87,8 +90,8 @@ module _ (c : Contents) (sound : Sound c) (day : Phase.running ≤ c .phase) whe
   pub standings-rows : meaning c .standings ≡ rowsOf (c .size) (c .standings)
   standings-rows = ap (λ (r : ℕ). take r (c .standings)) (day-rows c day)
 
-  pub booked-rows : meaning c .chilled .booked ≡ rowsOf (c .size) (c .chilled .booked)
-  booked-rows = ap (λ (r : ℕ). take r (c .chilled .booked)) (day-rows c day)
+  pub booked-rows : meaning c .stores .chilled .booked ≡ rowsOf (c .size) (c .stores .chilled .booked)
+  booked-rows = ap (λ (r : ℕ). take r (c .stores .chilled .booked)) (day-rows c day)
 
   pub books-rows : booksOf (meaning c) ≡ books c
   books-rows = rw (day-rows c day)
@@ -120,8 +123,15 @@ module _ (c : Contents) (sound : Sound c) (now : c .phase ≡ Phase.running) whe
   standings-meant = ap at (standings-rows c sound in-running) ∙ rows-is (c .size) (c .standings) (cached-now .standings-zero)
 
   -- the needs are those that were weighed
-  pub needs-meant : needs (meaning c) ≡ at (c .chilled .needs)
-  needs-meant = needs-columns c sound ∙ sym (fun-ext (cached-now .store .needed))
+  pub needs-meant : needs (meaning c) ≡ at (c .stores .chilled .needs)
+  needs-meant = needs-columns c sound ∙ sym (fun-ext (cached-now .stores chilled .needed))
+
+  -- what booking finds of each store is what its columns have
+  pub terms-meant : termsOf (meaning c) ≡ termsIn c
+  terms-meant =
+      fun-ext
+      (by-kind (λ k. termsOf (meaning c) k ≡ termsIn c k)
+      (λ i. record { bound = c .stores .chilled .bound; need = needs-meant i; out = outs-meant c sound i }))
 
 -- a running plan that commands led to
 module _ (c : Contents) (reached : Reachable (meaning c)) (sound : Sound c) (now : c .phase ≡ Phase.running) where
@@ -139,23 +149,20 @@ module _ (c : Contents) (reached : Reachable (meaning c)) (sound : Sound c) (now
         invariant =
             record {
               small = sound .small;
-              bounded = sound .bounded;
+              bounded = by-kind _ (sound .bounded);
               valid = order-valid c reached sound day;
               parents = parents-small c sound reached;
               roomy =
-                  subst (λ (par : ℕ → ℕ). Roomy (c .size) par (at (c .chilled .needs)) (at (c .chilled .outs))) (parents-meant c sound)
-                  (subst (λ (f : ℕ → ℕ). Roomy (c .size) (at (meaning c .parents)) f (at (c .chilled .outs)))
+                  by-kind _
+                  (subst (λ (par : ℕ → ℕ). Roomy (c .size) par (at (c .stores .chilled .needs)) (at (c .stores .chilled .outs)))
+                  (parents-meant c sound)
+                  (subst (λ (f : ℕ → ℕ). Roomy (c .size) (at (meaning c .parents)) f (at (c .stores .chilled .outs)))
                   (needs-meant c sound now)
                   (subst (λ (out : ℕ → ℕ). Roomy (c .size) (at (meaning c .parents)) (needs (meaning c)) out) (outs-meant c sound)
-                  (needs-roomy (meaning c) (meaning c .chilled))));
+                  (needs-roomy (meaning c) (meaning c .stores .chilled)))));
               good =
-                  rw (
-                    needs-meant c sound now,
-                    parents-meant c sound,
-                    activation-meant c sound day,
-                    outs-meant c sound,
-                    books-rows c sound day,
-                  ) at (going .settled .good);
+                  subst (λ (e : Kind → Terms). Good (c .size) (at (c .parents)) (rankIn (activationOf c)) e (books c)) (terms-meant c sound now)
+                  (rw (parents-meant c sound, activation-meant c sound day, books-rows c sound day) at (going .settled .good));
             };
         cached = cached-now c sound now;
       }

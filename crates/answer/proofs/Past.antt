@@ -6,6 +6,7 @@ use Prim.Native.Nat.{ℕ, suc, _≤_, _<_}
 use native.Mathlib.Omega.{arith}
 use lib.Dec.{eqb}
 use borrow.Author.Tests.{ne-eqb}
+use Rattle.rules.specs.Kind.{chilled}
 use Rattle.rules.specs.Sums.{only}
 use Rattle.rules.specs.Lists.{at}
 use Rattle.rules.specs.Need.{need, children}
@@ -50,13 +51,13 @@ module _ (c : Contents) (sound : Sound c) (reached : Reachable (meaning c)) wher
         standings = k .standings-zero;
         needs =
             λ a past.
-            let needed = k .store .needed a in
+            let needed = k .stores chilled .needed a in
             let none =
-            no-children (c .size) (at (c .parents)) (at (c .chilled .outs)) a (parents-small c sound reached) past
+            no-children (c .size) (at (c .parents)) (at (c .stores .chilled .outs)) a (parents-small c sound reached) past
             in
-            let work = unused-past (c .chilled .works) (sound .works) a past in
-            let out = unused-past (c .chilled .outs) (sound .outs) a past in
+            let work = unused-past (c .stores .chilled .works) (sound .works) a past in
+            let out = unused-past (c .stores .chilled .outs) (sound .outs) a past in
             omega arith;
-        booked = k .store .booked-zero;
-        figures = k .store .figures-zero;
+        booked = k .stores chilled .booked-zero;
+        figures = k .stores chilled .figures-zero;
       }

@@ -3,6 +3,7 @@ use mathlib.Core.List.{List}
 use Prim.Native.Nat.{ℕ, suc}
 use lib.Dec.{leb}
 use lib.ListN.{take}
+use Rattle.rules.specs.Kind.{of, each}
 use Rattle.rules.specs.Sums.{only}
 use Rattle.rules.specs.Phase
 use Rattle.rules.specs.State.{State}
@@ -27,13 +28,15 @@ meaning c =
       activation = take (c .ranked) (c .activation);
       execution = take (c .placed) (c .execution);
       standings = take (dayRows c) (c .standings);
-      chilled =
+      stores =
+          each
+          (λ k.
           record {
-            bound = c .chilled .bound;
-            works = take (c .given) (c .chilled .works);
-            outs = take (c .given) (c .chilled .outs);
-            booked = take (dayRows c) (c .chilled .booked);
-          };
+            bound = of (c .stores) k .bound;
+            works = take (c .given) (of (c .stores) k .works);
+            outs = take (c .given) (of (c .stores) k .outs);
+            booked = take (dayRows c) (of (c .stores) k .booked);
+          });
     }
 
 -- the plan in some words
@@ -46,7 +49,7 @@ answerOf a =
       number = a .number;
       used = a .used;
       starts = a .starts;
-      peak = record { trays = a .peak; task = a .by };
+      peaks = each (λ _. record { trays = a .peak; task = a .by });
       offers = a .offers;
     }
 

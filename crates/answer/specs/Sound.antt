@@ -33,17 +33,17 @@ pub record Noted (size count : ℕ) (order places : List ℕ) : Type 0 where
 pub record DayPast (n : ℕ) (c : Contents) : Type 0 where
   pub unended : ZeroPast n (c .unended)
   pub standings : ZeroPast n (c .standings)
-  pub needs : ZeroPast n (c .chilled .needs)
-  pub booked : ZeroPast n (c .chilled .booked)
-  pub figures : ZeroPast n (c .chilled .figures)
+  pub needs : ZeroPast n (c .stores .chilled .needs)
+  pub booked : ZeroPast n (c .stores .chilled .booked)
+  pub figures : ZeroPast n (c .stores .chilled .figures)
 
 -- what is kept once all have ended: how many, and what is booked, which is all that is in use
 pub record Closed (c : Contents) : Type 0 where
   pub next : c .next ≡ c .size
   pub active : c .active ≡ 0
   pub ended : c .ended ≡ c .size
-  pub totals : c .chilled .total ≡ total (c .size) (at (books c .booked))
-  pub uses : c .chilled .used ≡ c .chilled .total
+  pub totals : c .stores .chilled .total ≡ total (c .size) (at (books c .booked .chilled))
+  pub uses : c .stores .chilled .used ≡ c .stores .chilled .total
   pub past : DayPast (c .size) c
 
 -- what is kept of a day: all its figures while it runs
@@ -58,11 +58,11 @@ pub record Sound (c : Contents) : Type 0 where
   pub named : c .phase ≤ Phase.ready
   pub small : c .size ≤ maxTasks
   pub few : c .processors ≤ maxProcessors
-  pub bounded : c .chilled .bound < 2 ^ 32
-  pub light : (i : ℕ) → (at (c .chilled .works) i ≤ maxCount) × (at (c .chilled .outs) i ≤ maxCount)
+  pub bounded : c .stores .chilled .bound < 2 ^ 32
+  pub light : (i : ℕ) → (at (c .stores .chilled .works) i ≤ maxCount) × (at (c .stores .chilled .outs) i ≤ maxCount)
   pub parents : Unused (c .given) (c .parents)
-  pub works : Unused (c .given) (c .chilled .works)
-  pub outs : Unused (c .given) (c .chilled .outs)
+  pub works : Unused (c .given) (c .stores .chilled .works)
+  pub outs : Unused (c .given) (c .stores .chilled .outs)
   pub given : Given c
   pub activation : Noted (c .size) (c .ranked) (c .activation) (c .ranks)
   pub execution : Noted (c .size) (c .placed) (c .execution) (c .places)

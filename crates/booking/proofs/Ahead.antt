@@ -13,16 +13,16 @@ use Rattle.rules.specs.Booking.{Books, activate}
 use Rattle.rules.proofs.Branches.{activate-book, activate-stop, passes-all}
 use Rattle.words.specs.Contents.{Contents}
 use Rattle.words.proofs.Contents.{Lengths}
-use Rattle.store.specs.Rows.{books, activationOf}
+use Rattle.store.specs.Rows.{books, termsIn, activationOf}
 use Rattle.store.specs.Kept.{Kept, SamePlan}
-use Rattle.store.proofs.Same.{same-refl, same-trans}
+use Rattle.store.proofs.Same.{same-refl, same-trans, terms-same}
 use Rattle.booking.specs.Booked.{allowsNext, NextBooked, BookedAhead}
 use Rattle.booking.proofs.Turn.{rest, waits}
 use Rattle.booking.proofs.Booking.{turn, nextTask}
 
 -- booking ahead of the plan c along some of its order
 abbrev pub along : Contents → List ℕ → Books → Books
-along c order k = activate (c .size) (at (c .parents)) (at (c .chilled .needs)) (c .chilled .bound) order k
+along c order k = activate (c .size) (at (c .parents)) (termsIn c) order k
 
 -- between two turns; c₀ is the plan before the first
 pub record Ahead (c₀ c : Contents) (next : ℕ) : Type 0 where
@@ -38,7 +38,7 @@ ahead-first {c} {next} kept here =
       same = same-refl c;
       here = here;
       coming =
-          passes-all (c .size) (at (c .parents)) (at (c .chilled .needs)) (c .chilled .bound) (activationOf c) next (books c)
+          passes-all (c .size) (at (c .parents)) (termsIn c) (activationOf c) next (books c)
           (λ e h. kept .cached .reached .before-next e (omega arith));
     }
 
@@ -75,7 +75,7 @@ module _ {c₀ c : Contents} {next : ℕ} (ahead : Ahead c₀ c next) where
     ahead-stop over =
         ends
         (goes
-        ∙ activate-stop (c .size) (at (c .parents)) (at (c .chilled .needs)) (c .chilled .bound) (nextTask c)
+        ∙ activate-stop (c .size) (at (c .parents)) (termsIn c) (nextTask c)
         (drop (suc (c .next)) (activationOf c)) (books c)
         (eq-eqb (at (books c .standings) (nextTask c)) waiting (waits (turn (ahead .kept) sizes low))) over)
 
@@ -89,13 +89,13 @@ module _ {c₀ c : Contents} {next : ℕ} (ahead : Ahead c₀ c next) where
           here = (let e = ahead .here in let o = booked .onward in omega arith);
           coming =
               goes
-              ∙ activate-book (c .size) (at (c .parents)) (at (c .chilled .needs)) (c .chilled .bound) (nextTask c)
+              ∙ activate-book (c .size) (at (c .parents)) (termsIn c) (nextTask c)
               (drop (suc (c .next)) (activationOf c)) (books c)
               (eq-eqb (at (books c .standings) (nextTask c)) waiting (waits (turn (ahead .kept) sizes low))) fits
               ∙ ap₂ (λ (m : ℕ) (k : Books). along c (drop m (activationOf c)) k)
               (let e = ahead .here in let f : suc (c .next) ≡ next + 1 = omega arith in f) (sym (booked .books))
               ∙ sym
               (λ z.
-              activate (s .size z) (at (s .parents z)) (at (s .needs z)) (s .bound z)
+              activate (s .size z) (at (s .parents z)) (terms-same s z)
               (drop (next + 1) (take (s .size z) (s .activation z))) (books c′));
         }

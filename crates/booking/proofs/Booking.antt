@@ -7,18 +7,23 @@ use native.Mathlib.Omega.{arith}
 use lib.ListN.{set}
 use lib.Dec.{eqb, leb}
 use lib.Seq.{getD-take}
+use Rattle.rules.specs.Kind.{Kind, of, all}
+use Rattle.rules.specs.Kind
 use Rattle.rules.specs.Lists.{at}
 use Rattle.rules.specs.Standing.{activated, running, finished, count}
-use Rattle.words.specs.Layout.{words, chilled, standing, next, activationBase, entries}
-use Rattle.words.specs.Contents.{Contents, contents, withCell, storeWithCell, withHead, storeWithHead, withReady}
+use Rattle.words.specs.Layout.{words, chilled, offset, standing, next, activationBase, entries}
+use Rattle.words.specs.Contents.{StoreContents, Contents, contents, withCell, storeWithCell, withHead, storeWithHead, withReady}
 use Rattle.words.specs.Marks.{Marks, changed}
 use Rattle.words.proofs.Views.{part-at}
 use Rattle.words.proofs.Contents.{Lengths}
-use Rattle.store.specs.Rows.{books, activationOf, executionOf}
-use Rattle.store.specs.Cached.{isReadyAt}
+use Rattle.store.specs.Rows.{rowsOf, books, termsIn, activationOf, executionOf}
+use Rattle.store.specs.Cached.{isReadyAt, StoreCached}
 use Rattle.store.specs.Store.{withStore, withHoldings, granted, AtTask, MayGrant}
-use Rattle.store.specs.Kept.{Kept, SamePlan}
+use Rattle.store.specs.Kept.{DayInvariant, Kept, SamePlan}
+use Rattle.rules.specs.Booking.{Terms, bookedIn}
 use Rattle.store.proofs.Rows.{zero-set}
+use Rattle.store.proofs.Same.{terms-same}
+use Rattle.store.proofs.InStore.{by-kind, cached-in}
 use Rattle.store.proofs.Entries.{grown-zero}
 use Rattle.store.proofs.Ready.{place-in, ready-at, ready-changed}
 use Rattle.store.proofs.Idle.{count-same, used-same}
@@ -49,11 +54,19 @@ use Rattle.booking.proofs.Turn.{
 abbrev pub nextTask : Contents → ℕ
 nextTask c = at (activationOf c) (c .next)
 
-abbrev pub lacking : Contents → ℕ
-lacking c = at (c .chilled .needs) (nextTask c) - at (c .chilled .figures) (nextTask c)
+abbrev pub lacking : Contents → Kind → ℕ
+lacking c k = at (of (c .stores) k .needs) (nextTask c) - at (of (c .stores) k .figures) (nextTask c)
+
+-- a store that gives it what it misses there, and the plan once it has
+abbrev pub grantedIn : Contents → Kind → StoreContents
+grantedIn c k = granted (at (c .parents) (nextTask c)) (nextTask c) (lacking c k) (of (c .stores) k)
 
 abbrev pub grantedNext : Contents → Contents
-grantedNext c = withStore (granted (at (c .parents) (nextTask c)) (nextTask c) (lacking c) (c .chilled)) c
+grantedNext c = withStore Kind.chilled (grantedIn c Kind.chilled) c
+
+-- there is room in a store
+abbrev pub roomIn : Contents → Kind → Bool
+roomIn c k = leb (of (c .stores) k .total + lacking c k) (of (c .stores) k .bound)
 
 -- with the ready set and the word that says which of its words are not 0, the plan once the next task is booked
 unfoldable pub bookedNext : List ℕ → ℕ → Contents → Contents
@@ -62,37 +75,37 @@ bookedNext set filled c =
 
 module _ {c : Contents} (kept : Kept c) (sizes : Lengths c) (more : c .next < c .size) where
   pub turn :
-      Turn (c .size) (c .chilled .bound) (at (c .parents)) (at (c .chilled .needs)) (at (c .chilled .outs)) (activationOf c) (c .unended)
-      (c .chilled .booked) (c .chilled .figures) (c .standings) (c .next) (c .chilled .total)
+      Turn (c .size) (at (c .parents)) (termsIn c) (activationOf c) (c .unended) (c .standings) (λ k. of (c .stores) k .booked)
+      (λ k. of (c .stores) k .figures) (c .next) (λ k. of (c .stores) k .total)
   turn =
       record {
         invariant = kept .invariant;
-        figured = kept .cached .store .figured;
+        figured = λ k. cached-in kept k .figured;
         counted = kept .cached .counted;
         reached = kept .cached .reached;
-        totals = kept .cached .store .totals;
+        totals = λ k. cached-in kept k .totals;
         standings-long = sizes .standings;
         booked-long = sizes .booked;
         figures-long = sizes .figures;
         more = more;
       }
 
-  pub next-in : AtTask chilled (nextTask c) c
-  next-in = record { long = kept .cached .long; offset = refl; task-in = task-in turn }
+  pub next-in : (k : Kind) → AtTask (offset k) (nextTask c) c
+  next-in Kind.chilled = record { long = kept .cached .long; offset = refl; inside = omega arith; task-in = task-in turn }
 
-  pub tested : leb (c .chilled .total + lacking c) (c .chilled .bound) ≡ allowsNext c
+  pub tested : all (roomIn c) ≡ allowsNext c
   tested = allowed-is turn
 
-  module _ (fits : leb (c .chilled .total + lacking c) (c .chilled .bound) ≡ true) where
-    pub may-grant : MayGrant chilled (nextTask c) (lacking c) c
+  module _ (fits : all (roomIn c) ≡ true) where
+    pub may-grant : MayGrant chilled (nextTask c) (lacking c Kind.chilled) c
     may-grant =
         record {
-          at-task = next-in;
+          at-task = next-in Kind.chilled;
           parent-in = parent-in turn;
-          total-fits = total-fits turn fits;
-          booked-fits = booked-fits turn fits;
-          figure-fits = figure-fits turn fits;
-          parent-fits = parent-fits turn fits;
+          total-fits = total-fits turn fits Kind.chilled;
+          booked-fits = booked-fits turn fits Kind.chilled;
+          figure-fits = figure-fits turn fits Kind.chilled;
+          parent-fits = parent-fits turn fits Kind.chilled;
         }
 
     -- the ready set has not the task, and is the one of the rules once it has it
@@ -148,45 +161,39 @@ module _ {c : Contents} (kept : Kept c) (sizes : Lengths c) (more : c .next < c 
       unfolding bookedNext withHead storeWithHead withReady withCell storeWithCell withStore withHoldings granted
       count-then = count-same (c .size) (at (books c .standings)) (at (books then .standings)) (idle turn fits)
 
-      kept-then : Kept then
+      -- what is kept of each store
+      store-in :
+          (k : Kind)
+          → StoreCached (c .size) (at (c .parents)) (at (books then .standings))
+          (rowsOf (c .size) (set (of (c .stores) k .booked) (nextTask c) (at (of (c .stores) k .booked) (nextTask c) + lacking c k))) (grantedIn c k)
       unfolding bookedNext withHead storeWithHead withReady withCell storeWithCell withStore withHoldings granted
-      kept-then =
-          let k = kept .cached in
+      store-in k =
+          let s = kept .cached .stores k in
           let x = nextTask c in
           record {
-            invariant = invariant-then turn fits;
-            cached =
-                record {
-                  long = k .long;
-                  counted = counted-then turn fits;
-                  marks = marks-then;
-                  reached = reached-then turn fits;
-                  runs = k .runs ∙ sym (count-then running (omega arith));
-                  ends = k .ends ∙ sym (count-then finished (omega arith));
-                  placed = k .placed;
-                  standings-zero = zero-set (c .size) (c .standings) x activated (task turn .high) (k .standings-zero);
-                  unended-zero = k .unended-zero;
-                  store =
-                      record {
-                        needed = k .store .needed;
-                        figured = figured-then turn fits;
-                        totals = totals-then turn fits;
-                        uses =
-                            k .store .uses
-                            ∙ sym
-                            (used-same (c .size) (at (books c .standings)) (at (books then .standings)) (idle turn fits) (at (c .parents))
-                            (at (c .chilled .works)) (at (c .chilled .outs)) (λ i _. kept .invariant .parents i));
-                        booked-zero =
-                            zero-set (c .size) (c .chilled .booked) x (at (c .chilled .booked) x + lacking c) (task turn .high)
-                            (k .store .booked-zero);
-                        figures-zero =
-                            grown-zero (c .size) (set (c .chilled .figures) x (at (c .chilled .figures) x + lacking c)) (at (c .parents) x)
-                            (at (c .chilled .figures) x + lacking c) (kept .invariant .parents x)
-                            (zero-set (c .size) (c .chilled .figures) x (at (c .chilled .figures) x + lacking c) (task turn .high)
-                            (k .store .figures-zero));
-                      };
-                };
+            needed = s .needed;
+            figured = figured-then turn fits k;
+            totals = totals-then turn fits k;
+            uses =
+                s .uses
+                ∙ sym
+                (used-same (c .size) (at (books c .standings)) (at (books then .standings)) (idle turn fits) (at (c .parents))
+                (at (of (c .stores) k .works)) (at (of (c .stores) k .outs)) (λ i _. kept .invariant .parents i));
+            booked-zero =
+                zero-set (c .size) (of (c .stores) k .booked) x (at (of (c .stores) k .booked) x + lacking c k) (task turn .high)
+                (s .booked-zero);
+            figures-zero =
+                grown-zero (c .size) (set (of (c .stores) k .figures) x (at (of (c .stores) k .figures) x + lacking c k)) (at (c .parents) x)
+                (at (of (c .stores) k .figures) x + lacking c k) (kept .invariant .parents x)
+                (zero-set (c .size) (of (c .stores) k .figures) x (at (of (c .stores) k .figures) x + lacking c k) (task turn .high)
+                (s .figures-zero));
           }
+
+      store-then :
+          (k : Kind)
+          → StoreCached (then .size) (at (then .parents)) (at (books then .standings)) (bookedIn (books then) k) (of (then .stores) k)
+      unfolding bookedNext withHead storeWithHead withReady withCell storeWithCell withStore withHoldings granted
+      store-then Kind.chilled = store-in Kind.chilled
 
       same-then : SamePlan c then
       unfolding bookedNext withHead storeWithHead withReady withCell storeWithCell withStore withHoldings granted
@@ -203,10 +210,39 @@ module _ {c : Contents} (kept : Kept c) (sizes : Lengths c) (more : c .next < c 
             places = refl;
             activation = refl;
             execution = refl;
-            bound = refl;
-            works = refl;
-            outs = refl;
-            needs = refl;
+            bound = by-kind _ refl;
+            works = by-kind _ refl;
+            outs = by-kind _ refl;
+            needs = by-kind _ refl;
+          }
+
+      -- the same books and terms
+      invariant-now : DayInvariant (then .size) (at (then .parents)) (termsIn then) (activationOf then) (books then)
+      unfolding bookedNext withHead storeWithHead withReady withCell storeWithCell withStore withHoldings granted
+      invariant-now =
+          subst (λ (e : Kind → Terms). DayInvariant (c .size) (at (c .parents)) e (activationOf c) (books then)) (sym (terms-same same-then))
+          (invariant-then turn fits)
+
+      kept-then : Kept then
+      unfolding bookedNext withHead storeWithHead withReady withCell storeWithCell withStore withHoldings granted
+      kept-then =
+          let k = kept .cached in
+          let x = nextTask c in
+          record {
+            invariant = invariant-now;
+            cached =
+                record {
+                  long = k .long;
+                  counted = counted-then turn fits;
+                  marks = marks-then;
+                  reached = reached-then turn fits;
+                  runs = k .runs ∙ sym (count-then running (omega arith));
+                  ends = k .ends ∙ sym (count-then finished (omega arith));
+                  placed = k .placed;
+                  standings-zero = zero-set (c .size) (c .standings) x activated (task turn .high) (k .standings-zero);
+                  unended-zero = k .unended-zero;
+                  stores = store-then;
+                };
           }
 
       booked-next : NextBooked c then

@@ -10,12 +10,14 @@ use lib.ListN.{length, take, drop, set, length-set, take-append-drop}
 use lib.Seq.{getD-set-same, drop-cons, getD-take, length-take-le}
 use borrow.Author.Tests.{eq-eqb, ne-eqb}
 use Rattle.rules.specs.Sums.{Task, only}
+use Rattle.rules.specs.Kind.{Kind, each, all}
 use Rattle.rules.specs.Lists.{at}
 use Rattle.rules.specs.Grounds.{within}
 use Rattle.rules.specs.Standing.{waiting, activated, finished}
-use Rattle.rules.specs.Booking.{Books, total, misses, allows, book, ready, fed}
-use Rattle.rules.specs.Invariant.{rankIn, Tree, FirstWaiting, Good}
+use Rattle.rules.specs.Booking.{Terms, Books, bookedIn, total, missing, misses, allowsIn, allows, book, ready, fed}
+use Rattle.rules.specs.Invariant.{rankIn, Tree, FirstWaiting, StockedBy, Good}
 use Rattle.rules.proofs.Tests.{same-or-not}
+use Rattle.rules.proofs.EachStore.{of-each, all-same, each-same}
 use Rattle.rules.proofs.Sums.{term-le, sum-change, only-true}
 use Rattle.rules.proofs.Orders.{within-task, every-mem, mem-at, place-lt, place-at, place-of}
 use Rattle.rules.proofs.Ranks.{tree-of, in-front}
@@ -36,25 +38,26 @@ use Rattle.store.proofs.Unended.{unended-same, fed-is, ready-same}
 use Rattle.store.proofs.Idle.{Idle}
 
 -- a task waits still: what is kept of the tasks, as lists
-pub record Turn (n bound : ℕ) (par need out : ℕ → ℕ) (order unended booked figures standings : List ℕ) (next sum : ℕ) : Type 0 where
-  pub invariant : DayInvariant n par need out order bound (booksIn n standings booked)
-  pub figured : Figured n par (booksIn n standings booked) figures
+pub record Turn (n : ℕ) (par : ℕ → ℕ) (terms : Kind → Terms) (order unended standings : List ℕ) (booked figures : Kind → List ℕ) (next : ℕ)
+    (sum : Kind → ℕ) : Type 0 where
+  pub invariant : DayInvariant n par terms order (booksIn n standings booked)
+  pub figured : (k : Kind) → Figured n par (at (rowsOf n standings)) (at (rowsOf n (booked k))) (figures k)
   pub counted : Counted n par (booksIn n standings booked) unended
   pub reached : Reached n order (booksIn n standings booked) next
-  pub totals : sum ≡ total n (at (rowsOf n booked))
+  pub totals : (k : Kind) → sum k ≡ total n (at (rowsOf n (booked k)))
   pub standings-long : length standings ≡ rows
-  pub booked-long : length booked ≡ rows
-  pub figures-long : length figures ≡ rows
+  pub booked-long : (k : Kind) → length (booked k) ≡ rows
+  pub figures-long : (k : Kind) → length (figures k) ≡ rows
   pub more : next < n
 
-module _ {n bound : ℕ} {par need out : ℕ → ℕ} {order unended booked figures standings : List ℕ} {next sum : ℕ}
-    (turn : Turn n bound par need out order unended booked figures standings next sum) where
+module _ {n : ℕ} {par : ℕ → ℕ} {terms : Kind → Terms} {order unended standings : List ℕ} {booked figures : Kind → List ℕ} {next : ℕ}
+    {sum : Kind → ℕ} (turn : Turn n par terms order unended standings booked figures next sum) where
   -- the task, and what it misses by its figure
   abbrev x : ℕ
   x = at order next
 
-  abbrev m : ℕ
-  m = need x - at figures x
+  abbrev m : Kind → ℕ
+  m k = terms k .need x - at (figures k) x
 
   in-order : next < length order
   in-order = let size = turn .invariant .valid .whole in let more = turn .more in omega arith
@@ -109,50 +112,59 @@ module _ {n bound : ℕ} {par need out : ℕ → ℕ} {order unended booked figu
       next-is-first .first c t
       (child-before n par (rankIn order) tree (at (rowsOf n standings)) (turn .invariant .good .shape) x c task t e)
 
+  -- a store as it is kept
+  stock : (k : Kind) → StockedBy n par (terms k) (at (rowsOf n standings)) (rowsOf n (booked k))
+  stock k = rw (of-each (λ d. rowsOf n (booked d)) k) at (turn .invariant .good .stock k)
+
   -- what it misses by the rules
-  pub misses-it : misses n par need (booksIn n standings booked) x ≡ m
+  pub misses-it : (k : Kind) → misses n par terms (booksIn n standings booked) k x ≡ m k
   unfolding misses
-  misses-it =
-      missing-is n par (rankIn order) tree need out (at (rowsOf n standings)) (at (rowsOf n booked))
-      (turn .invariant .good .shape) [] 0 (turn .invariant .good .stock .books) x task
-      ∙ ap (λ (v : ℕ). need x - v)
-      (sym (partial-figure n par (rankIn order) tree (at (rowsOf n standings)) (at (rowsOf n booked)) x task no-child-waits)
-      ∙ sym (turn .figured x task))
+  misses-it k =
+      ap (λ (b : List ℕ). missing n par (terms k .need) (at (rowsOf n standings)) (at b) x) (of-each (λ d. rowsOf n (booked d)) k)
+      ∙ missing-is n par (rankIn order) tree (terms k .need) (terms k .out) (at (rowsOf n standings)) (at (rowsOf n (booked k)))
+      (turn .invariant .good .shape) [] 0 (stock k .books) x task
+      ∙ ap (λ (v : ℕ). terms k .need x - v)
+      (sym (partial-figure n par (rankIn order) tree (at (rowsOf n standings)) (at (rowsOf n (booked k))) x task no-child-waits)
+      ∙ sym (turn .figured k x task))
 
   -- whether it may be booked
-  pub allowed-is : leb (sum + m) bound ≡ allows n par need bound (booksIn n standings booked) x
-  unfolding allows
-  allowed-is = ap₂ (λ (a b : ℕ). leb (a + b) bound) (turn .totals) (sym misses-it)
+  pub allowed-is : all (λ k. leb (sum k + m k) (terms k .bound)) ≡ allows n par terms (booksIn n standings booked) x
+  unfolding allows allowsIn
+  allowed-is =
+      all-same _ _
+      (λ k.
+      ap₂ (λ (a b : ℕ). leb (a + b) (terms k .bound))
+      (turn .totals k ∙ ap (λ (b : List ℕ). total n (at b)) (sym (of-each (λ d. rowsOf n (booked d)) k))) (sym (misses-it k)))
 
-  module _ (fits : leb (sum + m) bound ≡ true) where
+  module _ (fits : all (λ k. leb (sum k + m k) (terms k .bound)) ≡ true) where
     -- the columns once it is booked
     abbrev standings′ : List ℕ
     standings′ = set standings x activated
 
-    abbrev booked′ : List ℕ
-    booked′ = set booked x (at booked x + m)
+    abbrev booked′ : Kind → List ℕ
+    booked′ k = set (booked k) x (at (booked k) x + m k)
 
-    abbrev figures′ : List ℕ
-    figures′ = grown (set figures x (at figures x + m)) (par x) (at figures x + m)
+    abbrev figures′ : Kind → List ℕ
+    figures′ k = grown (set (figures k) x (at (figures k) x + m k)) (par x) (at (figures k) x + m k)
 
-    allowed : allows n par need bound (booksIn n standings booked) x ≡ true
+    allowed : allows n par terms (booksIn n standings booked) x ≡ true
     allowed = sym allowed-is ∙ fits
 
     -- the books of the rules are those of the columns
-    pub books-are : booksIn n standings′ booked′ ≡ book n par need (booksIn n standings booked) x
+    pub books-are : booksIn n standings′ booked′ ≡ book n par terms (booksIn n standings booked) x
     unfolding book
     books-are =
         let high = task .high in
-        λ i.
-        record {
-          standings = rows-set n standings x activated high i;
-          booked =
-              (rows-set n booked x (at booked x + m) high
-              ∙ ap₂ (λ (a b : ℕ). set (rowsOf n booked) x (a + b)) (sym (at-rows n booked x high)) (sym misses-it))
-              i;
-        }
+        let same : each (λ k. rowsOf n (booked′ k)) ≡ each (λ k. set (bookedIn (booksIn n standings booked) k) x (at (bookedIn (booksIn n standings booked) k) x + misses n par terms (booksIn n standings booked) k x)) =
+        each-same _ _
+        (λ k.
+        rows-set n (booked k) x (at (booked k) x + m k) high
+        ∙ ap₂ (λ (a b : ℕ). set (rowsOf n (booked k)) x (a + b)) (sym (at-rows n (booked k) x high)) (sym (misses-it k))
+        ∙ ap (λ (l : List ℕ). set l x (at l x + misses n par terms (booksIn n standings booked) k x)) (sym (of-each (λ d. rowsOf n (booked d)) k)))
+        in
+        λ i. record { standings = rows-set n standings x activated high i; booked = same i }
 
-    pub invariant-then : DayInvariant n par need out order bound (booksIn n standings′ booked′)
+    pub invariant-then : DayInvariant n par terms order (booksIn n standings′ booked′)
     invariant-then =
         let g = turn .invariant in
         record {
@@ -162,10 +174,12 @@ module _ {n bound : ℕ} {par need out : ℕ → ℕ} {order unended booked figu
           parents = g .parents;
           roomy = g .roomy;
           good =
-              subst (λ (k : Books). Good n par (rankIn order) need out bound k) (sym books-are)
-              (book-good n par order (g .valid) tree need out (g .roomy) bound (booksIn n standings booked) x (g .good) next-is-first
-              allowed);
+              subst (λ (b : Books). Good n par (rankIn order) terms b) (sym books-are)
+              (book-good n par order (g .valid) tree terms (g .roomy) (booksIn n standings booked) x (g .good) next-is-first allowed);
         }
+
+    pub stock-then : (k : Kind) → StockedBy n par (terms k) (at (rowsOf n standings′)) (rowsOf n (booked′ k))
+    stock-then k = rw (of-each (λ d. rowsOf n (booked′ d)) k) at (invariant-then .good .stock k)
 
     -- the standings
     moved : Moved n (at (rowsOf n standings)) (at (rowsOf n standings′)) x activated
@@ -211,45 +225,45 @@ module _ {n bound : ℕ} {par need out : ℕ → ℕ} {order unended booked figu
     ready-others i t d = ready-same n par (rowsOf n standings) (rowsOf n standings′) i ended-same (moved .elsewhere i t d)
 
     -- the booked trays
-    gets : Moved n (at (rowsOf n booked)) (at (rowsOf n booked′)) x (at (rowsOf n booked) x + m)
-    gets =
-        let same : rowsOf n booked′ ≡ set (rowsOf n booked) x (at (rowsOf n booked) x + m) =
-        rows-set n booked x (at booked x + m) (task .high)
-        ∙ ap (λ (v : ℕ). set (rowsOf n booked) x (v + m)) (sym (at-rows n booked x (task .high)))
+    gets : (k : Kind) → Moved n (at (rowsOf n (booked k))) (at (rowsOf n (booked′ k))) x (at (rowsOf n (booked k)) x + m k)
+    gets k =
+        let same : rowsOf n (booked′ k) ≡ set (rowsOf n (booked k)) x (at (rowsOf n (booked k)) x + m k) =
+        rows-set n (booked k) x (at (booked k) x + m k) (task .high)
+        ∙ ap (λ (v : ℕ). set (rowsOf n (booked k)) x (v + m k)) (sym (at-rows n (booked k) x (task .high)))
         in
-        subst (λ (l : List ℕ). Moved n (at (rowsOf n booked)) (at l) x (at (rowsOf n booked) x + m)) (sym same)
-        (moved-by-set n (rowsOf n booked) x (at (rowsOf n booked) x + m)
-        (rows-length n booked (let z = turn .booked-long in let s = turn .invariant .small in omega arith)) task)
+        subst (λ (l : List ℕ). Moved n (at (rowsOf n (booked k))) (at l) x (at (rowsOf n (booked k)) x + m k)) (sym same)
+        (moved-by-set n (rowsOf n (booked k)) x (at (rowsOf n (booked k)) x + m k)
+        (rows-length n (booked k) (let z = turn .booked-long k in let s = turn .invariant .small in omega arith)) task)
 
-    pub totals-then : sum + m ≡ total n (at (rowsOf n booked′))
+    pub totals-then : (k : Kind) → sum k + m k ≡ total n (at (rowsOf n (booked′ k)))
     unfolding total
-    totals-then =
-        let all = turn .totals in
-        let same = sum-change (at (rowsOf n booked)) (at (rowsOf n booked′)) n x m task (gets .there) (gets .elsewhere) in
+    totals-then k =
+        let all = turn .totals k in
+        let same = sum-change (at (rowsOf n (booked k))) (at (rowsOf n (booked′ k))) n x (m k) task (gets k .there) (gets k .elsewhere) in
         omega arith
 
     -- the figures
-    long : length (set figures x (at figures x + m)) ≡ rows
-    long = length-set figures x (at figures x + m) ∙ turn .figures-long
+    long : (k : Kind) → length (set (figures k) x (at (figures k) x + m k)) ≡ rows
+    long k = length-set (figures k) x (at (figures k) x + m k) ∙ turn .figures-long k
 
-    pub figured-then : Figured n par (booksIn n standings′ booked′) figures′
-    figured-then i t =
-        let z = turn .figures-long in
+    pub figured-then : (k : Kind) → Figured n par (at (rowsOf n standings′)) (at (rowsOf n (booked′ k))) (figures′ k)
+    figured-then k i t =
+        let z = turn .figures-long k in
         let here = task-in in
         let q = parent-in in
-        let l = long in
-        let outer = grown-at (set figures x (at figures x + m)) (par x) (at figures x + m) i (omega arith) (t .low) in
-        let inner = set-more figures x m i (omega arith) in
-        let was = turn .figured i t in
+        let l = long k in
+        let outer = grown-at (set (figures k) x (at (figures k) x + m k)) (par x) (at (figures k) x + m k) i (omega arith) (t .low) in
+        let inner = set-more (figures k) x (m k) i (omega arith) in
+        let was = turn .figured k i t in
         let holds =
-        partial-booked n par (rankIn order) tree (at (rowsOf n standings)) (at (rowsOf n standings′)) (at (rowsOf n booked))
-        (at (rowsOf n booked′)) x m i (turn .invariant .good .shape) task waits moved (gets .there) (gets .elsewhere) t
+        partial-booked n par (rankIn order) tree (at (rowsOf n standings)) (at (rowsOf n standings′)) (at (rowsOf n (booked k)))
+        (at (rowsOf n (booked′ k))) x (m k) i (turn .invariant .good .shape) task waits moved (gets k .there) (gets k .elsewhere) t
         in
         let own =
-        turn .figured x task
-        ∙ partial-figure n par (rankIn order) tree (at (rowsOf n standings)) (at (rowsOf n booked)) x task no-child-waits
+        turn .figured k x task
+        ∙ partial-figure n par (rankIn order) tree (at (rowsOf n standings)) (at (rowsOf n (booked k))) x task no-child-waits
         in
-        let up = ap (λ (v : ℕ). only (eqb (par x) i) (v + m)) own in
+        let up = ap (λ (v : ℕ). only (eqb (par x) i) (v + m k)) own in
         omega arith
 
     -- how far the order has been booked
@@ -282,47 +296,47 @@ module _ {n bound : ℕ} {par need out : ℕ → ℕ} {order unended booked figu
         }
 
     -- all of it is within 32 bits
-    within-bound : total n (at (rowsOf n booked′)) < 2 ^ 32
-    within-bound = let w = invariant-then .good .stock .within in let most = turn .invariant .bounded in omega arith
+    within-bound : (k : Kind) → total n (at (rowsOf n (booked′ k))) < 2 ^ 32
+    within-bound k = let w = stock-then k .within in let most = turn .invariant .bounded k in omega arith
 
-    pub total-fits : sum + m < 2 ^ 32
-    total-fits = let e = totals-then in let w = within-bound in omega arith
+    pub total-fits : (k : Kind) → sum k + m k < 2 ^ 32
+    total-fits k = let e = totals-then k in let w = within-bound k in omega arith
 
-    pub booked-fits : at booked x + m < 2 ^ 32
+    pub booked-fits : (k : Kind) → at (booked k) x + m k < 2 ^ 32
     unfolding total
-    booked-fits =
-        let one = term-le (at (rowsOf n booked′)) n x task in
-        let new = gets .there in
-        let same = at-rows n booked x (task .high) in
-        let w = within-bound in
+    booked-fits k =
+        let one = term-le (at (rowsOf n (booked′ k))) n x task in
+        let new = gets k .there in
+        let same = at-rows n (booked k) x (task .high) in
+        let w = within-bound k in
         omega arith
 
-    figure-small : (i : ℕ) → Task n i → at figures′ i < 2 ^ 32
-    figure-small i t =
-        let is = figured-then i t in
-        let less = partial-le-figure n par (rankIn order) tree (at (rowsOf n standings′)) (at (rowsOf n booked′)) i t in
-        let all = figure-le-total n par (at (rowsOf n booked′)) i in
-        let w = within-bound in
+    figure-small : (k : Kind) (i : ℕ) → Task n i → at (figures′ k) i < 2 ^ 32
+    figure-small k i t =
+        let is = figured-then k i t in
+        let less = partial-le-figure n par (rankIn order) tree (at (rowsOf n standings′)) (at (rowsOf n (booked′ k))) i t in
+        let all = figure-le-total n par (at (rowsOf n (booked′ k))) i in
+        let w = within-bound k in
         omega arith
 
-    pub figure-fits : at figures x + m < 2 ^ 32
-    figure-fits =
-        let z = turn .figures-long in
+    pub figure-fits : (k : Kind) → at (figures k) x + m k < 2 ^ 32
+    figure-fits k =
+        let z = turn .figures-long k in
         let here = task-in in
         let q = parent-in in
-        let l = long in
-        let outer = grown-at (set figures x (at figures x + m)) (par x) (at figures x + m) x (omega arith) (task .low) in
-        let inner = getD-set-same figures x (at figures x + m) 0 (omega arith) in
-        let most = figure-small x task in
+        let l = long k in
+        let outer = grown-at (set (figures k) x (at (figures k) x + m k)) (par x) (at (figures k) x + m k) x (omega arith) (task .low) in
+        let inner = getD-set-same (figures k) x (at (figures k) x + m k) 0 (omega arith) in
+        let most = figure-small k x task in
         omega arith
 
     pub parent-fits :
-        (par x ≡ 0 → ⊥) → at (set figures x (at figures x + m)) (par x) + (at figures x + m) < 2 ^ 32
-    parent-fits d =
+        (k : Kind) → (par x ≡ 0 → ⊥) → at (set (figures k) x (at (figures k) x + m k)) (par x) + (at (figures k) x + m k) < 2 ^ 32
+    parent-fits k d =
         let u = parent-task n par (rankIn order) tree x task d in
         let q = parent-in in
-        let l = long in
-        let outer = grown-at (set figures x (at figures x + m)) (par x) (at figures x + m) (par x) (omega arith) (u .low) in
-        let one = only-true (eqb (par x) (par x)) (at figures x + m) (eq-eqb (par x) (par x) refl) in
-        let most = figure-small (par x) u in
+        let l = long k in
+        let outer = grown-at (set (figures k) x (at (figures k) x + m k)) (par x) (at (figures k) x + m k) (par x) (omega arith) (u .low) in
+        let one = only-true (eqb (par x) (par x)) (at (figures k) x + m k) (eq-eqb (par x) (par x) refl) in
+        let most = figure-small k (par x) u in
         omega arith

@@ -10,7 +10,7 @@ use Rattle.rules.specs.Booking.{allows, book, activate}
 use Rattle.words.specs.Layout.{rows, standing}
 use Rattle.words.specs.Contents.{Contents, withCell, withReady}
 use Rattle.words.specs.Marks.{Marks, changed, MayChange}
-use Rattle.store.specs.Rows.{books, activationOf}
+use Rattle.store.specs.Rows.{books, termsIn, activationOf}
 use Rattle.store.specs.Kept.{Kept, SamePlan}
 
 -- a task x that is not in the ready set
@@ -36,7 +36,7 @@ pub record SomeWait (c : Contents) (next : ℕ) : Type 0 where
 -- "Its missing trays .. If B + missing is at most M": whether the first waiting task may be booked
 abbrev pub allowsNext : Contents → Bool
 allowsNext c =
-    allows (c .size) (at (c .parents)) (at (c .chilled .needs)) (c .chilled .bound) (books c) (at (activationOf c) (c .next))
+    allows (c .size) (at (c .parents)) (termsIn c) (books c) (at (activationOf c) (c .next))
 
 -- "it gets them and becomes booked"
 pub record NextBooked (c c′ : Contents) : Type 0 where
@@ -44,7 +44,7 @@ pub record NextBooked (c c′ : Contents) : Type 0 where
   pub same : SamePlan c c′
   pub onward : c′ .next ≡ c .next + 1
   pub books :
-      books c′ ≡ book (c .size) (at (c .parents)) (at (c .chilled .needs)) (books c) (at (activationOf c) (c .next))
+      books c′ ≡ book (c .size) (at (c .parents)) (termsIn c) (books c) (at (activationOf c) (c .next))
 
 -- the first waiting task is booked where it may be, and else nothing changes
 pub record BookedNext (w w′ : List ℕ) (c c′ : Contents) (done : Bool) : Type 0 where
@@ -57,4 +57,4 @@ pub record BookedAhead (c c′ : Contents) : Type 0 where
   pub kept : Kept c′
   pub same : SamePlan c c′
   pub books :
-      books c′ ≡ activate (c .size) (at (c .parents)) (at (c .chilled .needs)) (c .chilled .bound) (activationOf c) (books c)
+      books c′ ≡ activate (c .size) (at (c .parents)) (termsIn c) (activationOf c) (books c)

@@ -1,2 +1,2 @@
-pub mod Kind
+pub mod ReasonKind
 pub mod Flat

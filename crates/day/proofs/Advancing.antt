@@ -11,7 +11,7 @@ use Rattle.rules.specs.Answer.{front}
 use Rattle.rules.proofs.Ranks.{tree-of}
 use Rattle.rules.proofs.Settling as settling
 use Rattle.words.specs.Contents.{Contents}
-use Rattle.store.specs.Rows.{books, activationOf, executionOf}
+use Rattle.store.specs.Rows.{books, termsIn, activationOf, executionOf}
 use Rattle.store.proofs.Same.{same-trans}
 use Rattle.booking.specs.Booked.{BookedAhead}
 use Rattle.starting.specs.Started.{MayStart, startedOf, Started}
@@ -32,8 +32,8 @@ module _ {c c₁ : Contents} {list : List ℕ} (may : MayStart c list) (booked :
       let p = may .kept .cached .placed in
       active-is
       ∙ settling.running-ahead (c .size) (at (c .parents)) (activationOf c) (i .valid)
-      (tree-of (c .size) (at (c .parents)) (activationOf c) (i .valid) (λ k _. i .parents k)) (at (c .chilled .needs))
-      (at (c .chilled .outs)) (i .roomy) (c .chilled .bound) (c .processors) (executionOf c) (p .inside) (p .once) (p .whole) (books c)
+      (tree-of (c .size) (at (c .parents)) (activationOf c) (i .valid) (λ k _. i .parents k)) (termsIn c)
+      (i .roomy) (c .processors) (executionOf c) (p .inside) (p .once) (p .whole) (books c)
       (bookedAhead c) (i .good) (let r = may .kept .cached .runs in let b = may .busy in omega arith) refl (startsThen c) refl
       ∙ sym (may .kept .cached .runs)
 

@@ -8,6 +8,7 @@ use native.Mathlib.Omega.{arith}
 use lib.Dec.{eqb, leb}
 use lib.ListN.{length, take}
 use borrow.Author.Tests.{eq-eqb, le-leb, lt-leb}
+use Rattle.rules.specs.Kind.{each, all}
 use Rattle.rules.specs.Lists.{at, every, distinct}
 use Rattle.rules.specs.Limits.{leastStarts}
 use Rattle.rules.specs.Peak.{roots, ordered, peak, Peaked}
@@ -63,8 +64,8 @@ module _ (s : State) where
 
   pub begin-weighed :
       orderGround (s .size) (at (s .parents)) (s .activation) ≡ 0
-      → grounds.ownGround s begin ≡ grounds.demand (leb (grounds.peakOf s) (s .chilled .bound)) 9 0
-  unfolding grounds.ownGround orderGround
+      → grounds.ownGround s begin ≡ grounds.demand (leb (grounds.peakOf s) (s .stores .chilled .bound)) 9 0
+  unfolding grounds.ownGround grounds.fitsIn grounds.peakOf all orderGround
   begin-weighed g =
       ⊎-elim
       (λ (r : eqb (roots (s .size) (at (s .parents))) 1 ≡ true).
@@ -117,28 +118,28 @@ module _ (c : Contents) (sound : Sound c) (long : Lengths c) where
         no-order-ground = order-ground-is ∙ sym is-number ∙ fine
 
         -- the peak with its task
-        pub high-is : high ≡ grounds.peakedOf (meaning c)
+        pub high-is : high ≡ grounds.peaksOf (meaning c) .chilled
         high-is = high-is-peaked c sound long reached ranked-all is-high (sym is-number ∙ fine)
 
         trays-are : high .trays ≡ grounds.peakOf (meaning c)
         trays-are = high-is-peak c sound long reached ranked-all is-high (sym is-number ∙ fine)
 
-        weighed : grounds.ground (meaning c) begin ≡ grounds.demand (leb (grounds.peakOf (meaning c)) (c .chilled .bound)) 9 0
+        weighed : grounds.ground (meaning c) begin ≡ grounds.demand (leb (grounds.peakOf (meaning c)) (c .stores .chilled .bound)) 9 0
         weighed = own ∙ begin-weighed (meaning c) no-order-ground
 
         -- 9
-        pub too-high : c .chilled .bound < high .trays → grounds.ground (meaning c) begin ≡ 9
+        pub too-high : c .stores .chilled .bound < high .trays → grounds.ground (meaning c) begin ≡ 9
         too-high h =
             weighed
             ∙ ap (λ (b : Bool). grounds.demand b 9 0)
-            (lt-leb (grounds.peakOf (meaning c)) (c .chilled .bound) (let e = trays-are in omega arith))
+            (lt-leb (grounds.peakOf (meaning c)) (c .stores .chilled .bound) (let e = trays-are in omega arith))
 
         -- none
-        pub low-enough : high .trays ≤ c .chilled .bound → grounds.ground (meaning c) begin ≡ 0
+        pub low-enough : high .trays ≤ c .stores .chilled .bound → grounds.ground (meaning c) begin ≡ 0
         low-enough h =
             weighed
             ∙ ap (λ (b : Bool). grounds.demand b 9 0)
-            (le-leb (grounds.peakOf (meaning c)) (c .chilled .bound) (let e = trays-are in omega arith))
+            (le-leb (grounds.peakOf (meaning c)) (c .stores .chilled .bound) (let e = trays-are in omega arith))
 
 -- the plan that BEGIN goes on with: c as it was found, and d completed
 module _ (c : Contents) {d : Contents} (sound : Sound d) (long : Lengths d) (reached : Reachable (meaning d))
@@ -213,13 +214,13 @@ module _ (c : Contents) {d : Contents} (sound : Sound d) (long : Lengths d) (rea
                     record {
                       light = λ i. sound .light i .0;
                       nobody = sound .works .nobody;
-                      past = given-past (d .chilled .works) (sound .works);
+                      past = given-past (d .stores .chilled .works) (sound .works);
                     };
                 outs =
                     record {
                       light = λ i. sound .light i .1;
                       nobody = sound .outs .nobody;
-                      past = given-past (d .chilled .outs) (sound .outs);
+                      past = given-past (d .stores .chilled .outs) (sound .outs);
                     };
                 valid =
                     surveying.no-ground (d .size) (at (d .parents)) (at (d .ranks)) (activationOf d) (surveyed .parented)
@@ -235,10 +236,10 @@ module _ (c : Contents) {d : Contents} (sound : Sound d) (long : Lengths d) (rea
   module _ {c′ : Contents} {list list′ : List ℕ} {count : ℕ} (b : Begun d c′ list list′ count) where
     pub begin-answers :
         {high : Peaked}
-        → high ≡ grounds.peakedOf (meaning c)
+        → high ≡ grounds.peaksOf (meaning c) .chilled
         → (used : ℕ)
         → record {
-          answer = record { number = 0; used = used; starts = count; peak = high; offers = 0 };
+          answer = record { number = 0; used = used; starts = count; peaks = each (λ _. high); offers = 0 };
           state = meaning c′;
           list = list′;
         }
@@ -246,7 +247,7 @@ module _ (c : Contents) {d : Contents} (sound : Sound d) (long : Lengths d) (rea
     unfolding obey completed withOrders
     begin-answers {high} high-is used =
         same whole b used high 0
-        ∙ ap₂ (λ (t : State) (v : Peaked). accept (proceed t Phase.running (fresh (t .size)) v 0) used list) means high-is
+        ∙ ap₂ (λ (t : State) (v : Peaked). accept (proceed t Phase.running (fresh (t .size)) (each (λ _. v)) 0) used list) means high-is
 
     pub begin-sound : Sound c′
     begin-sound = sound-then whole b

@@ -8,6 +8,7 @@ use native.Mathlib.Omega.{arith}
 use lib.Dec.{eqb}
 use lib.ListN.{set}
 use borrow.Author.Tests.{eq-eqb, ne-eqb}
+use Rattle.rules.specs.Kind.{chilled, each}
 use Rattle.rules.specs.Sums.{Task}
 use Rattle.rules.specs.Lists.{at}
 use Rattle.rules.specs.Phase
@@ -79,7 +80,7 @@ module _ (c : Contents) (j : ℕ) (reached : Reachable (meaning c)) (sound : Sou
     root-meant : at (s .parents) j ≡ 0
     root-meant = ap (λ (f : ℕ → ℕ). f j) (parents-meant c sound) ∙ root
 
-    out-meant : at (s .chilled .outs) j ≡ at (c .chilled .outs) j
+    out-meant : at (s .stores .chilled .outs) j ≡ at (c .stores .chilled .outs) j
     out-meant = ap (λ (f : ℕ → ℕ). f j) (outs-meant c sound)
 
     all : (i : ℕ) → Task n i → at (set (s .standings) j finished) i ≡ finished
@@ -93,9 +94,9 @@ module _ (c : Contents) (j : ℕ) (reached : Reachable (meaning c)) (sound : Sou
         ∙ ap (λ (l : List ℕ). set l j finished) (sym (standings-rows c sound on))
 
     booked-then :
-        rowsOf n (set (c .chilled .booked) j (at (c .chilled .outs) j)) ≡ set (s .chilled .booked) j (at (s .chilled .outs) j)
+        rowsOf n (set (c .stores .chilled .booked) j (at (c .stores .chilled .outs) j)) ≡ set (s .stores .chilled .booked) j (at (s .stores .chilled .outs) j)
     booked-then =
-        rows-set n (c .chilled .booked) j (at (c .chilled .outs) j) (a .task .high)
+        rows-set n (c .stores .chilled .booked) j (at (c .stores .chilled .outs) j) (a .task .high)
         ∙ ap₂ (λ (l : List ℕ) (v : ℕ). set l j v) (sym (booked-rows c sound on)) (sym out-meant)
 
     means : meaning (madeReady j c) ≡ readyAfter s j
@@ -110,13 +111,15 @@ module _ (c : Contents) (j : ℕ) (reached : Reachable (meaning c)) (sound : Sou
           activation = s .activation;
           execution = s .execution;
           standings = standings-then z;
-          chilled =
+          stores =
+              each
+              (λ _.
               record {
-                bound = s .chilled .bound;
-                works = s .chilled .works;
-                outs = s .chilled .outs;
+                bound = s .stores .chilled .bound;
+                works = s .stores .chilled .works;
+                outs = s .stores .chilled .outs;
                 booked = booked-then z;
-              };
+              });
         }
 
     -- what the rules do with the report
@@ -174,14 +177,14 @@ module _ (c : Contents) (j : ℕ) (reached : Reachable (meaning c)) (sound : Sou
 
     -- its out is all that is booked
     total-then :
-        at (c .chilled .outs) j ≡ total n (at (rowsOf n (set (c .chilled .booked) j (at (c .chilled .outs) j))))
+        at (c .stores .chilled .outs) j ≡ total n (at (rowsOf n (set (c .stores .chilled .booked) j (at (c .stores .chilled .outs) j))))
     unfolding total withBooks
     total-then =
         sym
         (ap (λ (l : List ℕ). total n (at l)) booked-then
-        ∙ sum-cong (at (set (s .chilled .booked) j (at (s .chilled .outs) j))) (remains (at (s .parents)) (at (s .chilled .outs)) false) n
-        (closing s planned day j (a .task) runs-meant root-meant .stock .booked)
-        ∙ root-remains n (at (s .parents)) (at (s .chilled .outs)) (planned .rooted) j (a .task) root-meant
+        ∙ sum-cong (at (set (s .stores .chilled .booked) j (at (s .stores .chilled .outs) j))) (remains (at (s .parents)) (at (s .stores .chilled .outs)) false) n
+        (closing s planned day j (a .task) runs-meant root-meant .stock chilled .booked)
+        ∙ root-remains n (at (s .parents)) (at (s .stores .chilled .outs)) (planned .rooted) j (a .task) root-meant
         ∙ out-meant)
 
     kept-then : Closed (madeReady j c)
@@ -199,7 +202,7 @@ module _ (c : Contents) (j : ℕ) (reached : Reachable (meaning c)) (sound : Sou
                 unended = past .unended;
                 standings = zero-set n (c .standings) j finished (a .task .high) (past .standings);
                 needs = past .needs;
-                booked = zero-set n (c .chilled .booked) j (at (c .chilled .outs) j) (a .task .high) (past .booked);
+                booked = zero-set n (c .stores .chilled .booked) j (at (c .stores .chilled .outs) j) (a .task .high) (past .booked);
                 figures = past .figures;
               };
         }
@@ -209,5 +212,5 @@ module _ (c : Contents) (j : ℕ) (reached : Reachable (meaning c)) (sound : Sou
     ready-sound =
         day-sound (in-its-day sound on)
         (phase-same Phase.ready
-        (alone-same c j (at (c .chilled .outs) j) (set (c .standings) j finished) (c .unended) (c .active - 1) (c .ended + 1)))
+        (alone-same c j (at (c .stores .chilled .outs) j) (set (c .standings) j finished) (c .unended) (c .active - 1) (c .ended + 1)))
         (sound .long) (omega arith) (omega arith) (λ e. absurd (omega arith)) (λ _. kept-then)

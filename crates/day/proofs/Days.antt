@@ -4,6 +4,7 @@ use mathlib.Core.List.{List}
 use Prim.Native.Nat.{ℕ, _≤_}
 use native.Mathlib.Omega.{arith}
 use lib.ListN.{set}
+use Rattle.rules.specs.Kind.{chilled}
 use Rattle.rules.specs.Lists.{at}
 use Rattle.rules.specs.Phase
 use Rattle.rules.specs.Standing.{running, finished, count}
@@ -13,6 +14,7 @@ use Rattle.store.specs.Rows.{books}
 use Rattle.store.specs.Kept.{Kept}
 use Rattle.store.proofs.Rows.{at-rows}
 use Rattle.store.proofs.Same.{same-refl}
+use Rattle.store.proofs.InStore.{by-kind}
 use Rattle.starting.specs.Started.{MayStart}
 use Rattle.survey.specs.Prepare.{Prepared}
 use Rattle.dispatch.specs.Finished.{Finished}
@@ -101,22 +103,24 @@ module _ {c : Contents} {bound : ℕ} {list : List ℕ} (may : MayResize c bound
   unfolding withBound withHead storeWithHead
   kept-within =
       let i = may .kept .invariant in
-      let booked = may .kept .cached .store .totals in
+      let booked = may .kept .cached .stores chilled .totals in
       let within = may .within in
       record {
         invariant =
             record {
               small = i .small;
-              bounded = may .bounded;
+              bounded = by-kind _ (may .bounded);
               valid = i .valid;
               parents = i .parents;
-              roomy = i .roomy;
+              roomy = by-kind _ (i .roomy chilled);
               good =
                   record {
                     sized = i .good .sized;
                     shape = i .good .shape;
                     stock =
-                        record { sized = i .good .stock .sized; books = i .good .stock .books; within = omega arith };
+                        by-kind _
+                        (let stock = i .good .stock chilled in
+                        record { sized = stock .sized; books = stock .books; within = omega arith });
                   };
             };
         cached = head-cached (c .phase) bound (may .kept .cached);

@@ -6,6 +6,7 @@ use native.Mathlib.Omega.{arith}
 use lib.ListN.{set}
 use lib.Seq.{getD-take}
 use borrow.Author.Tests.{eq-eqb, ne-eqb}
+use Rattle.rules.specs.Kind.{chilled, each}
 use Rattle.rules.specs.Sums.{Task}
 use Rattle.rules.specs.Lists.{at}
 use Rattle.rules.specs.Phase
@@ -69,9 +70,9 @@ module _ (c : Contents) (reached : Reachable (meaning c)) (sound : Sound c) (now
       ∙ getD-take n (c .activation) (n - 1) 0 (let low = t .low in let high = t .high in omega arith))
       ∙ last-is-root s planned
 
-  booked-then : rowsOf n (set (c .chilled .booked) root 0) ≡ set (s .chilled .booked) root 0
+  booked-then : rowsOf n (set (c .stores .chilled .booked) root 0) ≡ set (s .stores .chilled .booked) root 0
   booked-then =
-      rows-set n (c .chilled .booked) root 0 (root-task .high)
+      rows-set n (c .stores .chilled .booked) root 0 (root-task .high)
       ∙ ap (λ (l : List ℕ). set l root 0) (sym (booked-rows c sound on))
 
   means : meaning (madeOver (rootOf (meaning c)) c) ≡ unloaded s
@@ -86,13 +87,15 @@ module _ (c : Contents) (reached : Reachable (meaning c)) (sound : Sound c) (now
         activation = s .activation;
         execution = s .execution;
         standings = sym (standings-rows c sound on) z;
-        chilled =
+        stores =
+            each
+            (λ _.
             record {
-              bound = s .chilled .bound;
-              works = s .chilled .works;
-              outs = s .chilled .outs;
+              bound = s .stores .chilled .bound;
+              works = s .stores .chilled .works;
+              outs = s .stores .chilled .outs;
               booked = booked-then z;
-            };
+            });
       }
 
   -- what the rules do with the fetch
@@ -101,13 +104,13 @@ module _ (c : Contents) (reached : Reachable (meaning c)) (sound : Sound c) (now
   fetches = ap plain (sym means)
 
   -- nothing is booked
-  total-then : 0 ≡ total n (at (rowsOf n (set (c .chilled .booked) root 0)))
+  total-then : 0 ≡ total n (at (rowsOf n (set (c .stores .chilled .booked) root 0)))
   unfolding total
   total-then =
       let day = lives reached .day on in
       sym
       (ap (λ (l : List ℕ). total n (at l)) booked-then
-      ∙ sum-zero (at (set (s .chilled .booked) root 0)) n (nothing s (day .0) (day .1) (no-ground s fetch fetch-free)))
+      ∙ sum-zero (at (set (s .stores .chilled .booked) root 0)) n (nothing s (day .0) (day .1) (no-ground s fetch fetch-free) chilled))
 
   kept-then : Closed (madeOver (rootOf (meaning c)) c)
   unfolding madeOver withStore withHoldings heldAlone withHead storeWithHead
@@ -124,7 +127,7 @@ module _ (c : Contents) (reached : Reachable (meaning c)) (sound : Sound c) (now
               unended = was .past .unended;
               standings = was .past .standings;
               needs = was .past .needs;
-              booked = zero-set n (c .chilled .booked) root 0 (root-task .high) (was .past .booked);
+              booked = zero-set n (c .stores .chilled .booked) root 0 (root-task .high) (was .past .booked);
               figures = was .past .figures;
             };
       }

@@ -5,22 +5,25 @@ use mathlib.Core.List.{List}
 use Prim.Native.Nat.{ℕ}
 use native.Mathlib.Omega.{arith}
 use lib.ListN.{length, take}
+use Rattle.rules.specs.Kind.{Each, each}
+use Rattle.rules.specs.Kind
 use Rattle.rules.specs.Lists.{at}
 use Rattle.rules.specs.Need.{need}
 use Rattle.rules.specs.Peak.{Peaked}
 use Rattle.rules.specs.Phase
 use Rattle.rules.specs.State.{needs}
 use Rattle.rules.specs.Booking.{Books, activate, starts, start, free}
-use Rattle.rules.specs.Obey.{withBooks, ahead, begun, proceed}
+use Rattle.rules.specs.Obey.{termsOf, withBooks, ahead, begun, proceed}
 use Rattle.rules.specs.Answer as rules
 use Rattle.words.specs.Contents.{Contents, withHead, storeWithHead}
-use Rattle.store.specs.Rows.{books, activationOf, executionOf}
+use Rattle.store.specs.Rows.{books, termsIn, activationOf, executionOf}
 use Rattle.store.specs.Cached.{Cached}
+use Rattle.store.proofs.InStore.{by-kind}
 use Rattle.answer.specs.Meaning.{meaning, answeredOf}
 use Rattle.answer.specs.Sound.{Sound}
 use Rattle.day.specs.Advanced.{bookedAhead, startsThen}
 use Rattle.day.specs.Day.{SameTasks, Proceeded}
-use Rattle.answer.proofs.Meant.{parents-meant, needs-columns}
+use Rattle.answer.proofs.Meant.{parents-meant, outs-meant, needs-columns}
 use Rattle.day.proofs.Same.{same-tasks, then-same}
 use Rattle.day.proofs.Staying.{Whole, phase-same, head-cached, day-sound}
 
@@ -30,13 +33,25 @@ module _ {c : Contents} (whole : Whole c) {k : Books} {c′ : Contents} {list li
   m = p .between
 
   -- the needs of the plan, by the columns of its day
-  needs-are : needs (meaning c) ≡ at (m .chilled .needs)
+  needs-are : needs (meaning c) ≡ at (m .stores .chilled .needs)
   needs-are =
       needs-columns c (whole .sound)
       ∙ sym
-      (fun-ext (p .kept .cached .store .needed)
+      (fun-ext (p .kept .cached .stores Kind.chilled .needed)
       ∙ (λ z.
       need (p .same .size z) (at (p .same .parents z)) (at (p .same .works z)) (at (p .same .outs z))))
+
+  -- and what booking finds of each store
+  terms-are : termsOf (meaning c) ≡ termsIn m
+  terms-are =
+      fun-ext
+      (by-kind (λ d. termsOf (meaning c) d ≡ termsIn m d)
+      (λ z.
+      record {
+        bound = sym (p .same .bound) z;
+        need = needs-are z;
+        out = (outs-meant c (whole .sound) ∙ ap at (sym (p .same .outs))) z;
+      }))
 
   order-is : meaning c .activation ≡ activationOf c
   order-is = ap (λ (n : ℕ). take n (c .activation)) (whole .ranked-all)
@@ -49,8 +64,7 @@ module _ {c : Contents} (whole : Whole c) {k : Books} {c′ : Contents} {list li
   unfolding ahead
   ahead-is =
       λ z.
-      activate (sym (p .same .size) z) ((parents-meant c (whole .sound) ∙ ap at (sym (p .same .parents))) z) (needs-are z)
-      (sym (p .same .bound) z)
+      activate (sym (p .same .size) z) ((parents-meant c (whole .sound) ∙ ap at (sym (p .same .parents))) z) (terms-are z)
       ((order-is ∙ (λ y. take (sym (p .same .size) y) (sym (p .same .activation) y))) z) (sym (p .books) z)
 
   begun-is : begun (meaning c) (ahead (meaning c) k) ≡ startsThen m
@@ -79,9 +93,9 @@ module _ {c : Contents} (whole : Whole c) {k : Books} {c′ : Contents} {list li
   abbrev then : Contents
   then = withHead 0 Phase.running (p .after)
 
-  state-is : (peak : Peaked) (offers : ℕ) → meaning then ≡ proceed (meaning c) Phase.running k peak offers .state
+  state-is : (peaks : Each Peaked) (offers : ℕ) → meaning then ≡ proceed (meaning c) Phase.running k peaks offers .state
   unfolding proceed withBooks withHead storeWithHead
-  state-is peak offers =
+  state-is peaks offers =
       let t = kept-tasks in
       λ z.
       record {
@@ -92,21 +106,22 @@ module _ {c : Contents} (whole : Whole c) {k : Books} {c′ : Contents} {list li
         activation = take (t .ranked z) (t .activation z);
         execution = take (t .placed z) (t .execution z);
         standings = books-are z .standings;
-        chilled =
+        stores =
+            each
+            (λ _.
             record {
               bound = t .bound z;
               works = take (t .given z) (t .works z);
               outs = take (t .given z) (t .outs z);
-              booked =
-                  books-are z .booked;
-            };
+              booked = books-are z .booked .chilled;
+            });
       }
 
   -- all that the caller receives
   pub same :
       (used : ℕ) (peak : Peaked) (offers : ℕ)
       → answeredOf (record { number = 0; used = used; starts = count; peak = peak .trays; by = peak .task; offers = offers }) c′ list′
-      ≡ rules.accept (proceed (meaning c) Phase.running k peak offers) used list
+      ≡ rules.accept (proceed (meaning c) Phase.running k (each (λ _. peak)) offers) used list
   unfolding rules.accept proceed
   same used peak offers =
       let l : List ℕ = begun (meaning c) (ahead (meaning c) k) in
@@ -116,14 +131,14 @@ module _ {c : Contents} (whole : Whole c) {k : Books} {c′ : Contents} {list li
       in
       λ z.
       record {
-        answer = record { number = 0; used = used; starts = many z; peak = peak; offers = offers };
-        state = (ap meaning (p .phased) ∙ state-is peak offers) z;
+        answer = record { number = 0; used = used; starts = many z; peaks = each (λ _. peak); offers = offers };
+        state = (ap meaning (p .phased) ∙ state-is (each (λ _. peak)) offers) z;
         list = written z;
       }
 
   then-cached : Cached then
   unfolding withHead storeWithHead
-  then-cached = head-cached Phase.running (p .after .chilled .bound) (p .advanced .kept .cached)
+  then-cached = head-cached Phase.running (p .after .stores .chilled .bound) (p .advanced .kept .cached)
 
   pub sound-then : Sound c′
   unfolding withHead storeWithHead

@@ -7,6 +7,7 @@ use native.Mathlib.Omega.{arith}
 use lib.Dec.{eqb}
 use lib.ListN.{length, set}
 use borrow.Author.Tests.{eqb-true, eq-eqb, ne-eqb}
+use Rattle.rules.specs.Kind.{of, each}
 use Rattle.rules.specs.Sums.{Task}
 use Rattle.rules.specs.Lists.{at}
 use Rattle.rules.specs.Limits.{leastStarts}
@@ -15,7 +16,7 @@ use Rattle.rules.specs.Phase
 use Rattle.rules.specs.Standing.{running, finished}
 use Rattle.rules.specs.Command.{done}
 use Rattle.rules.specs.Reachable.{Reachable}
-use Rattle.rules.specs.Grounds.{within, demand, inTurn, inLimits, ownGround, ground}
+use Rattle.rules.specs.Grounds.{within, demand, inTurn, inLimits, noPeaks, ownGround, ground}
 use Rattle.rules.specs.Booking.{Climbed, dispatch}
 use Rattle.rules.specs.Obey.{endedStandings, shared, ended, phaseAfter, proceed, obey}
 use Rattle.rules.specs.Answer.{accept}
@@ -31,11 +32,10 @@ use Rattle.day.specs.Day.{MayGoOn, WentOn}
 use Rattle.answer.proofs.Meant.{
   in-running,
   parents-meant,
-  outs-meant,
   standings-rows,
-  booked-rows,
+  books-rows,
   standings-meant,
-  needs-meant,
+  terms-meant,
   still-kept,
   staffed,
 }
@@ -130,8 +130,8 @@ module _ (c : Contents) (j : ℕ) (reached : Reachable (meaning c)) (sound : Sou
   unfolding shared endedStandings
   shared-is =
       λ z.
-      dispatch (c .size) (parents-meant c sound z) (needs-meant c sound (a .now) z) (at (set (standings-rows c sound on z) j finished))
-      (outs-meant c sound z) (booked-rows c sound on z) j
+      dispatch (c .size) (parents-meant c sound z) (terms-meant c sound (a .now) z) (at (set (standings-rows c sound on z) j finished))
+      (books-rows c sound on z .booked) j
 
   phase-is : phaseAfter (meaning c) j ≡ Phase.running
   unfolding phaseAfter
@@ -145,7 +145,10 @@ module _ (c : Contents) (j : ℕ) (reached : Reachable (meaning c)) (sound : Sou
     ended-is =
         e .finished .books
         ∙ (λ z.
-        record { standings = set (sym (standings-rows c sound on) z) j finished; booked = sym shared-is z .share .booked })
+        record {
+          standings = set (sym (standings-rows c sound on) z) j finished;
+          booked = each (λ k. of (sym shared-is z .share) k .booked);
+        })
 
     offers-are : offers ≡ length (shared (meaning c) j .offered)
     offers-are = e .finished .offered ∙ ap (λ (d : Climbed). length (d .offered)) (sym shared-is)
@@ -157,15 +160,15 @@ module _ (c : Contents) (j : ℕ) (reached : Reachable (meaning c)) (sound : Sou
     report-same :
         (used : ℕ)
         → accept (obey (meaning c) (done j)) used list
-        ≡ accept (proceed (meaning c) Phase.running (books (e .left)) noPeak offers) used list
+        ≡ accept (proceed (meaning c) Phase.running (books (e .left)) noPeaks offers) used list
     unfolding obey
     report-same used =
-        λ z. accept (proceed (meaning c) (phase-is z) (sym ended-is z) noPeak (sym offers-are z)) used list
+        λ z. accept (proceed (meaning c) (phase-is z) (sym ended-is z) noPeaks (sym offers-are z)) used list
 
     pub report-answers :
         (used : ℕ)
         → record {
-          answer = record { number = 0; used = used; starts = count; peak = noPeak; offers = offers };
+          answer = record { number = 0; used = used; starts = count; peaks = noPeaks; offers = offers };
           state = meaning c′;
           list = list′;
         }

@@ -7,13 +7,14 @@ use native.Mathlib.Omega.{arith}
 use lib.Dec.{leb}
 use lib.ListN.{length}
 use borrow.Author.Tests.{eqb-true, eq-eqb, ne-eqb, le-leb, lt-leb}
+use Rattle.rules.specs.Kind.{chilled}
 use Rattle.rules.specs.Lists.{at}
 use Rattle.rules.specs.Limits.{maxBound, leastStarts}
 use Rattle.rules.specs.Peak.{Peaked, noPeak, roots}
 use Rattle.rules.specs.Phase
 use Rattle.rules.specs.Command.{places}
 use Rattle.rules.specs.Reachable.{Reachable}
-use Rattle.rules.specs.Grounds.{demand, inTurn, inLimits, ownGround, ground}
+use Rattle.rules.specs.Grounds.{demand, inTurn, inLimits, noPeaks, ownGround, ground}
 use Rattle.rules.specs.Booking.{total}
 use Rattle.rules.specs.Obey as obeying
 use Rattle.rules.specs.Obey.{proceed, obey}
@@ -43,10 +44,10 @@ resize-late c bound d = ground-turn (meaning c) (places bound) (ne-eqb (c .phase
 booked-is :
     (c : Contents) (sound : Sound c)
     → c .phase ≡ Phase.running
-    → total (c .size) (at (meaning c .chilled .booked)) ≡ c .chilled .total
+    → total (c .size) (at (meaning c .stores .chilled .booked)) ≡ c .stores .chilled .total
 booked-is c sound now =
     ap (λ (l : List ℕ). total (c .size) (at l)) (booked-rows c sound (in-running c sound now))
-    ∙ sym (cached-now c sound now .store .totals)
+    ∙ sym (cached-now c sound now .stores chilled .totals)
 
 module _ (c : Contents) (long : Lengths c) (reached : Reachable (meaning c)) (sound : Sound c) (now : c .phase ≡ Phase.running) where
   on : Phase.running ≤ c .phase
@@ -70,7 +71,7 @@ module _ (c : Contents) (long : Lengths c) (reached : Reachable (meaning c)) (so
     -- what is checked is the peak and B
     own :
         ground (meaning c) (places bound)
-        ≡ demand (leb (high .trays) bound) 9 (demand (leb (c .chilled .total) bound) 13 0)
+        ≡ demand (leb (high .trays) bound) 9 (demand (leb (c .stores .chilled .total) bound) 13 0)
     unfolding inTurn inLimits ownGround
     own =
         ground-own (meaning c) (places bound) (eq-eqb (c .phase) Phase.running now) (le-leb bound maxBound (omega arith))
@@ -80,20 +81,20 @@ module _ (c : Contents) (long : Lengths c) (reached : Reachable (meaning c)) (so
     -- 9
     pub resize-high : bound < high .trays → ground (meaning c) (places bound) ≡ 9
     resize-high h =
-        own ∙ ap (λ (b : Bool). demand b 9 (demand (leb (c .chilled .total) bound) 13 0)) (lt-leb (high .trays) bound h)
+        own ∙ ap (λ (b : Bool). demand b 9 (demand (leb (c .stores .chilled .total) bound) 13 0)) (lt-leb (high .trays) bound h)
 
     -- 13
     module _ (above : high .trays ≤ bound) where
-      weighed : ground (meaning c) (places bound) ≡ demand (leb (c .chilled .total) bound) 13 0
+      weighed : ground (meaning c) (places bound) ≡ demand (leb (c .stores .chilled .total) bound) 13 0
       weighed =
-          own ∙ ap (λ (b : Bool). demand b 9 (demand (leb (c .chilled .total) bound) 13 0)) (le-leb (high .trays) bound above)
+          own ∙ ap (λ (b : Bool). demand b 9 (demand (leb (c .stores .chilled .total) bound) 13 0)) (le-leb (high .trays) bound above)
 
-      pub resize-booked : bound < c .chilled .total → ground (meaning c) (places bound) ≡ 13
-      resize-booked h = weighed ∙ ap (λ (b : Bool). demand b 13 0) (lt-leb (c .chilled .total) bound h)
+      pub resize-booked : bound < c .stores .chilled .total → ground (meaning c) (places bound) ≡ 13
+      resize-booked h = weighed ∙ ap (λ (b : Bool). demand b 13 0) (lt-leb (c .stores .chilled .total) bound h)
 
       -- none
-      pub resize-free : c .chilled .total ≤ bound → ground (meaning c) (places bound) ≡ 0
-      resize-free h = weighed ∙ ap (λ (b : Bool). demand b 13 0) (le-leb (c .chilled .total) bound h)
+      pub resize-free : c .stores .chilled .total ≤ bound → ground (meaning c) (places bound) ≡ 0
+      resize-free h = weighed ∙ ap (λ (b : Bool). demand b 13 0) (le-leb (c .stores .chilled .total) bound h)
 
 -- where there is none
 module _ (c : Contents) (reached : Reachable (meaning c)) (sound : Sound c) (bound : ℕ) (small : bound < 2 ^ 32)
@@ -166,7 +167,7 @@ module _ (c : Contents) (reached : Reachable (meaning c)) (sound : Sound c) (bou
     pub resize-answers :
         (used : ℕ)
         → record {
-          answer = record { number = 0; used = used; starts = count; peak = noPeak; offers = 0 };
+          answer = record { number = 0; used = used; starts = count; peaks = noPeaks; offers = 0 };
           state = meaning c′;
           list = list′;
         }
@@ -174,4 +175,4 @@ module _ (c : Contents) (reached : Reachable (meaning c)) (sound : Sound c) (bou
     unfolding obey
     resize-answers used =
         same whole r used noPeak 0
-        ∙ (λ z. accept (proceed (means z) Phase.running (sym (books-rows c sound in-day) z) noPeak 0) used list)
+        ∙ (λ z. accept (proceed (means z) Phase.running (sym (books-rows c sound in-day) z) noPeaks 0) used list)

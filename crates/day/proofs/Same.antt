@@ -1,5 +1,6 @@
 -- What the parts of a command leave of what is given of a plan.
 use mathlib.Core.Path.{ap, _∙_}
+use Rattle.rules.specs.Kind.{chilled}
 use Rattle.words.specs.Contents.{Contents}
 use Rattle.store.specs.Kept.{SamePlan}
 use Rattle.survey.specs.Prepare.{withNeeds, withFigures, Prepared}
@@ -18,9 +19,9 @@ same-tasks s =
       places = s .places;
       activation = s .activation;
       execution = s .execution;
-      bound = s .bound;
-      works = s .works;
-      outs = s .outs;
+      bound = s .bound chilled;
+      works = s .works chilled;
+      outs = s .outs chilled;
     }
 
 pub then-same : {c d e : Contents} → SameTasks c d → SameTasks d e → SameTasks c e
@@ -56,7 +57,7 @@ prepared-same {c} {c′} p =
       places = ap (λ (d : Contents). d .places) (p .same);
       activation = ap (λ (d : Contents). d .activation) (p .same);
       execution = ap (λ (d : Contents). d .execution) (p .same);
-      bound = ap (λ (d : Contents). d .chilled .bound) (p .same);
-      works = ap (λ (d : Contents). d .chilled .works) (p .same);
-      outs = ap (λ (d : Contents). d .chilled .outs) (p .same);
+      bound = ap (λ (d : Contents). d .stores .chilled .bound) (p .same);
+      works = ap (λ (d : Contents). d .stores .chilled .works) (p .same);
+      outs = ap (λ (d : Contents). d .stores .chilled .outs) (p .same);
     }

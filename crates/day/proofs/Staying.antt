@@ -3,12 +3,14 @@ use mathlib.Core.Path.{_≡_, refl, sym, ap, _∙_}
 use mathlib.Core.List.{List}
 use Prim.Native.Nat.{ℕ, suc, _≤_, _<_}
 use native.Mathlib.Omega.{arith}
+use Rattle.rules.specs.Kind
 use Rattle.rules.specs.Lists.{at}
 use Rattle.rules.specs.Phase
 use Rattle.words.specs.Layout.{words, chilled}
 use Rattle.words.specs.Contents.{Contents, withHead, storeWithHead}
 use Rattle.store.specs.Cached.{Cached}
 use Rattle.store.specs.Store.{withStore, withHoldings, heldAlone}
+use Rattle.store.proofs.InStore.{by-kind}
 use Rattle.dispatch.specs.Ended.{withProgress}
 use Rattle.answer.specs.Sound.{Closed, Sound}
 use Rattle.day.specs.Day.{SameTasks}
@@ -64,21 +66,23 @@ head-cached phase bound k =
       placed = k .placed;
       standings-zero = k .standings-zero;
       unended-zero = k .unended-zero;
-      store =
+      stores =
+          by-kind _
+          (let s = k .stores Kind.chilled in
           record {
-            needed = k .store .needed;
-            figured = k .store .figured;
-            totals = k .store .totals;
-            uses = k .store .uses;
-            booked-zero = k .store .booked-zero;
-            figures-zero = k .store .figures-zero;
-          };
+            needed = s .needed;
+            figured = s .figured;
+            totals = s .totals;
+            uses = s .uses;
+            booked-zero = s .booked-zero;
+            figures-zero = s .figures-zero;
+          });
     }
 
 -- nor on who runs and has ended, and on what one task holds alone
 pub alone-same :
     (c : Contents) (x units : ℕ) (standings unended : List ℕ) (active ended : ℕ)
-    → SameTasks c (withStore (heldAlone x units (c .chilled)) (withProgress standings unended active ended c))
+    → SameTasks c (withStore Kind.chilled (heldAlone x units (c .stores .chilled)) (withProgress standings unended active ended c))
 unfolding withStore heldAlone withHoldings withProgress
 alone-same c x units standings unended active ended =
     record {
@@ -117,8 +121,8 @@ day-sound {c = c} {d = d} whole t long on named cached closed =
       bounded = (let n = t .bound in let m = s .bounded in omega arith);
       light =
           λ i.
-          (let works : at (d .chilled .works) i ≡ at (c .chilled .works) i = ap (λ (l : List ℕ). at l i) (t .works) in
-          let outs : at (d .chilled .outs) i ≡ at (c .chilled .outs) i = ap (λ (l : List ℕ). at l i) (t .outs) in
+          (let works : at (d .stores .chilled .works) i ≡ at (c .stores .chilled .works) i = ap (λ (l : List ℕ). at l i) (t .works) in
+          let outs : at (d .stores .chilled .outs) i ≡ at (c .stores .chilled .outs) i = ap (λ (l : List ℕ). at l i) (t .outs) in
           let old = s .light i in
           (omega (arith, old .0), omega (arith, old .1)));
       parents = rw (t .given, t .parents) (s .parents);

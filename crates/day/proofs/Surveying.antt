@@ -7,7 +7,9 @@ use native.Mathlib.Omega.{arith}
 use lib.ListN.{length, take}
 use lib.Seq.{getD-take}
 use borrow.Author.Tests.{eq-eqb}
+use Rattle.rules.specs.Kind.{chilled}
 use Rattle.rules.specs.Lists.{at, every, distinct}
+use Rattle.rules.specs.Tasks
 use Rattle.rules.specs.Peak.{Peaked, peaked, noPeak}
 use Rattle.rules.specs.Grounds as grounds
 use Rattle.rules.specs.Reachable.{Reachable}
@@ -15,7 +17,7 @@ use Rattle.rules.proofs.Formed.{Formed}
 use Rattle.rules.proofs.Reaching.{lives}
 use Rattle.words.specs.Contents.{Contents}
 use Rattle.words.proofs.Contents.{Lengths}
-use Rattle.store.specs.Rows.{activationOf}
+use Rattle.store.specs.Rows.{tasksOf, activationOf}
 use Rattle.survey.specs.Survey.{Ordered, orderGround, groundOf, peakedOf}
 use Rattle.answer.specs.Meaning.{meaning}
 use Rattle.answer.specs.Sound.{Noted, Sound}
@@ -58,25 +60,20 @@ module _ (c : Contents) (sound : Sound c) (long : Lengths c) (reached : Reachabl
   ground-is =
       ap₂ (λ (f : ℕ → ℕ) (l : List ℕ). orderGround (c .size) f l) (parents-meant c sound) order-is
 
-  peak-is :
-      grounds.peakedOf (meaning c)
-      ≡ peaked (c .size) (at (c .parents)) (at (c .chilled .works)) (at (c .chilled .outs)) (activationOf c)
-  unfolding grounds.peakedOf
+  peak-is : grounds.peaksOf (meaning c) .chilled ≡ Tasks.peaked (tasksOf c chilled) (activationOf c)
+  unfolding grounds.peaksOf
   peak-is =
       λ z.
       peaked (c .size) (parents-meant c sound z) (works-meant c sound z) (outs-meant c sound z) (order-is z)
 
   -- and, where there is none, the peak with its task
   module _ {high : Peaked} (is-high : high ≡ peakedOf c) (fine : groundOf c ≡ 0) where
-    pub high-is-peaked : high ≡ grounds.peakedOf (meaning c)
+    pub high-is-peaked : high ≡ grounds.peaksOf (meaning c) .chilled
     high-is-peaked =
         is-high
-        ∙ ap
-        (λ (b : Bool).
-        cond b (peaked (c .size) (at (c .parents)) (at (c .chilled .works)) (at (c .chilled .outs)) (activationOf c)) noPeak)
-        (eq-eqb (groundOf c) 0 fine)
+        ∙ ap (λ (b : Bool). cond b (Tasks.peaked (tasksOf c chilled) (activationOf c)) noPeak) (eq-eqb (groundOf c) 0 fine)
         ∙ sym peak-is
 
     pub high-is-peak : high .trays ≡ grounds.peakOf (meaning c)
-    unfolding grounds.peakOf grounds.peakedOf peaked
+    unfolding grounds.peakOf grounds.peakIn grounds.peaksOf peaked
     high-is-peak = ap (λ (p : Peaked). p .trays) high-is-peaked

@@ -7,13 +7,13 @@ use Rattle.rules.specs.Lists.{at}
 use Rattle.rules.specs.Booking.{Books, activate, starts, start, free}
 use Rattle.rules.specs.Answer.{front}
 use Rattle.words.specs.Contents.{Contents}
-use Rattle.store.specs.Rows.{books, activationOf, executionOf}
+use Rattle.store.specs.Rows.{books, termsIn, activationOf, executionOf}
 use Rattle.store.specs.Kept.{Kept, SamePlan}
 
 -- the books once the first waiting tasks are booked, and the tasks that start then
 abbrev pub bookedAhead : Contents → Books
 bookedAhead c =
-    activate (c .size) (at (c .parents)) (at (c .chilled .needs)) (c .chilled .bound) (activationOf c) (books c)
+    activate (c .size) (at (c .parents)) (termsIn c) (activationOf c) (books c)
 
 abbrev pub startsThen : Contents → List ℕ
 startsThen c =

@@ -5,6 +5,7 @@ use mathlib.Core.List.{List}
 use Prim.Native.Nat.{ℕ, _^_, _≤_, _<_}
 use lib.Dec.{eqb}
 use lib.ListN.{length}
+use Rattle.rules.specs.Kind
 use Rattle.rules.specs.Limits.{maxProcessors, leastStarts}
 use Rattle.rules.specs.Phase
 use Rattle.rules.specs.Obey.{fresh}
@@ -36,9 +37,9 @@ pub record SameTasks (c c′ : Contents) : Type 0 where
   pub places : c′ .places ≡ c .places
   pub activation : c′ .activation ≡ c .activation
   pub execution : c′ .execution ≡ c .execution
-  pub bound : c′ .chilled .bound ≡ c .chilled .bound
-  pub works : c′ .chilled .works ≡ c .chilled .works
-  pub outs : c′ .chilled .outs ≡ c .chilled .outs
+  pub bound : c′ .stores .chilled .bound ≡ c .stores .chilled .bound
+  pub works : c′ .stores .chilled .works ≡ c .stores .chilled .works
+  pub outs : c′ .stores .chilled .outs ≡ c .stores .chilled .outs
 
 -- a plan of which a part of the day is done, then booking ahead and starting: the day runs
 pub record Proceeded (c : Contents) (k : Books) (c′ : Contents) (list list′ : List ℕ) (count : ℕ) : Type 0 where
@@ -78,7 +79,7 @@ madeReady j c = withHead 0 Phase.ready (rootEnded j c)
 
 -- FETCH "frees it and leads to over"
 unfoldable pub madeOver : ℕ → Contents → Contents
-madeOver root c = withHead 0 Phase.over (withStore (heldAlone root 0 (c .chilled)) c)
+madeOver root c = withHead 0 Phase.over (withStore Kind.chilled (heldAlone root 0 (c .stores .chilled)) c)
 
 -- the plan with another bound of the cold room
 unfoldable pub withBound : ℕ → Contents → Contents
@@ -89,7 +90,7 @@ pub record MayResize (c : Contents) (bound : ℕ) (list : List ℕ) : Type 0 whe
   pub now : c .phase ≡ Phase.running
   pub kept : Kept c
   pub bounded : bound < 2 ^ 32
-  pub within : c .chilled .total ≤ bound
+  pub within : c .stores .chilled .total ≤ bound
   pub busy : c .active ≤ c .processors
   pub few : c .processors ≤ maxProcessors
   pub room : leastStarts ≤ length list

@@ -5,12 +5,13 @@ use mathlib.Core.Logic.{_↔_}
 use mathlib.Core.List.{List, [], _∷_, _++_}
 use Prim.Native.Nat.{ℕ, _≤_, _<_}
 use lib.ListN.{length}
+use Rattle.rules.specs.Kind.{Kind, chilled}
 use Rattle.rules.specs.Lists.{at}
 use Rattle.rules.specs.Phase
 use Rattle.rules.specs.Standing
-use Rattle.rules.specs.State.{State, none}
+use Rattle.rules.specs.State.{State, none, storeOf}
 use Rattle.rules.specs.Command.{plan, read, decode}
-use Rattle.rules.specs.Grounds.{peakOf}
+use Rattle.rules.specs.Grounds.{peakIn}
 use Rattle.rules.specs.Answer as rules
 use Rattle.rules.specs.Question as questions
 use Rattle.rules.specs.Why.{Reason, why}
@@ -132,16 +133,16 @@ answers-hold w happened day q =
           (λ (v : ℕ). (v ≡ Phase.ready) ↔ ((length (days.ends happened) ≡ planOf w .size) × (days.isFetched happened ≡ false)))
           (sym (q .phase-is)) (day .ready);
       over = subst (λ (v : ℕ). (v ≡ Phase.over) ↔ (days.isFetched happened ≡ true)) (sym (q .phase-is)) (day .over);
-      used = q .in-use-is ∙ day .store .used;
-      covered = subst₂ (λ (u v : ℕ). u ≤ v) (sym (q .in-use-is)) (sym (q .booked-is)) (day .store .covered);
-      within = subst (λ (v : ℕ). v ≤ planOf w .chilled .bound) (sym (q .booked-is)) (day .store .within);
+      used = q .in-use-is ∙ day .stores chilled .used;
+      covered = subst₂ (λ (u v : ℕ). u ≤ v) (sym (q .in-use-is)) (sym (q .booked-is)) (day .stores chilled .covered);
+      within = subst (λ (v : ℕ). v ≤ planOf w .stores .chilled .bound) (sym (q .booked-is)) (day .stores chilled .within);
       remains =
           λ now r t root.
-          let both = day .store .remains (sym (q .phase-is) ∙ now) r t root in
+          let both = day .stores chilled .remains (sym (q .phase-is) ∙ now) r t root in
           (q .booked-is ∙ both .0, q .in-use-is ∙ both .1);
       unloaded =
           λ now.
-          let both = day .store .unloaded (sym (q .phase-is) ∙ now) in (q .booked-is ∙ both .0, q .in-use-is ∙ both .1);
+          let both = day .stores chilled .unloaded (sym (q .phase-is) ∙ now) in (q .booked-is ∙ both .0, q .in-use-is ∙ both .1);
       running-tasks = ap (λ (l : List ℕ). at l Standing.running) (q .standing-is) ∙ day .countRunning;
       finished-tasks = ap (λ (l : List ℕ). at l Standing.finished) (q .standing-is) ∙ day .countEnded;
       all-finished = λ e. q .standing-is ∙ day .allEnded e;
@@ -192,16 +193,16 @@ module _ {w : List ℕ} (new : NewPlan w) (earlier : List Call) (opening : Call)
             subst₂ (λ (s t : State). SamePlan (completed s) t) (sym found) (sym stands)
             (theorem .plans (asked earlier) (opening .asking) (asked later) begins none-next);
         places =
-            subst (λ (l : List days.Event). planOf (leftBy w (earlier ++ opening ∷ later)) .chilled .bound ≡ days.inForce (planOf (leftBy w earlier) .chilled .bound) l)
+            subst (λ (l : List days.Event). planOf (leftBy w (earlier ++ opening ∷ later)) .stores .chilled .bound ≡ days.inForce (planOf (leftBy w earlier) .stores .chilled .bound) l)
             (sym log-is)
             (subst₂
             (λ (s t : State).
-            t .chilled .bound
-            ≡ days.inForce (s .chilled .bound) (days.log (days.after none (asked earlier)) (asked (opening ∷ later))))
+            t .stores .chilled .bound
+            ≡ days.inForce (s .stores .chilled .bound) (days.log (days.after none (asked earlier)) (asked (opening ∷ later))))
             (sym found) (sym stands)
             (theorem .places (asked earlier) (opening .asking) (asked later) begins none-next));
         fits =
-            subst (λ (s : State). peakOf s ≤ s .chilled .bound) (sym stands)
+            subst (λ (s : State). (k : Kind) → peakIn s (storeOf s k) ≤ storeOf s k .bound) (sym stands)
             (theorem .fits (asked earlier) (opening .asking) (asked later) begins none-next);
         questions = answers-hold (leftBy w (earlier ++ opening ∷ later)) (history (opening ∷ later)) day;
       }

@@ -5,13 +5,14 @@ use mathlib.Core.Logic.{_↔_}
 use mathlib.Core.List.{List, [], _∷_, _++_, map}
 use Prim.Native.Nat.{ℕ, _^_, _≤_, _<_}
 use lib.ListN.{length, take}
+use Rattle.rules.specs.Kind.{Kind}
 use Rattle.rules.specs.Sums.{Task, countTo}
 use Rattle.rules.specs.Lists.{at}
 use Rattle.rules.specs.Phase
 use Rattle.rules.specs.Standing
-use Rattle.rules.specs.State.{State, none}
+use Rattle.rules.specs.State.{State, none, storeOf}
 use Rattle.rules.specs.Command as rules
-use Rattle.rules.specs.Grounds.{inTurn, peakOf}
+use Rattle.rules.specs.Grounds.{inTurn, peakIn}
 use Rattle.rules.specs.Question as questions
 use Rattle.rules.specs.Why.{why}
 use Rattle.rules.specs.Reasons.{ReasonHolds}
@@ -56,16 +57,16 @@ pub record AnswersHold (w : List ℕ) (happened : List Event) (q : Answers w) : 
   pub over : (q .phase ≡ Phase.over) ↔ (isFetched happened ≡ true)
   -- trays in use are reckoned from the starts, the ends and the fetch; they are never more than trays booked, and these never more
   -- than places
-  pub used : q .inUse ≡ usedBy (planOf w) (planOf w .chilled) happened
+  pub used : q .inUse ≡ usedBy (planOf w) (planOf w .stores .chilled) happened
   pub covered : q .inUse ≤ q .booked
-  pub within : q .booked ≤ planOf w .chilled .bound
+  pub within : q .booked ≤ planOf w .stores .chilled .bound
   -- while the trolley stands, its load is all that is booked and in use, and once it is fetched nothing is
   pub remains :
       q .phase ≡ Phase.ready
       → (r : ℕ)
       → Task (planOf w .size) r
       → at (planOf w .parents) r ≡ 0
-      → (q .booked ≡ at (planOf w .chilled .outs) r) × (q .inUse ≡ at (planOf w .chilled .outs) r)
+      → (q .booked ≡ at (planOf w .stores .chilled .outs) r) × (q .inUse ≡ at (planOf w .stores .chilled .outs) r)
   pub unloaded : q .phase ≡ Phase.over → (q .booked ≡ 0) × (q .inUse ≡ 0)
   -- the standing counts the running and the ended steps of the day
   pub running-tasks : at (q .standing) Standing.running ≡ countTo (runs happened) (planOf w .size)
@@ -79,9 +80,10 @@ pub record DayOfCalls (w w′ : List ℕ) (happened : List Event) : Type 0 where
   pub orders : OrdersHold (planOf w′)
   -- the plan is the one that BEGIN found, with the activation order used for both where no 04 was given
   pub plan : SamePlan (completed (planOf w)) (planOf w′)
-  -- its places are those of the last accepted 08 of the day, or those that BEGIN found, and never below the peak
-  pub places : planOf w′ .chilled .bound ≡ inForce (planOf w .chilled .bound) happened
-  pub fits : peakOf (planOf w′) ≤ planOf w′ .chilled .bound
+  -- the places of its cold room are those of the last accepted 08 of the day, or those that BEGIN found, and those of no store are
+  -- below its peak
+  pub places : planOf w′ .stores .chilled .bound ≡ inForce (planOf w .stores .chilled .bound) happened
+  pub fits : (k : Kind) → peakIn (planOf w′) (storeOf (planOf w′) k) ≤ storeOf (planOf w′) k .bound
   -- and the questions answer what is promised of them in a day
   pub questions : (q : Answers w′) → AnswersHold w′ happened q
 
@@ -89,7 +91,7 @@ pub record DayOfCalls (w w′ : List ℕ) (happened : List Event) : Type 0 where
 pub record OpenedWith (n p m : ℕ) (s : State) : Type 0 where
   pub size : s .size ≡ n
   pub processors : s .processors ≡ p
-  pub bound : s .chilled .bound ≡ m
+  pub bound : s .stores .chilled .bound ≡ m
 
 -- what is promised of a list of calls on the words w
 pub record CallsHold (w : List ℕ) (calls : List Call) : Type 0 where

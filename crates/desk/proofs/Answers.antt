@@ -14,7 +14,7 @@ use Rattle.rules.proofs.Tests.{decide, clash, le-or-lt}
 use Rattle.rules.proofs.Orders.{within-task, task-within}
 use Rattle.desk.specs.declared.TaskRecord.{TaskRecord}
 use Rattle.desk.specs.Records.{stepRecord, stepRecords}
-use Rattle.desk.specs.Columns.{ofTask}
+use Rattle.desk.specs.Columns.{ofTask, columnTasks}
 use Rattle.desk.proofs.Padding.{padded, getD-padded}
 use Rattle.desk.proofs.Columns.{filled, filled-all}
 use Rattle.desk.proofs.Rowing.{of-task, of-other}
@@ -59,7 +59,9 @@ module _ (records : List StepRecord) (activation : List ℕ) where
   array field = ofTask n (padded 1025 (column field records))
 
   answers-padded :
-      deskAnswer n (array (λ r. r .parent)) (array (λ r. r .work)) (array (λ r. r .out)) activation ≡ desk records activation
+      deskAnswer
+      (record { size = n; parent = array (λ r. r .parent); work = array (λ r. r .work); out = array (λ r. r .out) }) activation
+      ≡ desk records activation
   unfolding desk
   answers-padded =
       ⊎-elim
@@ -80,8 +82,10 @@ length-steps records = length-map records stepRecord
 pub answers :
     (records : List TaskRecord) (activation : List ℕ) (c : ℕ)
     → c ≡ min (length records) maxTasks
-    → deskAnswer (length records) (ofTask (length records) (filled (λ r. r .parent) records c))
-    (ofTask (length records) (filled (λ r. r .work) records c)) (ofTask (length records) (filled (λ r. r .out) records c)) activation
+    → deskAnswer
+    (columnTasks (length records) (filled (λ r. r .parent) records c) (filled (λ r. r .work) records c)
+    (filled (λ r. r .out) records c))
+    activation
     ≡ desk (stepRecords records) activation
 answers records activation c e =
     rw (

@@ -44,8 +44,8 @@ pub record Writing (order : List ℕ) (w₀ w : List ℕ) (k : ℕ) : Type 0 whe
   pub long : length w ≡ words
   pub size : contents w .size ≡ contents w₀ .size
   pub parents : contents w .parents ≡ contents w₀ .parents
-  pub works : contents w .chilled .works ≡ contents w₀ .chilled .works
-  pub outs : contents w .chilled .outs ≡ contents w₀ .chilled .outs
+  pub works : contents w .stores .chilled .works ≡ contents w₀ .stores .chilled .works
+  pub outs : contents w .stores .chilled .outs ≡ contents w₀ .stores .chilled .outs
   pub first : take k (contents w .activation) ≡ take k order
   pub noted : distinct order ≡ true → (e : ℕ) → e < k → at (contents w .ranks) (at order e) ≡ e
 
@@ -102,8 +102,8 @@ module _ {order w₀ w w₁ w₂ : List ℕ} {k x : ℕ} (t : Writing order w₀
         long = noted-is .1;
         size = ap (λ (c : Contents). c .size) (noted-is .0) ∙ t .size;
         parents = ap (λ (c : Contents). c .parents) (noted-is .0) ∙ t .parents;
-        works = ap (λ (c : Contents). c .chilled .works) (noted-is .0) ∙ t .works;
-        outs = ap (λ (c : Contents). c .chilled .outs) (noted-is .0) ∙ t .outs;
+        works = ap (λ (c : Contents). c .stores .chilled .works) (noted-is .0) ∙ t .works;
+        outs = ap (λ (c : Contents). c .stores .chilled .outs) (noted-is .0) ∙ t .outs;
         first =
             ap (λ (c : Contents). take (k + 1) (c .activation)) (noted-is .0)
             ∙ rw (add-one k) (take-suc-set (contents w .activation) k x (omega (arith, few)))

@@ -8,6 +8,7 @@ use native.Mathlib.Omega.{arith}
 use lib.Dec.{leb}
 use lib.ListN.{length, set, replicate, length-replicate, getD-replicate, List·getD-eq-default}
 use lib.Seq.{getD-set-same, getD-set-other}
+use Rattle.rules.specs.Kind.{chilled}
 use Rattle.rules.specs.Sums.{everyTo}
 use Rattle.rules.specs.Lists.{at}
 use Rattle.rules.specs.Limits.{maxTasks}
@@ -153,12 +154,12 @@ module _ {n : ℕ} {parents works outs w : List ℕ} {i : ℕ} (t : Rowing n par
                   ∙ column-next parents (contents w .parents) i (lengths w .parents) fits (t .rowed .parent-is) j;
               work-is =
                   λ j.
-                  ap (λ (c : Contents). at (c .chilled .works) j) is
-                  ∙ column-next works (contents w .chilled .works) i (lengths w .works) fits (t .rowed .work-is) j;
+                  ap (λ (c : Contents). at (c .stores .chilled .works) j) is
+                  ∙ column-next works (contents w .stores .chilled .works) i (lengths w .works chilled) fits (t .rowed .work-is) j;
               out-is =
                   λ j.
-                  ap (λ (c : Contents). at (c .chilled .outs) j) is
-                  ∙ column-next outs (contents w .chilled .outs) i (lengths w .outs) fits (t .rowed .out-is) j;
+                  ap (λ (c : Contents). at (c .stores .chilled .outs) j) is
+                  ∙ column-next outs (contents w .stores .chilled .outs) i (lengths w .outs chilled) fits (t .rowed .out-is) j;
             };
       }
 

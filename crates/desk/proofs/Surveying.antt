@@ -32,7 +32,8 @@ pub record InLimits (n : ℕ) (par : ℕ → ℕ) (order : List ℕ) : Type 0 wh
 
 module _ (n : ℕ) (par work out : ℕ → ℕ) (order : List ℕ) where
   abbrev pub Answered : ℕ → Peak.Peaked → Type 0
-  Answered number peak = deskAnswer n par work out order ≡ record { number = number; peak = peak }
+  Answered number peak =
+      deskAnswer (record { size = n; parent = par; work = work; out = out }) order ≡ record { number = number; peak = peak }
 
   -- 4: each of the four tests that fails
   pub unequal : (length order ≡ n → ⊥) → Answered 4 Peak.noPeak
@@ -79,8 +80,8 @@ pub record Filled (n : ℕ) (par work out : ℕ → ℕ) (order : List ℕ) (c :
   pub once : distinct order ≡ true
   pub size : c .size ≡ n
   pub parents : at (c .parents) ≡ par
-  pub works : at (c .chilled .works) ≡ work
-  pub outs : at (c .chilled .outs) ≡ out
+  pub works : at (c .stores .chilled .works) ≡ work
+  pub outs : at (c .stores .chilled .outs) ≡ out
   pub first : take n (c .activation) ≡ order
   pub ranked : Ranked order (c .ranks)
 
@@ -150,8 +151,8 @@ module _ (n : ℕ) (parents works outs order w₁ w₂ : List ℕ) (rowed : Rows
         size = ordered .size ∙ ap (λ (c : Contents). c .size) (sized-is .0);
         parents = ap at (ordered .parents ∙ ap (λ (c : Contents). c .parents) (sized-is .0)) ∙ (λ z i. rowed .parent-is i z);
         works =
-            ap at (ordered .works ∙ ap (λ (c : Contents). c .chilled .works) (sized-is .0)) ∙ (λ z i. rowed .work-is i z);
-        outs = ap at (ordered .outs ∙ ap (λ (c : Contents). c .chilled .outs) (sized-is .0)) ∙ (λ z i. rowed .out-is i z);
+            ap at (ordered .works ∙ ap (λ (c : Contents). c .stores .chilled .works) (sized-is .0)) ∙ (λ z i. rowed .work-is i z);
+        outs = ap at (ordered .outs ∙ ap (λ (c : Contents). c .stores .chilled .outs) (sized-is .0)) ∙ (λ z i. rowed .out-is i z);
         first = ap (λ (k : ℕ). take k (contents w₃ .activation)) (sym (limits .whole)) ∙ ordered .first;
         ranked = ordered .ranked;
       }

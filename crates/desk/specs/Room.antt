@@ -35,8 +35,8 @@ withRow task parent work out c =
 pub record RowsWritten (n : ℕ) (parents works outs : List ℕ) (c : Contents) : Type 0 where
   pub long : c .extent ≡ words
   pub parent-is : (i : ℕ) → at (c .parents) i ≡ ofTask n parents i
-  pub work-is : (i : ℕ) → at (c .chilled .works) i ≡ ofTask n works i
-  pub out-is : (i : ℕ) → at (c .chilled .outs) i ≡ ofTask n outs i
+  pub work-is : (i : ℕ) → at (c .stores .chilled .works) i ≡ ofTask n works i
+  pub out-is : (i : ℕ) → at (c .stores .chilled .outs) i ≡ ofTask n outs i
 
 -- each entry is one of as many tasks as there are entries
 pub record Listed (order : List ℕ) : Type 0 where
@@ -57,7 +57,7 @@ pub record Ranked (order ranks : List ℕ) : Type 0 where
 pub record OrderWritten (order : List ℕ) (c c′ : Contents) : Type 0 where
   pub size : c′ .size ≡ c .size
   pub parents : c′ .parents ≡ c .parents
-  pub works : c′ .chilled .works ≡ c .chilled .works
-  pub outs : c′ .chilled .outs ≡ c .chilled .outs
+  pub works : c′ .stores .chilled .works ≡ c .stores .chilled .works
+  pub outs : c′ .stores .chilled .outs ≡ c .stores .chilled .outs
   pub first : take (length order) (c′ .activation) ≡ order
   pub ranked : Ranked order (c′ .ranks)

@@ -15,7 +15,7 @@ ghost use Rattle.rules.specs.Limits.{maxTasks};
 ghost use Rattle.rules.specs.Desk.{deskAnswer, desk};
 ghost use Rattle.words.specs.Layout.{words};
 ghost use Rattle.desk.specs.Records.{stepRecords, answerOf};
-ghost use Rattle.desk.specs.Columns.{ofTask};
+ghost use Rattle.desk.specs.Columns.{columnTasks};
 
 // "A record is parent, work and out": one task (step).
 #[repr(C)]
@@ -65,8 +65,8 @@ fn answer<'a>(
     room: &mut [u32; Plan::WORDS],
 ) -> DeskAnswer
     requires { ⌜ now room ≡ replicate words 0 ⌝ }
-    ensures { λ r. ⌜ deskAnswer n (ofTask n (now (parents .entry))) (ofTask n (now (works .entry))) (ofTask n (now (outs .entry)))
-        (now (activation .entry)) ≡ answerOf r ⌝ }
+    ensures { λ r. ⌜ deskAnswer (columnTasks n (now (parents .entry)) (now (works .entry)) (now (outs .entry))) (now (activation .entry))
+        ≡ answerOf r ⌝ }
 {
     if activation.len() != n {
         return refused(4);
@@ -109,8 +109,7 @@ fn assess(
     activation: &[u16],
     room: &mut [u32; Plan::WORDS],
 ) -> DeskAnswer
-    ensures { λ r. ⌜ (deskAnswer n (ofTask n parents) (ofTask n works) (ofTask n outs) (now (activation .entry))
-        ≡ answerOf r) × (now (room .exit) ≡ replicate words 0) ⌝ }
+    ensures { λ r. ⌜ (deskAnswer (columnTasks n parents works outs) (now (activation .entry)) ≡ answerOf r) × (now (room .exit) ≡ replicate words 0) ⌝ }
 {
     empty(room);
     let answered = answer(n, &parents, &works, &outs, activation, room);

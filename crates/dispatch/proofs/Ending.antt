@@ -9,6 +9,8 @@ use lib.Dec.{eqb}
 use lib.ListN.{length, set, length-set}
 use lib.Seq.{getD-set-same, getD-set-other}
 use borrow.Author.Tests.{eq-eqb, ne-eqb}
+use Rattle.rules.specs.Kind.{Kind, Each, of, each}
+use Rattle.rules.specs.Kind
 use Rattle.rules.specs.Sums.{Task, only, sumTo}
 use Rattle.rules.specs.Lists.{at}
 use Rattle.rules.specs.Need.{need}
@@ -24,14 +26,14 @@ use Rattle.rules.proofs.Balance.{finished-figure}
 use Rattle.rules.proofs.Usage.{in-process-within}
 use Rattle.rules.proofs.Finishing.{Taken, finishing-shape, finishing-balance, finishing-total, figure-taken, figure-kept, out-within}
 use Rattle.rules.proofs.Branches.{release-child}
-use Rattle.rules.proofs.Sharing.{climbs, sharing-good}
+use Rattle.rules.proofs.Sharing.{Owing, climbs, sharing-good}
 use Rattle.rules.proofs.Entries.{at-other, moved-by-set}
 use Rattle.rules.proofs.Reporting.{one-fewer, one-more-ended}
 use Rattle.words.specs.Layout.{rows}
 use Rattle.words.specs.Contents.{Contents}
 use Rattle.words.specs.Marks.{Marks, changed}
 use Rattle.words.proofs.Contents.{Lengths}
-use Rattle.store.specs.Rows.{rowsOf, ZeroPast, booksIn, books, activationOf, executionOf}
+use Rattle.store.specs.Rows.{rowsOf, ZeroPast, booksIn, books, termsIn, activationOf, executionOf}
 use Rattle.store.specs.Cached.{partialFigure, partialFigureWith, unendedChildren, isReadyAt, Reached, inProcessBy}
 use Rattle.store.specs.Kept.{DayInvariant, Kept}
 use Rattle.store.specs.Store.{grown, fewer}
@@ -82,16 +84,16 @@ module _ {c : Contents} {j : ℕ} (may : MayFinish c j) (long : Lengths c) where
   par = at (c .parents)
 
   abbrev needs : ℕ → ℕ
-  needs = at (c .chilled .needs)
+  needs = at (c .stores .chilled .needs)
 
   abbrev outs : ℕ → ℕ
-  outs = at (c .chilled .outs)
+  outs = at (c .stores .chilled .outs)
 
   abbrev booked : List ℕ
-  booked = c .chilled .booked
+  booked = c .stores .chilled .booked
 
   abbrev figures : List ℕ
-  figures = c .chilled .figures
+  figures = c .stores .chilled .figures
 
   abbrev standings : List ℕ
   standings = c .standings
@@ -104,18 +106,18 @@ module _ {c : Contents} {j : ℕ} (may : MayFinish c j) (long : Lengths c) where
 
   -- what its parent keeps, what is booked then, and what goes up
   abbrev given : ℕ
-  given = at (c .chilled .outs) j
+  given = at (c .stores .chilled .outs) j
 
   abbrev taken : List ℕ
-  taken = set (c .chilled .booked) j 0
+  taken = set (c .stores .chilled .booked) j 0
 
   abbrev shared : List ℕ
-  shared = sharedWith (c .chilled .booked) j (at (c .parents) j) (at (c .chilled .outs) j)
+  shared = sharedWith (c .stores .chilled .booked) j (at (c .parents) j) (at (c .stores .chilled .outs) j)
 
   abbrev rest : ℕ
-  rest = restOf (c .chilled .booked) j (at (c .chilled .outs) j)
+  rest = restOf (c .stores .chilled .booked) j (at (c .stores .chilled .outs) j)
 
-  day : DayInvariant (c .size) (at (c .parents)) (at (c .chilled .needs)) (at (c .chilled .outs)) (activationOf c) (c .chilled .bound) (books c)
+  day : DayInvariant (c .size) (at (c .parents)) (termsIn c) (activationOf c) (books c)
   day = may .kept .invariant
 
   tree : Tree n par rank
@@ -135,7 +137,7 @@ module _ {c : Contents} {j : ℕ} (may : MayFinish c j) (long : Lengths c) where
   standings-rows = rows-is n standings (may .kept .cached .standings-zero)
 
   booked-rows : at (rowsOf n booked) ≡ at booked
-  booked-rows = rows-is n booked (may .kept .cached .store .booked-zero)
+  booked-rows = rows-is n booked (may .kept .cached .stores Kind.chilled .booked-zero)
 
   runs-there : at (rowsOf n standings) j ≡ running
   runs-there = at-rows n standings j (may .task .high) ∙ may .runs
@@ -146,7 +148,7 @@ module _ {c : Contents} {j : ℕ} (may : MayFinish c j) (long : Lengths c) where
   balanced : Balanced n par needs outs (at standings) (at booked)
   balanced =
       subst (λ (st : ℕ → ℕ). Balanced n par needs outs st (at booked)) standings-rows
-      (subst (λ (b : ℕ → ℕ). Balanced n par needs outs (at (rowsOf n standings)) b) booked-rows (day .good .stock .books))
+      (subst (λ (b : ℕ → ℕ). Balanced n par needs outs (at (rowsOf n standings)) b) booked-rows (day .good .stock Kind.chilled .books))
 
   moved : Moved n (at standings) (at then) j finished
   moved =
@@ -157,42 +159,42 @@ module _ {c : Contents} {j : ℕ} (may : MayFinish c j) (long : Lengths c) where
 
   -- what is taken, and what the parent keeps
   taken-there : at taken j ≡ 0
-  taken-there = getD-set-same booked j 0 0 (let z = long .booked in let i = task-in in omega arith)
+  taken-there = getD-set-same booked j 0 0 (let z = long .booked Kind.chilled in let i = task-in in omega arith)
 
   taken-others : (i : ℕ) → Task n i → (i ≡ j → ⊥) → at taken i ≡ at booked i
   taken-others i _ d = getD-set-other booked j i 0 0 d
 
   shared-size : length shared ≡ rows
-  shared-size = grown-length taken (par j) given ∙ length-set booked j 0 ∙ long .booked
+  shared-size = grown-length taken (par j) given ∙ length-set booked j 0 ∙ long .booked Kind.chilled
 
   gave : (i : ℕ) → Task n i → at shared i ≡ at taken i + only (eqb (par j) i) given
   gave i t =
-      grown-at taken (par j) given i (let z = length-set booked j 0 ∙ long .booked in let p = parent-in in omega arith) (t .low)
+      grown-at taken (par j) given i (let z = length-set booked j 0 ∙ long .booked Kind.chilled in let p = parent-in in omega arith) (t .low)
 
   ends : Taken n par outs (at booked) (at taken) (at shared) j rest
   ends =
       record { taken = record { there = taken-there; elsewhere = taken-others }; gave = gave; rest = refl }
 
-  pub out-held : at (c .chilled .outs) j ≤ at (c .chilled .booked) j
+  pub out-held : at (c .stores .chilled .outs) j ≤ at (c .stores .chilled .booked) j
   out-held =
       out-within n par rank tree (at standings) (at then) shape j (may .task) (may .runs) moved (may .higher) needs outs (at booked) (at taken)
-      (at shared) rest (day .roomy) balanced ends
+      (at shared) rest (day .roomy Kind.chilled) balanced ends
 
   total-shared : sumTo (at shared) n + rest ≡ sumTo (at booked) n
   total-shared =
       finishing-total n par rank tree (at standings) (at then) shape j (may .task) (may .runs) moved (may .higher) needs outs (at booked)
-      (at taken) (at shared) rest (day .roomy) balanced ends
+      (at taken) (at shared) rest (day .roomy Kind.chilled) balanced ends
 
-  within-bound : total n (at shared) + rest ≤ c .chilled .bound
+  within-bound : total n (at shared) + rest ≤ c .stores .chilled .bound
   unfolding total
   within-bound =
       let t = total-shared in
-      let w = day .good .stock .within in
+      let w = day .good .stock Kind.chilled .within in
       let f : total n (at (rowsOf n booked)) ≡ total n (at booked) = ap (total n) booked-rows in
       omega arith
 
   -- the parent's trays stay within 32 bits
-  pub parent-fits : at (set (c .chilled .booked) j 0) (at (c .parents) j) + at (c .chilled .outs) j < 2 ^ 32
+  pub parent-fits : at (set (c .stores .chilled .booked) j 0) (at (c .parents) j) + at (c .stores .chilled .outs) j < 2 ^ 32
   unfolding total
   parent-fits =
       let u = parent-task in
@@ -200,7 +202,7 @@ module _ {c : Contents} {j : ℕ} (may : MayFinish c j) (long : Lengths c) where
       let o = only-true (eqb (par j) (par j)) given (eq-eqb (par j) (par j) refl) in
       let one = term-le (at shared) n (par j) u in
       let w = within-bound in
-      let b = day .bounded in
+      let b = day .bounded Kind.chilled in
       omega arith
 
   -- nobody above j has begun
@@ -221,11 +223,11 @@ module _ {c : Contents} {j : ℕ} (may : MayFinish c j) (long : Lengths c) where
       let parts : rest + given ≡ at booked j = (let k = out-held in omega arith) in
       let before =
       figure-taken n par rank tree (at standings) (at then) shape j (may .task) (may .runs) moved (may .higher) needs outs (at booked)
-      (at taken) (at shared) rest (day .roomy) balanced ends
+      (at taken) (at shared) rest (day .roomy Kind.chilled) balanced ends
       in
       let later =
       figure-kept n par rank tree (at standings) (at then) shape j (may .task) (may .runs) moved (may .higher) needs outs (at booked)
-      (at taken) (at shared) rest (day .roomy) balanced ends
+      (at taken) (at shared) rest (day .roomy Kind.chilled) balanced ends
       in
       let below : (k : ℕ) → Task n k → par k ≡ j → figure n par (at booked) k ≡ 0 =
       λ k u e.
@@ -233,13 +235,13 @@ module _ {c : Contents} {j : ℕ} (may : MayFinish c j) (long : Lengths c) where
       (shape .fed j k (may .task) u e (let r = may .runs in omega arith))
       in
       let was : at figures a ≡ partialFigure n par (at standings) (at booked) a =
-      may .kept .cached .store .figured a t
+      may .kept .cached .stores Kind.chilled .figured a t
       ∙ ap₂ (λ (st b : ℕ → ℕ). partialFigure n par st b a) standings-rows booked-rows
       in
       ⊎-elim
       (λ e.
       ap (at (set figures j 0)) e
-      ∙ getD-set-same figures j 0 0 (let z = long .figures in let i = task-in in omega arith)
+      ∙ getD-set-same figures j 0 0 (let z = long .figures Kind.chilled in let i = task-in in omega arith)
       ∙ sym
       (ap (partialFigureWith n par (at then) (at shared) j rest) e
       ∙ partial-taken-there n par rank tree (at standings) (at then) (at booked) (at taken) (at shared) j rest given shape
@@ -254,9 +256,9 @@ module _ {c : Contents} {j : ℕ} (may : MayFinish c j) (long : Lengths c) where
 
   -- what is asked of the climb
   pub carrying :
-      Carrying (c .size) (at (c .parents)) (at (c .chilled .needs)) (at (set (c .standings) j finished))
-      (at (sharedWith (c .chilled .booked) j (at (c .parents) j) (at (c .chilled .outs) j))) (at (set (c .chilled .figures) j 0)) j
-      (restOf (c .chilled .booked) j (at (c .chilled .outs) j))
+      Carrying (c .size) (at (c .parents)) (at (c .stores .chilled .needs)) (at (set (c .standings) j finished))
+      (at (sharedWith (c .stores .chilled .booked) j (at (c .parents) j) (at (c .stores .chilled .outs) j))) (at (set (c .stores .chilled .figures) j 0)) j
+      (restOf (c .stores .chilled .booked) j (at (c .stores .chilled .outs) j))
   carrying =
       record {
         small = day .small;
@@ -266,14 +268,14 @@ module _ {c : Contents} {j : ℕ} (may : MayFinish c j) (long : Lengths c) where
         tree = tree;
         shape = finishing-shape n par rank tree (at standings) (at then) shape j (may .task) (may .runs) moved;
         out = outs;
-        roomy = day .roomy;
+        roomy = day .roomy Kind.chilled;
         owed =
             finishing-balance n par rank tree (at standings) (at then) shape j (may .task) (may .runs) moved (may .higher) needs outs (at booked)
-            (at taken) (at shared) rest (day .roomy) balanced ends;
+            (at taken) (at shared) rest (day .roomy Kind.chilled) balanced ends;
         idle = idle;
         figured = figures-in-air;
-        bound = c .chilled .bound;
-        bounded = day .bounded;
+        bound = c .stores .chilled .bound;
+        bounded = day .bounded Kind.chilled;
         within = within-bound;
       }
 
@@ -437,53 +439,53 @@ module _ {c : Contents} {j : ℕ} (may : MayFinish c j) (long : Lengths c) where
       (le-or-lt (at (rowsOf n standings) i) activated)
 
   abbrev works : ℕ → ℕ
-  works = at (c .chilled .works)
+  works = at (c .stores .chilled .works)
 
   same-need : needs ≡ need n par works outs
-  same-need = fun-ext (may .kept .cached .store .needed)
+  same-need = fun-ext (may .kept .cached .stores Kind.chilled .needed)
 
   -- its need is in use
-  pub used-has : at (c .chilled .needs) j ≤ c .chilled .used
+  pub used-has : at (c .stores .chilled .needs) j ≤ c .stores .chilled .used
   used-has =
       let h = used-holds n par works outs (λ i _. day .parents i) (at (rowsOf n standings)) j (may .task) runs-there in
-      let u = may .kept .cached .store .uses in
-      let e = may .kept .cached .store .needed j in
+      let u = may .kept .cached .stores Kind.chilled .uses in
+      let e = may .kept .cached .stores Kind.chilled .needed j in
       omega arith
 
   -- what is in use is booked, and within the bound
-  used-within : c .chilled .used ≤ c .chilled .bound
+  used-within : c .stores .chilled .used ≤ c .stores .chilled .bound
   used-within =
       let w =
       in-process-within n par rank tree works outs (at (rowsOf n standings)) (at (rowsOf n booked)) (day .good .shape)
-      (subst (λ (f : ℕ → ℕ). Balanced n par f outs (at (rowsOf n standings)) (at (rowsOf n booked))) same-need (day .good .stock .books))
+      (subst (λ (f : ℕ → ℕ). Balanced n par f outs (at (rowsOf n standings)) (at (rowsOf n booked))) same-need (day .good .stock Kind.chilled .books))
       in
-      let u = may .kept .cached .store .uses in
-      let g = day .good .stock .within in
+      let u = may .kept .cached .stores Kind.chilled .uses in
+      let g = day .good .stock Kind.chilled .within in
       omega arith
 
   pub used-fits :
-      c .chilled .used - at (c .chilled .needs) j + at (c .chilled .outs) j < 2 ^ 32
+      c .stores .chilled .used - at (c .stores .chilled .needs) j + at (c .stores .chilled .outs) j < 2 ^ 32
   used-fits =
-      let o = day .roomy j (may .task) in
+      let o = day .roomy Kind.chilled j (may .task) in
       let u = used-within in
-      let f = day .bounded in
+      let f = day .bounded Kind.chilled in
       let e = used-has in
       omega arith
 
   -- what is in use then
   pub used-then :
-      c .chilled .used - at (c .chilled .needs) j + at (c .chilled .outs) j
-      ≡ inProcessBy (c .size) (at (c .parents)) (at (c .chilled .works)) (at (c .chilled .outs))
+      c .stores .chilled .used - at (c .stores .chilled .needs) j + at (c .stores .chilled .outs) j
+      ≡ inProcessBy (c .size) (at (c .parents)) (at (c .stores .chilled .works)) (at (c .stores .chilled .outs))
       (at (rowsOf (c .size) (set (c .standings) j finished)))
   used-then =
       let e =
       used-ended n par works outs (λ i _. day .parents i) (at (rowsOf n standings)) (at (set (rowsOf n standings) j finished)) j
       (may .task) runs-there (may .higher) parent-idle moved-rows
       in
-      let u = may .kept .cached .store .uses in
-      let m = may .kept .cached .store .needed j in
+      let u = may .kept .cached .stores Kind.chilled .uses in
+      let m = may .kept .cached .stores Kind.chilled .needed j in
       let h = used-has in
-      let there : c .chilled .used - needs j + given ≡ inProcessBy n par works outs (at (set (rowsOf n standings) j finished)) = omega arith in
+      let there : c .stores .chilled .used - needs j + given ≡ inProcessBy n par works outs (at (set (rowsOf n standings) j finished)) = omega arith in
       there ∙ ap (λ (l : List ℕ). inProcessBy n par works outs (at l)) (sym rows-then)
 
   -- one fewer runs, and one more has ended
@@ -508,7 +510,7 @@ module _ {c : Contents} {j : ℕ} (may : MayFinish c j) (long : Lengths c) where
   -- booking ahead has come as far as before
   pub reached-then :
       (booked′ : List ℕ)
-      → Reached (c .size) (activationOf c) (booksIn (c .size) (set (c .standings) j finished) booked′) (c .next)
+      → Reached (c .size) (activationOf c) (booksIn (c .size) (set (c .standings) j finished) (λ _. booked′)) (c .next)
   reached-then booked′ =
       record {
         within = may .kept .cached .reached .within;
@@ -531,7 +533,7 @@ module _ {c : Contents} {j : ℕ} (may : MayFinish c j) (long : Lengths c) where
       there = ap (λ (l : List ℕ). at l j) rows-then ∙ moved-rows .there
 
   -- what the columns share out is what the rules do
-  released : shareOf n rest shared ≡ release par outs (rowsOf n booked) j
+  released : shareOf n rest shared .chilled ≡ release par outs (rowsOf n booked) j
   released =
       let high = may .task .high in
       let own : at (rowsOf n booked) j ≡ at booked j = at-rows n booked j high in
@@ -550,58 +552,65 @@ module _ {c : Contents} {j : ℕ} (may : MayFinish c j) (long : Lengths c) where
       ∙ sym (release-child par outs (rowsOf n booked) j (ne-eqb (par j) 0 (may .higher)))
 
   -- and so the climb is that of the rules
-  same-goal : climb n par needs (at then) (chain n par (par j)) (shareOf n rest shared) ≡ dispatchedFrom c j
+  same-goal : climb n par (termsIn c) (at then) (chain n par (par j)) (shareOf n rest shared) ≡ dispatchedFrom c j
   unfolding dispatch
   same-goal =
-      ap (climb n par needs (at then) (chain n par (par j))) released
-      ∙ ap (λ (f : ℕ → ℕ). dispatch n par needs f outs (rowsOf n booked) j) (sym (ap at (sym rows-then) ∙ then-rows))
+      ap (climb n par (termsIn c) (at then) (chain n par (par j))) (λ i. record { chilled = released i })
+      ∙ ap (λ (f : ℕ → ℕ). dispatch n par (termsIn c) f (books c .booked) j) (sym (ap at (sym rows-then) ∙ then-rows))
 
   shared-zero : ZeroPast n shared
   shared-zero =
       grown-zero n taken (par j) given (day .parents j)
-      (zero-set n booked j 0 (may .task .high) (may .kept .cached .store .booked-zero))
+      (zero-set n booked j 0 (may .task .high) (may .kept .cached .stores Kind.chilled .booked-zero))
 
   -- after the climb
   module _ {offers left : ℕ} {booked′ figures′ : List ℕ}
       (climbed :
       Carried (c .size) (at (c .parents)) (at (set (c .standings) j finished))
-      (climb (c .size) (at (c .parents)) (at (c .chilled .needs)) (at (set (c .standings) j finished))
+      (climb (c .size) (at (c .parents)) (termsIn c) (at (set (c .standings) j finished))
       (chain (c .size) (at (c .parents)) (at (c .parents) j))
-      (shareOf (c .size) (restOf (c .chilled .booked) j (at (c .chilled .outs) j))
-      (sharedWith (c .chilled .booked) j (at (c .parents) j) (at (c .chilled .outs) j))))
-      (sharedWith (c .chilled .booked) j (at (c .parents) j) (at (c .chilled .outs) j)) booked′ figures′ offers left) where
+      (shareOf (c .size) (restOf (c .stores .chilled .booked) j (at (c .stores .chilled .outs) j))
+      (sharedWith (c .stores .chilled .booked) j (at (c .parents) j) (at (c .stores .chilled .outs) j))))
+      (sharedWith (c .stores .chilled .booked) j (at (c .parents) j) (at (c .stores .chilled .outs) j)) booked′ figures′ offers left) where
     pub booked-zero : ZeroPast (c .size) booked′
     booked-zero a h = climbed .past a h ∙ shared-zero a h
 
+    -- what goes up is owed to those above
+    owing :
+        (d : Kind)
+        → Owing n par (termsIn c d .need) (termsIn c d .out) (at then) (chain n par (par j)) (of (shareOf n rest shared) d)
+    unfolding carrying
+    owing Kind.chilled =
+        let z = shared-size in
+        let s = day .small in
+        record {
+          sized = rows-length n shared (omega arith);
+          books =
+              subst (λ (b : ℕ → ℕ). Balance n par needs outs (at then) b (chain n par (par j)) rest)
+              (sym (rows-is n shared shared-zero)) (carrying .owed);
+        }
+
     -- what is left is free
-    total-then : total n (at (rowsOf n booked′)) + left ≡ c .chilled .total
+    total-then : total n (at (rowsOf n booked′)) + left ≡ c .stores .chilled .total
     unfolding total carrying
     total-then =
         let shared-rows = rows-is n shared shared-zero in
-        let k = carrying in
-        let z = shared-size in
-        let s = day .small in
         let all =
-        climbs n par rank tree needs outs (day .roomy) (at then) (k .shape) (chain n par (par j)) (par j) (shareOf n rest shared)
-        refl (day .parents j) idle
-        (record {
-          sized = rows-length n shared (omega arith);
-          books =
-              subst (λ (b : ℕ → ℕ). Balance n par needs outs (at then) b (chain n par (par j)) rest) (sym shared-rows) (k .owed);
-        })
+        climbs n par rank tree (termsIn c) (day .roomy) (at then) (carrying .shape) (chain n par (par j)) (par j) (shareOf n rest shared)
+        refl (day .parents j) idle owing Kind.chilled
         .all
         in
-        let new = ap (λ (s : Share). total n (at (s .booked)) + s .left) (climbed .share) in
+        let new = ap (λ (s : Each Share). total n (at (s .chilled .booked)) + s .chilled .left) (climbed .share) in
         let old : total n (at (rowsOf n shared)) ≡ total n (at shared) = ap (total n) shared-rows in
         let before : total n (at (rowsOf n booked)) ≡ total n (at booked) = ap (total n) booked-rows in
         let t = total-shared in
-        let m = may .kept .cached .store .totals in
+        let m = may .kept .cached .stores Kind.chilled .totals in
         omega arith
 
-    pub left-fits : left ≤ c .chilled .total
+    pub left-fits : left ≤ c .stores .chilled .total
     left-fits = let t = total-then in omega arith
 
-    pub totals-then : c .chilled .total - left ≡ total (c .size) (at (rowsOf (c .size) booked′))
+    pub totals-then : c .stores .chilled .total - left ≡ total (c .size) (at (rowsOf (c .size) booked′))
     totals-then = let t = total-then in omega arith
 
     pub figured-then :
@@ -614,18 +623,22 @@ module _ {c : Contents} {j : ℕ} (may : MayFinish c j) (long : Lengths c) where
         ∙ ap₂ (λ (st b : ℕ → ℕ). partialFigure n par st b i) (sym then-rows) (sym (rows-is n booked′ booked-zero))
 
     pub books-then :
-        booksIn (c .size) (set (c .standings) j finished) booked′
-        ≡ record { standings = set (books c .standings) j finished; booked = dispatchedFrom c j .share .booked }
+        booksIn (c .size) (set (c .standings) j finished) (λ _. booked′)
+        ≡ record {
+          standings = set (books c .standings) j finished;
+          booked = each (λ k. of (dispatchedFrom c j .share) k .booked);
+        }
     books-then =
-        ap₂ (λ (s t : List ℕ). record { standings = s; booked = t }) rows-then
-        (ap (λ (s : Share). s .booked) (climbed .share) ∙ ap (λ (k : Climbed). k .share .booked) same-goal)
+        ap₂ (λ (s : List ℕ) (b : Each (List ℕ)). record { standings = s; booked = b }) rows-then
+        (ap (λ (s : Each Share). each (λ k. of s k .booked)) (climbed .share)
+        ∙ ap (λ (goal : Climbed). each (λ k. of (goal .share) k .booked)) same-goal)
 
     pub offers-then : offers ≡ length (dispatchedFrom c j .offered)
     offers-then = climbed .offered ∙ ap (λ (k : Climbed). length (k .offered)) same-goal
 
     pub good-then :
-        DayInvariant (c .size) (at (c .parents)) (at (c .chilled .needs)) (at (c .chilled .outs)) (activationOf c) (c .chilled .bound)
-        (booksIn (c .size) (set (c .standings) j finished) booked′)
+        DayInvariant (c .size) (at (c .parents)) (termsIn c) (activationOf c)
+        (booksIn (c .size) (set (c .standings) j finished) (λ _. booked′))
     good-then =
         record {
           small = day .small;
@@ -634,7 +647,6 @@ module _ {c : Contents} {j : ℕ} (may : MayFinish c j) (long : Lengths c) where
           parents = day .parents;
           roomy = day .roomy;
           good =
-              subst (λ (k : Books). Good n par rank needs outs (c .chilled .bound) k) (sym books-then)
-              (sharing-good n par rank tree needs outs (day .roomy) (c .chilled .bound) (books c) (day .good) j (may .task)
-              runs-there (may .higher));
+              subst (λ (b : Books). Good n par rank (termsIn c) b) (sym books-then)
+              (sharing-good n par rank tree (termsIn c) (day .roomy) (books c) (day .good) j (may .task) runs-there (may .higher));
         }

@@ -4,12 +4,14 @@ use Prim.Native.Nat.{ℕ, _+_, _-_, _≤_, _<_}
 use native.Mathlib.Omega.{arith}
 use lib.ListN.{length, set}
 use lib.Seq.{getD-set-other}
+use Rattle.rules.specs.Kind
 use Rattle.rules.specs.Lists.{at}
 use Rattle.rules.specs.Standing.{waiting}
 use Rattle.rules.specs.Booking.{chain}
 use Rattle.words.specs.Layout.{rows}
 use Rattle.words.specs.Contents.{Contents}
 use Rattle.words.proofs.Contents.{Lengths}
+use Rattle.store.specs.Rows.{termsIn}
 use Rattle.store.specs.Store.{withStore, withHoldings, AtTask, gift, passed, MayPass, rested}
 use Rattle.dispatch.specs.Climb.{MayClimb, climbFrom, withCarried, DidClimb}
 use Rattle.dispatch.proofs.Way.{
@@ -28,11 +30,11 @@ use Rattle.dispatch.proofs.Way.{
 
 -- between two turns: i is the next task, `left` goes up, and nothing else has changed
 pub record Climbing (x r : ℕ) (c₀ c : Contents) (i left offers : ℕ) : Type 0 where
-  pub same : c ≡ withCarried (c .chilled .booked) (c .chilled .figures) c₀
+  pub same : c ≡ withCarried (c .stores .chilled .booked) (c .stores .chilled .figures) c₀
   pub way :
-      Way (c₀ .size) (at (c₀ .parents)) (at (c₀ .chilled .needs)) (at (c₀ .standings)) (climbFrom x r c₀) (c₀ .chilled .booked)
-      (c .chilled .booked) (c .chilled .figures) i left offers
-  pub past : (a : ℕ) → c₀ .size < a → at (c .chilled .figures) a ≡ at (c₀ .chilled .figures) a
+      Way (c₀ .size) (at (c₀ .parents)) (termsIn c₀) (at (c₀ .standings)) (climbFrom x r c₀) (c₀ .stores .chilled .booked)
+      (c .stores .chilled .booked) (c .stores .chilled .figures) i left offers
+  pub past : (a : ℕ) → c₀ .size < a → at (c .stores .chilled .figures) a ≡ at (c₀ .stores .chilled .figures) a
 
 -- the tasks that are still above
 abbrev pub above : Contents → ℕ → ℕ
@@ -50,11 +52,11 @@ module _ {store x r : ℕ} {c₀ : Contents} (may : MayClimb store x r c₀) whe
         way =
             subst
             (λ (k : ℕ).
-            Way (c₀ .size) (at (c₀ .parents)) (at (c₀ .chilled .needs)) (at (c₀ .standings)) (climbFrom x r c₀) (c₀ .chilled .booked)
-            (c₀ .chilled .booked) (c₀ .chilled .figures) k r 0)
+            Way (c₀ .size) (at (c₀ .parents)) (termsIn c₀) (at (c₀ .standings)) (climbFrom x r c₀) (c₀ .stores .chilled .booked)
+            (c₀ .stores .chilled .booked) (c₀ .stores .chilled .figures) k r 0)
             (sym e)
-            (way-first (c₀ .size) (at (c₀ .parents)) (at (c₀ .chilled .needs)) (at (c₀ .standings)) (c₀ .chilled .booked)
-            (c₀ .chilled .figures) x r (may .carrying) (long .booked) (long .figures));
+            (way-first (c₀ .size) (at (c₀ .parents)) (termsIn c₀) (at (c₀ .standings)) (c₀ .stores .chilled .booked)
+            (c₀ .stores .chilled .figures) x r (may .carrying) (long .booked Kind.chilled) (long .figures Kind.chilled));
         past = λ _ _. refl;
       }
 
@@ -72,14 +74,15 @@ module _ {store x r : ℕ} {c₀ : Contents} (may : MayClimb store x r c₀) whe
         record {
           long = ap (λ (d : Contents). d .extent) (climbing .same) ∙ may .long;
           offset = may .offset;
+          inside = (let o = may .offset in omega arith);
           task-in = turn-in;
         }
 
     -- a figure of a task is written
-    past-set : (v : ℕ) (a : ℕ) → c₀ .size < a → at (set (c .chilled .figures) i v) a ≡ at (c₀ .chilled .figures) a
+    past-set : (v : ℕ) (a : ℕ) → c₀ .size < a → at (set (c .stores .chilled .figures) i v) a ≡ at (c₀ .stores .chilled .figures) a
     past-set v a h =
         let m = climbing .way .inside in
-        getD-set-other (c .chilled .figures) i a v 0 (λ e. omega arith) ∙ climbing .past a h
+        getD-set-other (c .stores .chilled .figures) i a v 0 (λ e. omega arith) ∙ climbing .past a h
 
     -- past the root
     pub climb-root : i ≡ 0 → DidClimb x r c₀ c offers left
@@ -95,18 +98,18 @@ module _ {store x r : ℕ} {c₀ : Contents} (may : MayClimb store x r c₀) whe
         still : at (c₀ .standings) i ≡ waiting
         still = sym standing-is ∙ waits
 
-        pub may-rest : AtTask store i c × (left ≤ at (c .chilled .figures) i)
+        pub may-rest : AtTask store i c × (left ≤ at (c .stores .chilled .figures) i)
         may-rest = (at-task, waiting-room (climbing .way) higher still)
 
-        pub climb-waiting : {c′ : Contents} → c′ ≡ withStore (rested i left (c .chilled)) c → DidClimb x r c₀ c′ offers left
+        pub climb-waiting : {c′ : Contents} → c′ ≡ withStore Kind.chilled (rested i left (c .stores .chilled)) c → DidClimb x r c₀ c′ offers left
         unfolding withStore withHoldings rested
         climb-waiting e =
             subst (λ (d : Contents). DidClimb x r c₀ d offers left) (sym e)
             (record {
               same =
-                  ap (withCarried (rested i left (c .chilled) .booked) (rested i left (c .chilled) .figures)) (climbing .same);
+                  ap (withCarried (rested i left (c .stores .chilled) .booked) (rested i left (c .stores .chilled) .figures)) (climbing .same);
               carried = way-waiting (climbing .way) higher still;
-              past = past-set (at (c .chilled .figures) i - left);
+              past = past-set (at (c .stores .chilled .figures) i - left);
             })
 
       -- a task that is offered what it lacks
@@ -114,21 +117,21 @@ module _ {store x r : ℕ} {c₀ : Contents} (may : MayClimb store x r c₀) whe
         active : at (c₀ .standings) i ≡ waiting → ⊥
         active w = busy (standing-is ∙ w)
 
-        lacks : gift i left (c .chilled) ≡ at (c₀ .chilled .needs) i - (at (c .chilled .figures) i - left)
+        lacks : gift i left (c .stores .chilled) ≡ at (c₀ .stores .chilled .needs) i - (at (c .stores .chilled .figures) i - left)
         unfolding gift withStore withHoldings
-        lacks = ap (λ (d : Contents). at (d .chilled .needs) i - (at (c .chilled .figures) i - left)) (climbing .same)
+        lacks = ap (λ (d : Contents). at (d .stores .chilled .needs) i - (at (c .stores .chilled .figures) i - left)) (climbing .same)
 
         pub may-pass : MayPass store i left c
         may-pass =
             record {
               at-task = at-task;
               figure-has = figure-room (climbing .way) higher active;
-              gift-small = gift-fits (climbing .way) higher active (gift i left (c .chilled)) lacks;
-              booked-fits = booked-fits (climbing .way) higher active (gift i left (c .chilled)) lacks;
+              gift-small = gift-fits (climbing .way) higher active (gift i left (c .stores .chilled)) lacks;
+              booked-fits = booked-fits (climbing .way) higher active (gift i left (c .stores .chilled)) lacks;
             }
 
         -- and behind it the climb goes on from its parent
-        module _ {c′ : Contents} {i′ : ℕ} (passes : c′ ≡ withStore (passed i left (c .chilled)) c)
+        module _ {c′ : Contents} {i′ : ℕ} (passes : c′ ≡ withStore Kind.chilled (passed i left (c .stores .chilled)) c)
             (rises : i′ ≡ at (c′ .parents) i) where
           parent-is : i′ ≡ at (c₀ .parents) i
           unfolding withStore withHoldings
@@ -141,17 +144,17 @@ module _ {store x r : ℕ} {c₀ : Contents} (may : MayClimb store x r c₀) whe
 
           pub climb-next :
               {left′ : ℕ}
-              → left′ ≡ left - gift i left (c .chilled)
+              → left′ ≡ left - gift i left (c .stores .chilled)
               → (left ≡ 0 → ⊥)
               → Climbing x r c₀ c′ i′ left′ (offers + 1)
           unfolding withStore withHoldings passed
           climb-next e some =
               subst (λ (v : ℕ). Climbing x r c₀ c′ i′ v (offers + 1)) (sym e)
-              (subst (λ (k : ℕ). Climbing x r c₀ c′ k (left - gift i left (c .chilled)) (offers + 1)) (sym parent-is)
-              (subst (λ (d : Contents). Climbing x r c₀ d (at (c₀ .parents) i) (left - gift i left (c .chilled)) (offers + 1)) (sym passes)
+              (subst (λ (k : ℕ). Climbing x r c₀ c′ k (left - gift i left (c .stores .chilled)) (offers + 1)) (sym parent-is)
+              (subst (λ (d : Contents). Climbing x r c₀ d (at (c₀ .parents) i) (left - gift i left (c .stores .chilled)) (offers + 1)) (sym passes)
               (record {
                 same =
-                    ap (withCarried (passed i left (c .chilled) .booked) (passed i left (c .chilled) .figures)) (climbing .same);
-                way = way-next (climbing .way) higher active (gift i left (c .chilled)) lacks some;
-                past = past-set (at (c .chilled .figures) i - left + gift i left (c .chilled));
+                    ap (withCarried (passed i left (c .stores .chilled) .booked) (passed i left (c .stores .chilled) .figures)) (climbing .same);
+                way = way-next (climbing .way) higher active (gift i left (c .stores .chilled)) lacks some;
+                past = past-set (at (c .stores .chilled .figures) i - left + gift i left (c .stores .chilled));
               })))

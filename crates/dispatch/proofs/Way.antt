@@ -9,10 +9,12 @@ use lib.Dec.{eqb}
 use lib.ListN.{length, set, length-set}
 use lib.Seq.{getD-set-same, getD-set-other}
 use borrow.Author.Tests.{eq-eqb, ne-eqb}
+use Rattle.rules.specs.Kind.{Kind, all}
+use Rattle.rules.specs.Kind
 use Rattle.rules.specs.Sums.{Task, only}
 use Rattle.rules.specs.Lists.{at}
 use Rattle.rules.specs.Standing.{waiting}
-use Rattle.rules.specs.Booking.{Climbed, chain, figure, total, spent, gift, pass, offer, climb}
+use Rattle.rules.specs.Booking.{Terms, Climbed, chain, figure, total, spent, gift, pass, passEach, offer, climb}
 use Rattle.rules.specs.Invariant.{up, Active, Balance}
 use Rattle.rules.proofs.Tests.{same-or-not, or-left, or-right}
 use Rattle.rules.proofs.Sums.{term-le, only-le, only-true, only-false}
@@ -36,15 +38,15 @@ use Rattle.store.proofs.Figures.{
 use Rattle.dispatch.specs.Climb.{Carrying, shareOf, Carried}
 
 -- between two turns: i is the next task, `left` goes up from x below it, and what is still to come is the climb from i on
-pub record Way (n : ℕ) (par need st : ℕ → ℕ) (goal : Climbed) (booked₀ booked figures : List ℕ) (i left offers : ℕ) : Type 0 where
+pub record Way (n : ℕ) (par : ℕ → ℕ) (terms : Kind → Terms) (st : ℕ → ℕ) (goal : Climbed) (booked₀ booked figures : List ℕ) (i left offers : ℕ) : Type 0 where
   pub x : ℕ
   pub parent : par x ≡ i
-  pub carrying : Carrying n par need st (at booked) (at figures) x left
+  pub carrying : Carrying n par (terms Kind.chilled .need) st (at booked) (at figures) x left
   pub inside : i ≤ n
   pub booked-size : length booked ≡ rows
   pub figures-size : length figures ≡ rows
-  pub share : goal .share ≡ climb n par need st (chain n par i) (shareOf n left booked) .share
-  pub offered : length (goal .offered) ≡ offers + length (climb n par need st (chain n par i) (shareOf n left booked) .offered)
+  pub share : goal .share ≡ climb n par terms st (chain n par i) (shareOf n left booked) .share
+  pub offered : length (goal .offered) ≡ offers + length (climb n par terms st (chain n par i) (shareOf n left booked) .offered)
   -- entries past the tasks stay
   pub past : (a : ℕ) → n < a → at booked a ≡ at booked₀ a
   -- no more offers than tasks
@@ -59,12 +61,12 @@ chain-length (suc m) par i =
     (λ d. let h = chain-length m par (par i) in let e = ap length (chain-more m par i d) in omega arith) (same-or-not i 0)
 
 pub way-first :
-    (n : ℕ) (par need st : ℕ → ℕ) (booked figures : List ℕ) (x r : ℕ)
-    → Carrying n par need st (at booked) (at figures) x r
+    (n : ℕ) (par : ℕ → ℕ) (terms : Kind → Terms) (st : ℕ → ℕ) (booked figures : List ℕ) (x r : ℕ)
+    → Carrying n par (terms Kind.chilled .need) st (at booked) (at figures) x r
     → length booked ≡ rows
     → length figures ≡ rows
-    → Way n par need st (climb n par need st (chain n par (par x)) (shareOf n r booked)) booked booked figures (par x) r 0
-way-first n par need st booked figures x r c p q =
+    → Way n par terms st (climb n par terms st (chain n par (par x)) (shareOf n r booked)) booked booked figures (par x) r 0
+way-first n par terms st booked figures x r c p q =
     record {
       x = x;
       parent = refl;
@@ -78,11 +80,11 @@ way-first n par need st booked figures x r c p q =
       steps = (let h = chain-length n par (par x) in omega arith);
     }
 
-module _ {n : ℕ} {par need st : ℕ → ℕ} {goal : Climbed} {booked₀ booked figures : List ℕ} {i left offers : ℕ}
-    (way : Way n par need st goal booked₀ booked figures i left offers) where
+module _ {n : ℕ} {par : ℕ → ℕ} {terms : Kind → Terms} {st : ℕ → ℕ} {goal : Climbed} {booked₀ booked figures : List ℕ} {i left offers : ℕ}
+    (way : Way n par terms st goal booked₀ booked figures i left offers) where
   -- nothing is left to climb: the books are the goal's
   ends-here :
-      climb n par need st (chain n par i) (shareOf n left booked) ≡ record { offered = []; share = shareOf n left booked }
+      climb n par terms st (chain n par i) (shareOf n left booked) ≡ record { offered = []; share = shareOf n left booked }
       → (figures′ : List ℕ)
       → ((a : ℕ) → Task n a → at figures′ a ≡ partialFigure n par st (at booked) a)
       → Carried n par st goal booked₀ booked figures′ offers left
@@ -100,7 +102,7 @@ module _ {n : ℕ} {par need st : ℕ → ℕ} {goal : Climbed} {booked₀ booke
   way-root z =
       let c = way .carrying in
       ends-here
-      (ap (λ (l : List ℕ). climb n par need st l (shareOf n left booked)) (ap (chain n par) z ∙ chain-none n par)) figures
+      (ap (λ (l : List ℕ). climb n par terms st l (shareOf n left booked)) (ap (chain n par) z ∙ chain-none n par)) figures
       (λ a t.
       c .figured a t
       ∙ partial-past-root n par (c .rank) (c .tree) st (at booked) (way .x) left a (c .task) (way .parent ∙ z) t)
@@ -109,14 +111,14 @@ module _ {n : ℕ} {par need st : ℕ → ℕ} {goal : Climbed} {booked₀ booke
   stops :
       (path : List ℕ)
       → ((k : ℕ) → (eqb (st k) waiting || spent (shareOf n left booked)) ≡ true)
-      → climb n par need st path (shareOf n left booked) ≡ record { offered = []; share = shareOf n left booked }
+      → climb n par terms st path (shareOf n left booked) ≡ record { offered = []; share = shareOf n left booked }
   unfolding climb
   stops [] h = refl
-  stops (k ∷ above) h = climb-stop n par need st k above (shareOf n left booked) (h k)
+  stops (k ∷ above) h = climb-stop n par terms st k above (shareOf n left booked) (h k)
 
   -- nothing is left
   pub way-nothing : left ≡ 0 → Carried n par st goal booked₀ booked figures offers left
-  unfolding spent
+  unfolding spent all
   way-nothing z =
       let c = way .carrying in
       ends-here (stops (chain n par i) (λ k. or-right (eqb (st k) waiting) (eqb left 0) (eq-eqb left 0 z))) figures
@@ -152,11 +154,11 @@ module _ {n : ℕ} {par need st : ℕ → ℕ} {goal : Climbed} {booked₀ booke
       waiting-room = let h = at-waiting i task in let o = only-true (eqb i i) left (eq-eqb i i refl) in omega arith
 
       pub way-waiting : Carried n par st goal booked₀ booked (set figures i (at figures i - left)) offers left
-      unfolding spent
+      unfolding spent all
       way-waiting =
           ends-here
-          (ap (λ (l : List ℕ). climb n par need st l (shareOf n left booked)) path
-          ∙ climb-stop n par need st i (chain n par (par i)) (shareOf n left booked)
+          (ap (λ (l : List ℕ). climb n par terms st l (shareOf n left booked)) path
+          ∙ climb-stop n par terms st i (chain n par (par i)) (shareOf n left booked)
           (or-left (eqb (st i) waiting) (eqb left 0) (eq-eqb (st i) waiting waits)))
           (set figures i (at figures i - left))
           (λ a t.
@@ -185,9 +187,9 @@ module _ {n : ℕ} {par need st : ℕ → ℕ} {goal : Climbed} {booked₀ booke
           let low = c .idle i (ap (up n par i) p ∙ up-self n par (c .rank) (c .tree) i task) in
           omega arith
 
-      owed : Balance n par need (way .carrying .out) st (at booked) (chain n par i) left
+      owed : Balance n par (terms Kind.chilled .need) (way .carrying .out) st (at booked) (chain n par i) left
       owed =
-          subst (λ (k : ℕ). Balance n par need (way .carrying .out) st (at booked) (chain n par k) left) (way .parent)
+          subst (λ (k : ℕ). Balance n par (terms Kind.chilled .need) (way .carrying .out) st (at booked) (chain n par k) left) (way .parent)
           (way .carrying .owed)
 
       -- its figure as it is kept has what goes up in it
@@ -216,14 +218,14 @@ module _ {n : ℕ} {par need st : ℕ → ℕ} {goal : Climbed} {booked₀ booke
       figure-room = let k = figure-kept in omega arith
 
       -- it is given what it lacks of its need, within what goes up
-      module _ (g : ℕ) (lacks : g ≡ need i - (at figures i - left)) where
-        given : g ≡ need i - figure n par (at booked) i
+      module _ (g : ℕ) (lacks : g ≡ terms Kind.chilled .need i - (at figures i - left)) where
+        given : g ≡ terms Kind.chilled .need i - figure n par (at booked) i
         given = let k = figure-kept in omega arith
 
         in-list : i < rows
         in-list = let m = way .inside in let k = way .carrying .small in omega arith
 
-        granted : at (set booked i (at booked i + g)) i ≡ at booked i + (need i - figure n par (at booked) i)
+        granted : at (set booked i (at booked i + g)) i ≡ at booked i + (terms Kind.chilled .need i - figure n par (at booked) i)
         granted =
             getD-set-same booked i (at booked i + g) 0 (let z = way .booked-size in let m = in-list in omega arith)
             ∙ ap (λ (v : ℕ). at booked i + v) given
@@ -231,14 +233,14 @@ module _ {n : ℕ} {par need st : ℕ → ℕ} {goal : Climbed} {booked₀ booke
         others : (k : ℕ) → Task n k → (k ≡ i → ⊥) → at (set booked i (at booked i + g)) k ≡ at booked k
         others k _ d = getD-set-other booked i k (at booked i + g) 0 d
 
-        handed : Given n par need (at booked) (at (set booked i (at booked i + g))) i
+        handed : Given n par (terms Kind.chilled .need) (at booked) (at (set booked i (at booked i + g))) i
         handed = record { there = granted; elsewhere = others }
 
         pub gift-fits : g ≤ left
         gift-fits =
             let c = way .carrying in
             let w =
-            gift-within n par (c .rank) (c .tree) st (c .shape) need (c .out) (c .roomy) i task active left (at booked)
+            gift-within n par (c .rank) (c .tree) st (c .shape) (terms Kind.chilled .need) (c .out) (c .roomy) i task active left (at booked)
             (at (set booked i (at booked i + g))) owed handed
             in
             let e = given in
@@ -301,29 +303,29 @@ module _ {n : ℕ} {par need st : ℕ → ℕ} {goal : Climbed} {booked₀ booke
         -- the climb of the rules takes the same turn
         same-turn :
             (left ≡ 0 → ⊥)
-            → climb n par need st (chain n par i) (shareOf n left booked)
-            ≡ offer i (climb n par need st (chain n par (par i)) (shareOf n (left - g) (set booked i (at booked i + g))))
-        unfolding spent gift pass
+            → climb n par terms st (chain n par i) (shareOf n left booked)
+            ≡ offer i (climb n par terms st (chain n par (par i)) (shareOf n (left - g) (set booked i (at booked i + g))))
+        unfolding spent all gift pass passEach
         same-turn some =
-            let gift-is : gift n par need (rowsOf n booked) i ≡ g =
-            ap (λ (v : ℕ). need i - v) (figure-rows n par booked i) ∙ sym given
+            let gift-is : gift n par (terms Kind.chilled .need) (rowsOf n booked) i ≡ g =
+            ap (λ (v : ℕ). terms Kind.chilled .need i - v) (figure-rows n par booked i) ∙ sym given
             in
-            ap (λ (l : List ℕ). climb n par need st l (shareOf n left booked)) path
-            ∙ climb-offer n par need st i (chain n par (par i)) (shareOf n left booked)
+            ap (λ (l : List ℕ). climb n par terms st l (shareOf n left booked)) path
+            ∙ climb-offer n par terms st i (chain n par (par i)) (shareOf n left booked)
             (ap (λ (b : Bool). b || eqb left 0) (ne-eqb (st i) waiting busy) ∙ ne-eqb left 0 some)
             ∙ ap
             (λ (v : ℕ).
             offer i
-            (climb n par need st (chain n par (par i))
-            (record { left = left - v; booked = set (rowsOf n booked) i (at (rowsOf n booked) i + v) })))
+            (climb n par terms st (chain n par (par i))
+            (record { chilled = record { left = left - v; booked = set (rowsOf n booked) i (at (rowsOf n booked) i + v) } })))
             gift-is
-            ∙ ap (λ (l : List ℕ). offer i (climb n par need st (chain n par (par i)) (record { left = left - g; booked = l })))
+            ∙ ap (λ (l : List ℕ). offer i (climb n par terms st (chain n par (par i)) (record { chilled = record { left = left - g; booked = l } })))
             (ap (λ (v : ℕ). set (rowsOf n booked) i (v + g)) (at-rows n booked i (way .inside))
             ∙ sym (rows-set n booked i (at booked i + g) (way .inside)))
 
         pub way-next :
             (left ≡ 0 → ⊥)
-            → Way n par need st goal booked₀ (set booked i (at booked i + g)) (set figures i ((at figures i - left) + g)) (par i) (left - g)
+            → Way n par terms st goal booked₀ (set booked i (at booked i + g)) (set figures i ((at figures i - left) + g)) (par i) (left - g)
             (offers + 1)
         unfolding offer total
         way-next some =
@@ -344,9 +346,9 @@ module _ {n : ℕ} {par need st : ℕ → ℕ} {goal : Climbed} {booked₀ booke
                     roomy = c .roomy;
                     owed =
                         subst
-                        (λ (v : ℕ). Balance n par need (c .out) st (at (set booked i (at booked i + g))) (chain n par (par i)) (left - v))
+                        (λ (v : ℕ). Balance n par (terms Kind.chilled .need) (c .out) st (at (set booked i (at booked i + g))) (chain n par (par i)) (left - v))
                         (sym given)
-                        (offer-balance n par (c .rank) (c .tree) st (c .shape) need (c .out) (c .roomy) i task active left (at booked)
+                        (offer-balance n par (c .rank) (c .tree) st (c .shape) (terms Kind.chilled .need) (c .out) (c .roomy) i task active left (at booked)
                         (at (set booked i (at booked i + g))) owed handed);
                     idle =
                         λ a m.
@@ -359,7 +361,7 @@ module _ {n : ℕ} {par need st : ℕ → ℕ} {goal : Climbed} {booked₀ booke
                     bounded = c .bounded;
                     within =
                         (let same =
-                        offer-total n par (c .rank) (c .tree) st (c .shape) need (c .out) (c .roomy) i task active left (at booked)
+                        offer-total n par (c .rank) (c .tree) st (c .shape) (terms Kind.chilled .need) (c .out) (c .roomy) i task active left (at booked)
                         (at (set booked i (at booked i + g))) owed handed
                         in
                         let w = c .within in

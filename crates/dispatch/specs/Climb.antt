@@ -4,6 +4,8 @@ use mathlib.Core.Bool.{true}
 use mathlib.Core.List.{List}
 use Prim.Native.Nat.{ℕ, _+_, _^_, _≤_, _<_}
 use lib.ListN.{length}
+use Rattle.rules.specs.Kind.{Each}
+use Rattle.rules.specs.Kind
 use Rattle.rules.specs.Sums.{Task}
 use Rattle.rules.specs.Lists.{at}
 use Rattle.rules.specs.Limits.{maxTasks}
@@ -12,7 +14,7 @@ use Rattle.rules.specs.Booking.{Share, Climbed, chain, total, climb}
 use Rattle.rules.specs.Invariant.{Tree, up, Shape, Balance, Roomy}
 use Rattle.words.specs.Layout.{words, chilled}
 use Rattle.words.specs.Contents.{Contents}
-use Rattle.store.specs.Rows.{rowsOf}
+use Rattle.store.specs.Rows.{rowsOf, termsIn}
 use Rattle.store.specs.Cached.{partialFigure, partialFigureWith}
 use Rattle.store.specs.Store.{withStore, withHoldings}
 
@@ -38,18 +40,18 @@ pub record MayClimb (store x r : ℕ) (c : Contents) : Type 0 where
   pub long : c .extent ≡ words
   pub offset : store ≡ chilled
   pub carrying :
-      Carrying (c .size) (at (c .parents)) (at (c .chilled .needs)) (at (c .standings)) (at (c .chilled .booked))
-      (at (c .chilled .figures)) x r
+      Carrying (c .size) (at (c .parents)) (at (c .stores .chilled .needs)) (at (c .standings)) (at (c .stores .chilled .booked))
+      (at (c .stores .chilled .figures)) x r
 
 -- what is shared out while r trays go up: these, and the booked trays of the tasks
-abbrev pub shareOf : (n r : ℕ) → List ℕ → Share
-shareOf n r booked = record { left = r; booked = rowsOf n booked }
+abbrev pub shareOf : (n r : ℕ) → List ℕ → Each Share
+shareOf n r booked = record { chilled = record { left = r; booked = rowsOf n booked } }
 
 -- the climb of the rules from the parent of x on
 abbrev pub climbFrom : (x r : ℕ) → Contents → Climbed
 climbFrom x r c =
-    climb (c .size) (at (c .parents)) (at (c .chilled .needs)) (at (c .standings))
-    (chain (c .size) (at (c .parents)) (at (c .parents) x)) (shareOf (c .size) r (c .chilled .booked))
+    climb (c .size) (at (c .parents)) (termsIn c) (at (c .standings))
+    (chain (c .size) (at (c .parents)) (at (c .parents) x)) (shareOf (c .size) r (c .stores .chilled .booked))
 
 -- the books once they have gone up: those of the climb of the rules, and figures in which nothing is in the air
 pub record Carried (n : ℕ) (par st : ℕ → ℕ) (goal : Climbed) (booked₀ booked figures : List ℕ) (offers left : ℕ) : Type 0 where
@@ -62,12 +64,12 @@ pub record Carried (n : ℕ) (par st : ℕ → ℕ) (goal : Climbed) (booked₀ 
 -- the plan with other booked trays and figures
 abbrev pub withCarried : List ℕ → List ℕ → Contents → Contents
 withCarried booked figures c =
-    withStore (withHoldings (c .chilled .total) (c .chilled .used) booked figures (c .chilled)) c
+    withStore Kind.chilled (withHoldings (c .stores .chilled .total) (c .stores .chilled .used) booked figures (c .stores .chilled)) c
 
 -- what it leaves: nothing but these changes
 pub record DidClimb (x r : ℕ) (c c′ : Contents) (offers left : ℕ) : Type 0 where
-  pub same : c′ ≡ withCarried (c′ .chilled .booked) (c′ .chilled .figures) c
+  pub same : c′ ≡ withCarried (c′ .stores .chilled .booked) (c′ .stores .chilled .figures) c
   pub carried :
-      Carried (c .size) (at (c .parents)) (at (c .standings)) (climbFrom x r c) (c .chilled .booked) (c′ .chilled .booked)
-      (c′ .chilled .figures) offers left
-  pub past : (a : ℕ) → c .size < a → at (c′ .chilled .figures) a ≡ at (c .chilled .figures) a
+      Carried (c .size) (at (c .parents)) (at (c .standings)) (climbFrom x r c) (c .stores .chilled .booked) (c′ .stores .chilled .booked)
+      (c′ .stores .chilled .figures) offers left
+  pub past : (a : ℕ) → c .size < a → at (c′ .stores .chilled .figures) a ≡ at (c .stores .chilled .figures) a

@@ -5,6 +5,7 @@ use mathlib.Core.List.{List}
 use Prim.Native.Nat.{ℕ, _+_, _-_, _^_, _≤_, _<_}
 use lib.Dec.{eqb}
 use lib.ListN.{set}
+use Rattle.rules.specs.Kind
 use Rattle.rules.specs.Lists.{at}
 use Rattle.rules.specs.Standing.{activated, finished}
 use Rattle.words.specs.Layout.{words, rows, entries}
@@ -31,7 +32,7 @@ withProgress standings unended active ended c =
       places = c .places;
       unended = unended;
       standings = standings;
-      chilled = c .chilled;
+      stores = c .stores;
       activation = c .activation;
       execution = c .execution;
       ready = c .ready;
@@ -76,4 +77,4 @@ pub record Fed (parent : ℕ) (c c′ : Contents) : Type 0 where
 
 -- the root is an ended task: its out remains booked and in use, and nothing else is
 unfoldable pub rootEnded : ℕ → Contents → Contents
-rootEnded j c = withStore (heldAlone j (at (c .chilled .outs) j) (c .chilled)) (ended j c)
+rootEnded j c = withStore Kind.chilled (heldAlone j (at (c .stores .chilled .outs) j) (c .stores .chilled)) (ended j c)

@@ -2,12 +2,13 @@
 use mathlib.Core.Path.{_≡_}
 use Prim.Native.Nat.{ℕ}
 use lib.ListN.{length, set}
+use Rattle.rules.specs.Kind.{of, each}
 use Rattle.rules.specs.Sums.{Task}
 use Rattle.rules.specs.Lists.{at}
 use Rattle.rules.specs.Standing.{running, finished}
 use Rattle.rules.specs.Booking.{Climbed, dispatch}
 use Rattle.words.specs.Contents.{Contents}
-use Rattle.store.specs.Rows.{books}
+use Rattle.store.specs.Rows.{books, termsIn}
 use Rattle.store.specs.Kept.{Kept, SamePlan}
 
 -- task j runs, and has a parent
@@ -20,11 +21,15 @@ pub record MayFinish (c : Contents) (j : ℕ) : Type 0 where
 -- sharing out of the rules
 abbrev pub dispatchedFrom : Contents → ℕ → Climbed
 dispatchedFrom c j =
-    dispatch (c .size) (at (c .parents)) (at (c .chilled .needs)) (at (set (books c .standings) j finished)) (at (c .chilled .outs))
-    (books c .booked) j
+    dispatch (c .size) (at (c .parents)) (termsIn c) (at (set (books c .standings) j finished)) (books c .booked) j
 
 pub record Finished (c : Contents) (j : ℕ) (c′ : Contents) (offers : ℕ) : Type 0 where
   pub kept : Kept c′
   pub same : SamePlan c c′
-  pub books : books c′ ≡ record { standings = set (books c .standings) j finished; booked = dispatchedFrom c j .share .booked }
+  pub books :
+      books c′
+      ≡ record {
+        standings = set (books c .standings) j finished;
+        booked = each (λ k. of (dispatchedFrom c j .share) k .booked);
+      }
   pub offered : offers ≡ length (dispatchedFrom c j .offered)

@@ -28,10 +28,10 @@ module _ (w : List ℕ) (valid : ValidPlan w) where
   par = at (contents w .parents)
 
   abbrev work : ℕ → ℕ
-  work = at (contents w .chilled .works)
+  work = at (contents w .stores .chilled .works)
 
   abbrev out : ℕ → ℕ
-  out = at (contents w .chilled .outs)
+  out = at (contents w .stores .chilled .outs)
 
   same-parents : at (planOf w .parents) ≡ par
   same-parents = parents-meant (contents w) (valid .sound)

@@ -17,9 +17,9 @@ use words::plan::Plan;
 // From the last task reached to the root.
 pub(crate) fn arrange(plan: &[u32; Plan::WORDS], scratch: &mut [u32; CELLS], n: usize)
     requires { ⌜ (n ≡ contents (now plan) .size) × MayArrange (contents (now plan) .size) (at (contents (now plan) .parents))
-        (at (contents (now plan) .chilled .works)) (at (contents (now plan) .chilled .outs)) (now scratch) ⌝ }
+        (at (contents (now plan) .stores .chilled .works)) (at (contents (now plan) .stores .chilled .outs)) (now scratch) ⌝ }
     ensures { λ _. ⌜ AllArranged (contents (now (plan .entry)) .size) (at (contents (now (plan .entry)) .parents))
-        (at (contents (now (plan .entry)) .chilled .works)) (at (contents (now (plan .entry)) .chilled .outs))
+        (at (contents (now (plan .entry)) .stores .chilled .works)) (at (contents (now (plan .entry)) .stores .chilled .outs))
         (now (scratch .entry)) (now (scratch .exit)) ⌝ }
 {
     let mut k = n;

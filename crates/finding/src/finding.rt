@@ -25,10 +25,10 @@ use words::plan::Plan;
 // Where all tasks are reached from the root: its order at the front of the list.
 fn write_found(plan: &[u32; Plan::WORDS], scratch: &mut [u32; CELLS], n: usize, list: &mut [u16])
     requires { ⌜ (n ≡ contents (now plan) .size) × AllReached (contents (now plan) .size) (at (contents (now plan) .parents))
-        (at (contents (now plan) .chilled .works)) (at (contents (now plan) .chilled .outs)) (now scratch) (now list) ⌝ }
+        (at (contents (now plan) .stores .chilled .works)) (at (contents (now plan) .stores .chilled .outs)) (now scratch) (now list) ⌝ }
     ensures { λ _. ⌜ now (list .exit) ≡ bestPostorder (contents (now (plan .entry)) .size) (contents (now (plan .entry)) .size)
-        (at (contents (now (plan .entry)) .parents)) (at (contents (now (plan .entry)) .chilled .works))
-        (at (contents (now (plan .entry)) .chilled .outs)) (field queue (now (scratch .entry)) 0)
+        (at (contents (now (plan .entry)) .parents)) (at (contents (now (plan .entry)) .stores .chilled .works))
+        (at (contents (now (plan .entry)) .stores .chilled .outs)) (field queue (now (scratch .entry)) 0)
         ++ drop (contents (now (plan .entry)) .size) (now (list .entry)) ⌝ }
 {
     arrange(plan, scratch, n);
@@ -39,10 +39,10 @@ fn write_found(plan: &[u32; Plan::WORDS], scratch: &mut [u32; CELLS], n: usize, 
 // Where one task has no parent: 12 where the chain of parents of some task never reaches it, 11 where
 // the list is too short, or the order and 0.
 fn find_rooted(plan: &[u32; Plan::WORDS], list: &mut [u16]) -> u8
-    requires { ⌜ MayFind (contents (now plan) .size) (at (contents (now plan) .parents)) (at (contents (now plan) .chilled .works))
-        (at (contents (now plan) .chilled .outs)) ⌝ }
+    requires { ⌜ MayFind (contents (now plan) .size) (at (contents (now plan) .parents)) (at (contents (now plan) .stores .chilled .works))
+        (at (contents (now plan) .stores .chilled .outs)) ⌝ }
     ensures { λ r. ⌜ Finds (contents (now (plan .entry)) .size) (at (contents (now (plan .entry)) .parents))
-        (at (contents (now (plan .entry)) .chilled .works)) (at (contents (now (plan .entry)) .chilled .outs)) (now (list .entry))
+        (at (contents (now (plan .entry)) .stores .chilled .works)) (at (contents (now (plan .entry)) .stores .chilled .outs)) (now (list .entry))
         (now (list .exit)) r ⌝ }
 {
     let n = cell(plan, Plan::HEAD, Plan::SIZE) as usize;

@@ -28,8 +28,8 @@ fn larger(a: usize, b: usize) -> usize
 
 // The peak of a subtree: each child's order begins at the level that those before it leave.
 fn subtree_peak(plan: &[u32; Plan::WORDS], scratch: &[u32; CELLS], task: usize) -> usize
-    requires { ⌜ MayWeigh (at (contents (now plan) .chilled .works)) (at (contents (now plan) .chilled .outs)) (now scratch) task ⌝ }
-    ensures { λ r. ⌜ r ≡ peakAlong (at (contents (now (plan .entry)) .chilled .works)) (at (contents (now (plan .entry)) .chilled .outs))
+    requires { ⌜ MayWeigh (at (contents (now plan) .stores .chilled .works)) (at (contents (now plan) .stores .chilled .outs)) (now scratch) task ⌝ }
+    ensures { λ r. ⌜ r ≡ peakAlong (at (contents (now (plan .entry)) .stores .chilled .works)) (at (contents (now (plan .entry)) .stores .chilled .outs))
         (now (scratch .entry)) task ⌝ }
 {
     let mut best = 0;
@@ -66,10 +66,10 @@ fn link_orders(scratch: &mut [u32; CELLS], task: usize)
 
 // A task's turn, where its children have had theirs: the order and the peak of its subtree.
 pub(crate) fn join(plan: &[u32; Plan::WORDS], scratch: &mut [u32; CELLS], task: usize)
-    requires { ⌜ MayJoin (contents (now plan) .size) (at (contents (now plan) .parents)) (at (contents (now plan) .chilled .works))
-        (at (contents (now plan) .chilled .outs)) task (now scratch) ⌝ }
+    requires { ⌜ MayJoin (contents (now plan) .size) (at (contents (now plan) .parents)) (at (contents (now plan) .stores .chilled .works))
+        (at (contents (now plan) .stores .chilled .outs)) task (now scratch) ⌝ }
     ensures { λ _. ⌜ HasJoined (contents (now (plan .entry)) .size) (at (contents (now (plan .entry)) .parents))
-        (at (contents (now (plan .entry)) .chilled .works)) (at (contents (now (plan .entry)) .chilled .outs)) task
+        (at (contents (now (plan .entry)) .stores .chilled .works)) (at (contents (now (plan .entry)) .stores .chilled .outs)) task
         (now (scratch .entry)) (now (scratch .exit)) ⌝ }
 {
     sort_children(plan, scratch, task);

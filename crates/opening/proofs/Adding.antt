@@ -11,6 +11,7 @@ use lib.Seq.{getD-set-same, getD-set-other, length-take-le}
 use borrow.Author.Tests.{eq-eqb, ne-eqb, le-leb, lt-leb}
 use Rattle.rules.specs.Limits.{maxTasks, maxCount}
 use Rattle.rules.specs.Sums.{only}
+use Rattle.rules.specs.Kind.{chilled, each}
 use Rattle.rules.specs.Lists.{at}
 use Rattle.rules.specs.Phase
 use Rattle.rules.specs.Command as rules
@@ -22,6 +23,7 @@ use Rattle.words.specs.Layout.{row, rows, words, headBase}
 use Rattle.words.specs.Contents.{Contents, contents, withCell, storeWithCell, withHead, storeWithHead}
 use Rattle.words.proofs.Contents.{Lengths, wrote-cell, wrote-head}
 use Rattle.answer.specs.Meaning.{meaning}
+use Rattle.store.proofs.InStore.{by-kind}
 use Rattle.answer.specs.Sound.{Unused, Sound}
 use Rattle.answer.proofs.Meant.{given-more}
 
@@ -97,8 +99,8 @@ filled-sound c parent work out sound long steps w o =
     let row = sound .given .in-steps steps in
     let rows-in = in-columns c sound steps in
     let phase = follows c in
-    let lw = long .works in
-    let lo = long .outs in
+    let lw = long .works chilled in
+    let lo = long .outs chilled in
     record {
       long = sound .long;
       named = omega (arith, phase .named);
@@ -106,12 +108,12 @@ filled-sound c parent work out sound long steps w o =
       few = sound .few;
       bounded = sound .bounded;
       light = λ i. (
-        light-more maxCount (c .given) work (c .chilled .works) i (omega arith) w (sound .light i .0),
-        light-more maxCount (c .given) out (c .chilled .outs) i (omega arith) o (sound .light i .1),
+        light-more maxCount (c .given) work (c .stores .chilled .works) i (omega arith) w (sound .light i .0),
+        light-more maxCount (c .given) out (c .stores .chilled .outs) i (omega arith) o (sound .light i .1),
       );
       parents = column-more (c .given) parent (c .parents) (row .0) (sound .parents);
-      works = column-more (c .given) work (c .chilled .works) (row .0) (sound .works);
-      outs = column-more (c .given) out (c .chilled .outs) (row .0) (sound .outs);
+      works = column-more (c .given) work (c .stores .chilled .works) (row .0) (sound .works);
+      outs = column-more (c .given) out (c .stores .chilled .outs) (row .0) (sound .outs);
       given =
           record {
             unopened = λ e. absurd (omega (arith, phase .named));
@@ -127,16 +129,16 @@ filled-sound c parent work out sound long steps w o =
           record {
             unended = z .unended;
             standings = z .standings;
-            needs = z .needs;
-            booked = z .booked;
-            figures = z .figures;
+            needs = by-kind _ (z .needs chilled);
+            booked = by-kind _ (z .booked chilled);
+            figures = by-kind _ (z .figures chilled);
             ready = z .ready;
             filled = z .filled;
             next = z .next;
             active = z .active;
             ended = z .ended;
-            total = z .total;
-            used = z .used;
+            total = by-kind _ (z .total chilled);
+            used = by-kind _ (z .used chilled);
           });
       day = λ h. absurd (omega (arith, phase .named));
     }
@@ -160,8 +162,8 @@ filled-means c parent work out sound long steps =
     let room = in-columns c sound steps in
     let phase = follows c .named in
     let lp = long .parents in
-    let lw = long .works in
-    let lo = long .outs in
+    let lw = long .works chilled in
+    let lo = long .outs chilled in
     let g = length-take-le (c .given) (c .parents) (omega arith) in
     let rows = no-day (c .phase) (c .size) (omega arith) ∙ sym (no-day (phaseOf c) (c .size) (omega (arith, phase))) in
     λ z.
@@ -174,13 +176,15 @@ filled-means c parent work out sound long steps =
       activation = take (c .ranked) (c .activation);
       execution = take (c .placed) (c .execution);
       standings = take (rows z) (c .standings);
-      chilled =
+      stores =
+          each
+          (λ _.
           record {
-            bound = c .chilled .bound;
-            works = sym (given-more (c .chilled .works) (c .given) work (omega arith)) z;
-            outs = sym (given-more (c .chilled .outs) (c .given) out (omega arith)) z;
-            booked = take (rows z) (c .chilled .booked);
-          };
+            bound = c .stores .chilled .bound;
+            works = sym (given-more (c .stores .chilled .works) (c .given) work (omega arith)) z;
+            outs = sym (given-more (c .stores .chilled .outs) (c .given) out (omega arith)) z;
+            booked = take (rows z) (c .stores .chilled .booked);
+          });
     })
 
 module _ (c : Contents) (parent work out : ℕ) where

@@ -9,6 +9,7 @@ use lib.Dec.{leb}
 use lib.ListN.{length, take, set, List·getD-eq-default}
 use borrow.Author.Tests.{leb-true, le-leb}
 use Rattle.rules.specs.Limits.{maxTasks, maxProcessors, maxBound}
+use Rattle.rules.specs.Kind.{chilled, each}
 use Rattle.rules.specs.Lists.{at}
 use Rattle.rules.specs.Phase
 use Rattle.rules.specs.Command as rules
@@ -24,6 +25,7 @@ use Rattle.words.proofs.Contents.{wrote-head}
 use Rattle.store.specs.Rows.{ZeroPast}
 use Rattle.store.specs.AtRest.{AtRest}
 use Rattle.answer.specs.Meaning.{meaning}
+use Rattle.store.proofs.InStore.{by-kind}
 use Rattle.answer.specs.Sound.{Unused, DayPast, Sound}
 use Rattle.opening.specs.Cleared.{Emptied}
 
@@ -31,11 +33,11 @@ use Rattle.opening.specs.Cleared.{Emptied}
 pub record Blank (c : Contents) : Type 0 where
   pub long : c .extent ≡ words
   pub parents : (a : ℕ) → at (c .parents) a ≡ 0
-  pub works : (a : ℕ) → at (c .chilled .works) a ≡ 0
-  pub outs : (a : ℕ) → at (c .chilled .outs) a ≡ 0
+  pub works : (a : ℕ) → at (c .stores .chilled .works) a ≡ 0
+  pub outs : (a : ℕ) → at (c .stores .chilled .outs) a ≡ 0
   pub some-parents : length (c .parents) ≡ rows
-  pub some-works : length (c .chilled .works) ≡ rows
-  pub some-outs : length (c .chilled .outs) ≡ rows
+  pub some-works : length (c .stores .chilled .works) ≡ rows
+  pub some-outs : length (c .stores .chilled .outs) ≡ rows
   pub ranked : c .ranked ≡ 0
   pub placed : c .placed ≡ 0
   pub rest : AtRest c
@@ -43,8 +45,8 @@ pub record Blank (c : Contents) : Type 0 where
 -- what the words of a plan hold past its tasks: nothing
 pub record NothingPast (n : ℕ) (c : Contents) : Type 0 where
   pub parents : ZeroPast n (c .parents)
-  pub works : ZeroPast n (c .chilled .works)
-  pub outs : ZeroPast n (c .chilled .outs)
+  pub works : ZeroPast n (c .stores .chilled .works)
+  pub outs : ZeroPast n (c .stores .chilled .outs)
   pub day : DayPast n c
 
 module _ {n : ℕ} {w w′ : List ℕ} (small : n ≤ maxTasks) (long : length w ≡ words) (e : Emptied n w w′) where
@@ -88,16 +90,16 @@ module _ {n : ℕ} {w w′ : List ℕ} (small : n ≤ maxTasks) (long : length w
             record {
               unended = column-zero 3 (omega arith) (past .day .unended);
               standings = column-zero 4 (omega arith) (past .day .standings);
-              needs = column-zero 7 (omega arith) (past .day .needs);
-              booked = column-zero 8 (omega arith) (past .day .booked);
-              figures = column-zero 9 (omega arith) (past .day .figures);
+              needs = by-kind _ (column-zero 7 (omega arith) (past .day .needs));
+              booked = by-kind _ (column-zero 8 (omega arith) (past .day .booked));
+              figures = by-kind _ (column-zero 9 (omega arith) (past .day .figures));
               ready = ready-zero;
               filled = e .ready filledWord (omega arith) (omega arith);
               next = head-zero 9 (omega arith);
               active = head-zero 13 (omega arith);
               ended = head-zero 14 (omega arith);
-              total = head-zero 6 (omega arith);
-              used = head-zero 7 (omega arith);
+              total = by-kind _ (head-zero 6 (omega arith));
+              used = by-kind _ (head-zero 7 (omega arith));
             };
       }
 
@@ -130,8 +132,8 @@ module _ (c : Contents) (blank : Blank c) (n processors bound : ℕ) where
         bounded = fits;
         light = λ i. let a = blank .works i in let b = blank .outs i in (omega arith, omega arith);
         parents = unused (c .parents) 1 (blank .parents);
-        works = unused (c .chilled .works) 1 (blank .works);
-        outs = unused (c .chilled .outs) 1 (blank .outs);
+        works = unused (c .stores .chilled .works) 1 (blank .works);
+        outs = unused (c .stores .chilled .outs) 1 (blank .outs);
         given =
             record {
               unopened = λ e. absurd (omega arith);
@@ -147,16 +149,16 @@ module _ (c : Contents) (blank : Blank c) (n processors bound : ℕ) where
             record {
               unended = z .unended;
               standings = z .standings;
-              needs = z .needs;
-              booked = z .booked;
-              figures = z .figures;
+              needs = by-kind _ (z .needs chilled);
+              booked = by-kind _ (z .booked chilled);
+              figures = by-kind _ (z .figures chilled);
               ready = z .ready;
               filled = z .filled;
               next = z .next;
               active = z .active;
               ended = z .ended;
-              total = z .total;
-              used = z .used;
+              total = by-kind _ (z .total chilled);
+              used = by-kind _ (z .used chilled);
             });
         day = λ h. absurd (omega arith);
       }
@@ -182,13 +184,15 @@ module _ (c : Contents) (blank : Blank c) (n processors bound : ℕ) where
         activation = ap (λ (k : ℕ). take k (c .activation)) (sym (blank .ranked)) z;
         execution = ap (λ (k : ℕ). take k (c .execution)) (sym (blank .placed)) z;
         standings = [];
-        chilled =
+        stores =
+            each
+            (λ _.
             record {
               bound = bound;
-              works = sym (first-zero (c .chilled .works) (blank .some-works) (blank .works)) z;
-              outs = sym (first-zero (c .chilled .outs) (blank .some-outs) (blank .outs)) z;
+              works = sym (first-zero (c .stores .chilled .works) (blank .some-works) (blank .works)) z;
+              outs = sym (first-zero (c .stores .chilled .outs) (blank .some-outs) (blank .outs)) z;
               booked = [];
-            };
+            });
       })
 
 module _ (c : Contents) (n processors bound : ℕ) where

@@ -2,6 +2,7 @@
 use mathlib.Core.Logic.{⊎-elim}
 use Prim.Native.Nat.{_≤_, _<_}
 use native.Mathlib.Omega.{arith}
+use Rattle.rules.specs.Kind.{chilled}
 use Rattle.rules.specs.Phase
 use Rattle.rules.specs.Reachable.{Reachable}
 use Rattle.rules.proofs.Tests.{le-or-lt}
@@ -24,9 +25,9 @@ module _ (c : Contents) (sound : Sound c) (reached : Reachable (meaning c)) wher
       record {
         unended = λ a _. z .unended a;
         standings = λ a _. z .standings a;
-        needs = λ a _. z .needs a;
-        booked = λ a _. z .booked a;
-        figures = λ a _. z .figures a;
+        needs = λ a _. z .needs chilled a;
+        booked = λ a _. z .booked chilled a;
+        figures = λ a _. z .figures chilled a;
       }))
       (le-or-lt Phase.running (c .phase))
 
@@ -34,7 +35,7 @@ module _ (c : Contents) (sound : Sound c) (reached : Reachable (meaning c)) wher
   nothing-past =
       record {
         parents = unused-past c sound reached (c .parents) (sound .parents);
-        works = unused-past c sound reached (c .chilled .works) (sound .works);
-        outs = unused-past c sound reached (c .chilled .outs) (sound .outs);
+        works = unused-past c sound reached (c .stores .chilled .works) (sound .works);
+        outs = unused-past c sound reached (c .stores .chilled .outs) (sound .outs);
         day = day-past;
       }

@@ -8,6 +8,7 @@ use native.Mathlib.Omega.{arith}
 use lib.Dec.{eqb, ltb}
 use lib.ListN.{length, take, set, length-set}
 use lib.Seq.{length-take-le}
+use Rattle.rules.specs.Kind.{chilled}
 use Rattle.rules.specs.Lists.{mem}
 use Rattle.rules.specs.Limits.{maxTasks}
 use Rattle.rules.specs.Phase
@@ -19,6 +20,7 @@ use Rattle.words.specs.Layout.{row, rows, words, headBase, entries, activationB
 use Rattle.words.specs.Contents as held
 use Rattle.words.specs.Contents.{Contents, contents, withCell, storeWithCell, withHead, storeWithHead}
 use Rattle.words.proofs.Contents.{Lengths, lengths, contents-activation, contents-execution, wrote-cell, wrote-head}
+use Rattle.store.proofs.InStore.{by-kind}
 use Rattle.answer.specs.declared.Answer.{Answer}
 use Rattle.answer.specs.Meaning.{meaning}
 use Rattle.answer.specs.Sound.{Noted, Sound}
@@ -113,16 +115,16 @@ module _ (c : Contents) (sound : Sound c) (long : Lengths c) (i : ℕ) where
             record {
               unended = z .unended;
               standings = z .standings;
-              needs = z .needs;
-              booked = z .booked;
-              figures = z .figures;
+              needs = by-kind _ (z .needs chilled);
+              booked = by-kind _ (z .booked chilled);
+              figures = by-kind _ (z .figures chilled);
               ready = z .ready;
               filled = z .filled;
               next = z .next;
               active = z .active;
               ended = z .ended;
-              total = z .total;
-              used = z .used;
+              total = by-kind _ (z .total chilled);
+              used = by-kind _ (z .used chilled);
             });
         day = λ h. absurd (omega arith);
       }
@@ -153,16 +155,16 @@ module _ (c : Contents) (sound : Sound c) (long : Lengths c) (i : ℕ) where
             record {
               unended = z .unended;
               standings = z .standings;
-              needs = z .needs;
-              booked = z .booked;
-              figures = z .figures;
+              needs = by-kind _ (z .needs chilled);
+              booked = by-kind _ (z .booked chilled);
+              figures = by-kind _ (z .figures chilled);
               ready = z .ready;
               filled = z .filled;
               next = z .next;
               active = z .active;
               ended = z .ended;
-              total = z .total;
-              used = z .used;
+              total = by-kind _ (z .total chilled);
+              used = by-kind _ (z .used chilled);
             });
         day = λ h. absurd (omega arith);
       }

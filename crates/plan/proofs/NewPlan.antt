@@ -6,6 +6,7 @@ use Prim.Native.Nat.{ℕ, suc, _+_, _≤_, _<_}
 use native.Mathlib.Omega.{arith}
 use lib.Dec.{leb}
 use lib.ListN.{length, take, replicate, length-replicate, getD-replicate, List·getD-eq-default}
+use Rattle.rules.specs.Kind.{each}
 use Rattle.rules.specs.Sums.{only}
 use Rattle.rules.specs.Limits.{maxTasks}
 use Rattle.rules.specs.Lists.{at}
@@ -74,13 +75,15 @@ module _ {w : List ℕ} (new : NewPlan w) where
         activation = take (head 4 z) (contents w .activation);
         execution = take (head 8 z) (contents w .execution);
         standings = take (only (leb Phase.running (head 0 z)) (suc (head 1 z))) (contents w .standings);
-        chilled =
+        stores =
+            each
+            (λ _.
             record {
               bound = head 5 z;
-              works = take (head 3 z) (contents w .chilled .works);
-              outs = take (head 3 z) (contents w .chilled .outs);
-              booked = take (only (leb Phase.running (head 0 z)) (suc (head 1 z))) (contents w .chilled .booked);
-            };
+              works = take (head 3 z) (contents w .stores .chilled .works);
+              outs = take (head 3 z) (contents w .stores .chilled .outs);
+              booked = take (only (leb Phase.running (head 0 z)) (suc (head 1 z))) (contents w .stores .chilled .booked);
+            });
       }
 
   unused : (l : List ℕ) → ((a : ℕ) → at l a ≡ 0) → Unused (contents w .given) l
@@ -105,8 +108,8 @@ module _ {w : List ℕ} (new : NewPlan w) where
         bounded = omega arith;
         light = λ i. let x = b .works i in let y = b .outs i in (omega arith, omega arith);
         parents = unused (contents w .parents) (b .parents);
-        works = unused (contents w .chilled .works) (b .works);
-        outs = unused (contents w .chilled .outs) (b .outs);
+        works = unused (contents w .stores .chilled .works) (b .works);
+        outs = unused (contents w .stores .chilled .outs) (b .outs);
         given =
             record {
               unopened = λ _. given;

@@ -24,8 +24,8 @@ given a =
       number = a .number;
       used = a .used;
       starts = a .starts;
-      peak = a .peak .trays;
-      by = a .peak .task;
+      peak = a .peaks .chilled .trays;
+      by = a .peaks .chilled .task;
       offers = a .offers;
     }
 

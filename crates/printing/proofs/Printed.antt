@@ -42,7 +42,7 @@ of-read a e e′ = ap (λ (d : Decoded). acceptedLine (decoded d) a) e ∙ ap (�
 
 module _ (a : rules.Answered) {b u f : ℕ} (eb : b ≡ booked (a .state)) (eu : u ≡ inUse (a .state)) (ef : f ≡ fullness (a .state)) where
   -- the lines of BEGIN, DONE and 08 with the figures that the questions answered
-  pub of-begin : line (commandOf Begin) a ≡ beginLine (a .answer .peak) b u f (take (a .answer .starts) (a .list))
+  pub of-begin : line (commandOf Begin) a ≡ beginLine (a .answer .peaks .chilled) b u f (take (a .answer .starts) (a .list))
   unfolding line
   of-begin = rw (eb, eu, ef)
 

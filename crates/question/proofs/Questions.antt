@@ -7,12 +7,13 @@ use Prim.Native.Nat.{ℕ, _+_, _-_, _≤_, _<_}
 use native.Mathlib.Omega.{arith}
 use lib.Dec.{eqb}
 use borrow.Author.Tests.{eqb-true, eq-eqb, ne-eqb}
+use Rattle.rules.specs.Kind.{chilled}
 use Rattle.rules.specs.Sums.{only}
 use Rattle.rules.specs.Lists.{at}
 use Rattle.rules.specs.Phase
 use Rattle.rules.specs.Standing.{waiting, activated, running, finished, count, counts}
 use Rattle.rules.specs.Reachable.{Reachable}
-use Rattle.rules.specs.Question.{booked, inUse, standing}
+use Rattle.rules.specs.Question.{bookedIn, booked, inUseIn, inUse, standing}
 use Rattle.rules.specs.Booking.{total}
 use Rattle.rules.proofs.Sums.{only-true, only-cong, count-none, count-all}
 use Rattle.rules.proofs.Tests.{decide, same-or-not, or-cases}
@@ -48,14 +49,14 @@ held-phase c held =
     (or-cases (eqb (c .phase) Phase.running) (eqb (c .phase) Phase.ready) held)
 
 -- in both of them the kept total is what is booked
-pub booked-kept : (c : Contents) → Sound c → only (Phase.holdsTrays (c .phase)) (c .chilled .total) ≡ booked (meaning c)
-unfolding booked
+pub booked-kept : (c : Contents) → Sound c → only (Phase.holdsTrays (c .phase)) (c .stores .chilled .total) ≡ booked (meaning c)
+unfolding bookedIn
 booked-kept c sound =
-    only-cong (Phase.holdsTrays (c .phase)) (c .chilled .total) (total (c .size) (at (meaning c .chilled .booked)))
+    only-cong (Phase.holdsTrays (c .phase)) (c .stores .chilled .total) (total (c .size) (at (meaning c .stores .chilled .booked)))
     (λ held.
     ⊎-elim
     (λ (now : c .phase ≡ Phase.running).
-    rw (booked-rows c sound (omega arith)) (cached-now c sound now .store .totals))
+    rw (booked-rows c sound (omega arith)) (cached-now c sound now .stores chilled .totals))
     (λ (now : c .phase ≡ Phase.ready).
     rw (booked-rows c sound (omega arith)) (sound .day (omega arith) .closed (omega arith) .totals))
     (held-phase c held))
@@ -65,8 +66,8 @@ pub in-use-kept :
     (c : Contents)
     → Reachable (meaning c)
     → Sound c
-    → only (Phase.holdsTrays (c .phase)) (c .chilled .used) ≡ inUse (meaning c)
-unfolding inUse
+    → only (Phase.holdsTrays (c .phase)) (c .stores .chilled .used) ≡ inUse (meaning c)
+unfolding inUseIn
 in-use-kept c reached sound =
     ⊎-elim
     (λ (held : Phase.holdsTrays (c .phase) ≡ true). ⊎-elim (running held) ready (held-phase c held))
@@ -76,30 +77,30 @@ in-use-kept c reached sound =
     running :
         Phase.holdsTrays (c .phase) ≡ true
         → c .phase ≡ Phase.running
-        → only (Phase.holdsTrays (c .phase)) (c .chilled .used) ≡ inUse (meaning c)
+        → only (Phase.holdsTrays (c .phase)) (c .stores .chilled .used) ≡ inUse (meaning c)
     running held now =
         let day = lives reached .day (in-running c sound now) in
-        only-true (Phase.holdsTrays (c .phase)) (c .chilled .used) held
-        ∙ cached-now c sound now .store .uses
+        only-true (Phase.holdsTrays (c .phase)) (c .stores .chilled .used) held
+        ∙ cached-now c sound now .stores chilled .uses
         ∙ sym
-        (in-use-going (meaning c) (day .0) (day .1) (going c reached sound now)
+        (in-use-going (meaning c) (day .0) (day .1) (going c reached sound now) chilled
         ∙ rw (parents-meant c sound, works-meant c sound, outs-meant c sound, standings-rows c sound (in-running c sound now)) refl)
 
     -- the trolley is all that is booked, and all that is in use
-    ready : c .phase ≡ Phase.ready → only (Phase.holdsTrays (c .phase)) (c .chilled .used) ≡ inUse (meaning c)
+    ready : c .phase ≡ Phase.ready → only (Phase.holdsTrays (c .phase)) (c .stores .chilled .used) ≡ inUse (meaning c)
     ready now =
         let on : Phase.running ≤ c .phase = omega arith in
         let day = lives reached .day on in
         let planned = day .1 .planned in
         let root = some-root (meaning c .size) (at (meaning c .parents)) (planned .rooted) in
-        let trolley = day-holds (meaning c) (day .0) (day .1) .store .remains now (root .0) (root .1) (root .2) in
+        let trolley = day-holds (meaning c) (day .0) (day .1) .stores chilled .remains now (root .0) (root .1) (root .2) in
         ap (only (Phase.holdsTrays (c .phase))) (sound .day on .closed (omega arith) .uses)
         ∙ booked-kept c sound
         ∙ trolley .0
         ∙ sym (trolley .1)
 
     elsewhere :
-        Phase.holdsTrays (c .phase) ≡ false → only (Phase.holdsTrays (c .phase)) (c .chilled .used) ≡ inUse (meaning c)
+        Phase.holdsTrays (c .phase) ≡ false → only (Phase.holdsTrays (c .phase)) (c .stores .chilled .used) ≡ inUse (meaning c)
     elsewhere held = rw held refl
 
 -- before a day there is no standing

@@ -3,6 +3,7 @@ use mathlib.Core.Path.{_≡_, sym, ap, ap₂, _∙_}
 use mathlib.Core.Logic.{⊎-elim}
 use Prim.Native.Nat.{ℕ, _+_, _-_, _≤_, _<_}
 use native.Mathlib.Omega.{arith}
+use Rattle.rules.specs.Kind.{chilled}
 use Rattle.rules.specs.Sums.{Task}
 use Rattle.rules.specs.Lists.{at}
 use Rattle.rules.specs.Phase
@@ -19,6 +20,7 @@ use Rattle.words.specs.Contents.{Contents}
 use Rattle.words.proofs.Contents.{Lengths}
 use Rattle.store.specs.Rows.{books, activationOf}
 use Rattle.store.specs.Kept.{Kept}
+use Rattle.store.proofs.InStore.{cached-in, total-within}
 use Rattle.booking.proofs.Turn.{next-is-first, misses-it}
 use Rattle.booking.proofs.Booking.{turn, nextTask, lacking}
 use Rattle.answer.specs.Meaning.{meaning}
@@ -33,8 +35,8 @@ module _ (c : Contents) (reached : Reachable (meaning c)) (sound : Sound c) (now
   kept = still-kept c reached sound now
 
   -- what is booked is within the bound
-  pub within-bound : c .chilled .total ≤ c .chilled .bound
-  within-bound = let e = kept .cached .store .totals in let w = kept .invariant .good .stock .within in omega arith
+  pub within-bound : c .stores .chilled .total ≤ c .stores .chilled .bound
+  within-bound = total-within kept chilled
 
   module _ (more : c .next < c .size) where
     pub next-first : firstWaiting (meaning c) ≡ nextTask c
@@ -44,11 +46,11 @@ module _ (c : Contents) (reached : Reachable (meaning c)) (sound : Sound c) (now
         (first-is (c .size) (at (c .parents)) (activationOf c) (kept .invariant .valid) (at (books c .standings)) (nextTask c)
         (next-is-first (turn kept sizes more)))
 
-    pub next-lack : lackIn (meaning c) (meaning c .chilled) (nextTask c) ≡ c .chilled .total + lacking c - c .chilled .bound
+    pub next-lack : lackIn (meaning c) (meaning c .stores .chilled) (nextTask c) ≡ c .stores .chilled .total + lacking c chilled - c .stores .chilled .bound
     unfolding lackIn misses
     next-lack =
         rw (needs-meant c sound now, parents-meant c sound, standings-rows c sound day, booked-rows c sound day)
-        (ap₂ (λ (b m : ℕ). b + m - c .chilled .bound) (sym (kept .cached .store .totals)) (misses-it (turn kept sizes more)))
+        (ap₂ (λ (b m : ℕ). b + m - c .stores .chilled .bound) (sym (cached-in kept chilled .totals)) (misses-it (turn kept sizes more) chilled))
 
   -- where a task waits there is a next one
   pub some-waits : (i : ℕ) → Task (c .size) i → at (meaning c .standings) i ≡ waiting → c .next < c .size

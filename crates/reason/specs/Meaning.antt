@@ -1,4 +1,5 @@
 -- What the code's reasons mean in the rules, case by case.
+use Rattle.rules.specs.Kind.{each}
 use Rattle.rules.specs.Why as rules
 use Rattle.reason.specs.declared.Reason.{Reason}
 use Rattle.reason.specs.declared.Reason.the-variants.{Refused, Ended, Running, NotBooked, Unfed, NoProcessor}
@@ -7,6 +8,6 @@ abbrev pub reasonOf : Reason → rules.Reason
 reasonOf (Refused ground) = rules.refused ground
 reasonOf Ended = rules.ended
 reasonOf Running = rules.running
-reasonOf (NotBooked first lack) = rules.notBooked first lack
+reasonOf (NotBooked first lack) = rules.notBooked first (each (λ _. lack))
 reasonOf (Unfed child) = rules.unfed child
 reasonOf NoProcessor = rules.noProcessor

@@ -63,7 +63,7 @@ fn unended_child(plan: &[u32; Plan::WORDS], task: usize) -> u16
 fn not_booked(plan: &[u32; Plan::WORDS]) -> Reason
     requires { ⌜ AskedWaiting (now plan) ⌝ }
     ensures { λ r. ⌜ reasonOf r ≡ rules.notBooked (rules.firstWaiting (planOf (now (plan .entry))))
-        (rules.lackIn (planOf (now (plan .entry))) (planOf (now (plan .entry)) .chilled) (rules.firstWaiting (planOf (now (plan .entry))))) ⌝ }
+        (rules.lacks (planOf (now (plan .entry))) (rules.firstWaiting (planOf (now (plan .entry))))) ⌝ }
 {
     let next = cell(plan, Plan::HEAD, Plan::NEXT) as usize;
     let first = entry(plan, Plan::ACTIVATION, next) as u16;

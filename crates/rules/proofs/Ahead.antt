@@ -8,10 +8,12 @@ use native.Mathlib.Omega.{arith}
 use lib.Dec.{eqb}
 use lib.ListN.{set, length-set}
 use borrow.Author.Tests.{eqb-true, eqb-false, leb-true}
+use Rattle.rules.specs.Kind.{Kind}
 use Rattle.rules.specs.Lists.{at, mem}
 use Rattle.rules.specs.Standing.{waiting, activated}
-use Rattle.rules.specs.Booking.{Books, total, missing, misses, allows, book, activate}
+use Rattle.rules.specs.Booking.{Terms, Books, bookedIn, total, missing, misses, allowsIn, allows, book, activate}
 use Rattle.rules.specs.Invariant.{Valid, rankIn, Tree, Shape, FirstWaiting, Roomy, Stocked, Good}
+use Rattle.rules.proofs.EachStore.{of-each, all-each}
 use Rattle.rules.proofs.Tests.{decide, same-or-not, or-cases}
 use Rattle.rules.proofs.Sums.{Task}
 use Rattle.rules.proofs.Orders.{mem-append, mem-one}
@@ -24,13 +26,13 @@ use Rattle.rules.proofs.Branches.{activate-pass, activate-book, activat
 use Rattle.rules.proofs.Entries.{at-set, at-other, moved-by-set, given-by-set}
 
 -- what booking ahead makes of the books k
-pub record Activated (n : ℕ) (par rank need out : ℕ → ℕ) (bound : ℕ) (k k′ : Books) : Type 0 where
-  pub good : Good n par rank need out bound k′
+pub record Activated (n : ℕ) (par rank : ℕ → ℕ) (terms : Kind → Terms) (k k′ : Books) : Type 0 where
+  pub good : Good n par rank terms k′
   -- only waiting tasks change, and become booked
   pub kept : (i : ℕ) → Task n i → (at (k .standings) i ≡ waiting → ⊥) → at (k′ .standings) i ≡ at (k .standings) i
   pub waited : (i : ℕ) → Task n i → at (k .standings) i ≡ waiting → at (k′ .standings) i ≤ activated
   -- the first that still waits is not allowed
-  pub halted : (x : ℕ) → FirstWaiting n rank (at (k′ .standings)) x → allows n par need bound k′ x ≡ false
+  pub halted : (x : ℕ) → FirstWaiting n rank (at (k′ .standings)) x → allows n par terms k′ x ≡ false
 
 -- two tasks that are first to wait are one
 pub first-waiting-one :
@@ -69,15 +71,15 @@ book-stocked n par rank tree st st′ shape x w moved need out bound b roomy sto
     }
 
 module _ (n : ℕ) (par : ℕ → ℕ) (order : List ℕ) (valid : Valid n par order) (tree : Tree n par (rankIn order))
-    (need out : ℕ → ℕ) (roomy : Roomy n par need out) (bound : ℕ) where
+    (terms : Kind → Terms) (roomy : (k : Kind) → Roomy n par (terms k .need) (terms k .out)) where
   -- one task booked
   pub book-good :
       (k : Books) (x : ℕ)
-      → Good n par (rankIn order) need out bound k
+      → Good n par (rankIn order) terms k
       → FirstWaiting n (rankIn order) (at (k .standings)) x
-      → allows n par need bound k x ≡ true
-      → Good n par (rankIn order) need out bound (book n par need k x)
-  unfolding book misses allows
+      → allows n par terms k x ≡ true
+      → Good n par (rankIn order) terms (book n par terms k x)
+  unfolding book misses allowsIn allows
   book-good k x good w a =
       let moved = moved-by-set n (k .standings) x activated (good .sized) (w .task) in
       record {
@@ -85,8 +87,11 @@ module _ (n : ℕ) (par : ℕ → ℕ) (order : List ℕ) (valid : Valid n par o
         shape =
             activating-shape n par (rankIn order) tree (at (k .standings)) _ (good .shape) x (w .task) (w .waits) (w .first) moved;
         stock =
-            book-stocked n par (rankIn order) tree (at (k .standings)) _ (good .shape) x w moved need out bound (k .booked) roomy
-            (good .stock) (leb-true _ bound a);
+            λ d.
+            rw (of-each (λ e. set (bookedIn k e) x (at (bookedIn k e) x + misses n par terms k e x)) d)
+            (book-stocked n par (rankIn order) tree (at (k .standings)) _ (good .shape) x w moved (terms d .need) (terms d .out)
+            (terms d .bound) (bookedIn k d) (roomy d) (good .stock d)
+            (leb-true _ (terms d .bound) (all-each (allowsIn n par terms k x) a d)));
       }
 
   -- who stands in front of the rest of the order, with one more
@@ -109,15 +114,15 @@ module _ (n : ℕ) (par : ℕ → ℕ) (order : List ℕ) (valid : Valid n par o
       (pre : List ℕ) (x : ℕ) (k : Books)
       → Task n x
       → ((j : ℕ) → mem j pre ≡ true → at (k .standings) j ≡ waiting → ⊥)
-      → Good n par (rankIn order) need out bound k
+      → Good n par (rankIn order) terms k
       → (j : ℕ)
       → mem j (pre ++ (x ∷ [])) ≡ true
-      → at (book n par need k x .standings) j ≡ waiting
+      → at (book n par terms k x .standings) j ≡ waiting
       → ⊥
   unfolding book
   booked-busy pre x k t busy good =
       let there = at-set n (k .standings) x activated (good .sized) t in
-      one-more pre x (book n par need k x)
+      one-more pre x (book n par terms k x)
       (λ j m w.
       ⊎-elim
       (λ q. let z : at (set (k .standings) x activated) j ≡ activated = ap (at (set (k .standings) x activated)) q ∙ there in omega arith)
@@ -129,9 +134,9 @@ module _ (n : ℕ) (par : ℕ → ℕ) (order : List ℕ) (valid : Valid n par o
   after-book :
       (x : ℕ) (k : Books) {k′ : Books}
       → FirstWaiting n (rankIn order) (at (k .standings)) x
-      → Good n par (rankIn order) need out bound k
-      → Activated n par (rankIn order) need out bound (book n par need k x) k′
-      → Activated n par (rankIn order) need out bound k k′
+      → Good n par (rankIn order) terms k
+      → Activated n par (rankIn order) terms (book n par terms k x) k′
+      → Activated n par (rankIn order) terms k k′
   unfolding book
   after-book x k first good done =
       let there = at-set n (k .standings) x activated (good .sized) (first .task) in
@@ -161,8 +166,8 @@ module _ (n : ℕ) (par : ℕ → ℕ) (order : List ℕ) (valid : Valid n par o
       (pre later : List ℕ) (k : Books)
       → order ≡ pre ++ later
       → ((j : ℕ) → mem j pre ≡ true → at (k .standings) j ≡ waiting → ⊥)
-      → Good n par (rankIn order) need out bound k
-      → Activated n par (rankIn order) need out bound k (activate n par need bound later k)
+      → Good n par (rankIn order) terms k
+      → Activated n par (rankIn order) terms k (activate n par terms later k)
   unfolding activate
   activates pre [] k e busy good =
       record {
@@ -187,22 +192,22 @@ module _ (n : ℕ) (par : ℕ → ℕ) (order : List ℕ) (valid : Valid n par o
       }
       in
       ⊎-elim
-      (λ (a : allows n par need bound k x ≡ true).
-      rw (activate-book n par need bound x later k w a)
+      (λ (a : allows n par terms k x ≡ true).
+      rw (activate-book n par terms x later k w a)
       (after-book x k first good
-      (activates (pre ++ (x ∷ [])) later (book n par need k x) rest (booked-busy pre x k t busy good)
+      (activates (pre ++ (x ∷ [])) later (book n par terms k x) rest (booked-busy pre x k t busy good)
       (book-good k x good first a))))
-      (λ (a : allows n par need bound k x ≡ false).
-      rw (activate-stop n par need bound x later k w a)
+      (λ (a : allows n par terms k x ≡ false).
+      rw (activate-stop n par terms x later k w a)
       (record {
         good = good;
         kept = λ i u d. refl;
         waited = λ i u z. omega arith;
-        halted = λ y v. ap (allows n par need bound k) (first-waiting-one n par order valid (at (k .standings)) y x v first) ∙ a;
+        halted = λ y v. ap (allows n par terms k) (first-waiting-one n par order valid (at (k .standings)) y x v first) ∙ a;
       }))
-      (decide (allows n par need bound k x)))
+      (decide (allows n par terms k x)))
       (λ (w : eqb (at (k .standings) x) waiting ≡ false).
-      rw (activate-pass n par need bound x later k w)
+      rw (activate-pass n par terms x later k w)
       (activates (pre ++ (x ∷ [])) later k rest
       (one-more pre x k busy (eqb-false (at (k .standings) x) waiting w)) good))
       (decide (eqb (at (k .standings) x) waiting))

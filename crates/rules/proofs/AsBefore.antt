@@ -32,7 +32,7 @@ use Rattle.rules.specs.Command.{
   bytes,
   decode,
 }
-use Rattle.rules.specs.Grounds.{noExecution, inTurn, inLimits, peakedOf, demand, ownGround, ground}
+use Rattle.rules.specs.Grounds.{noExecution, inTurn, inLimits, peaksOf, demand, ownGround, ground}
 use Rattle.rules.specs.Obey.{Outcome, withOrders, completed, proceed, fresh, obey}
 use Rattle.rules.specs.Answer.{Asking, Answered, refuse, accept, judge, command}
 use Rattle.rules.specs.Day.{answers, accepts, isBegin}
@@ -79,7 +79,7 @@ module _ (s : State) where
       let placed = eqb-true (length (s .execution)) (s .size) (last .1) in
       let turn = begin-in-turn s (eqb-true (s .phase) Phase.orders (first .0)) ranked (or-left _ (noExecution s) (last .1)) in (
         begin-ground s turn ∙ was .1,
-        ap (λ (t : State). proceed t Phase.running (fresh (s .size)) (peakedOf s) 0) (completed-whole s ranked placed),
+        ap (λ (t : State). proceed t Phase.running (fresh (s .size)) (peaksOf s) 0) (completed-whole s ranked placed),
       )
 
   -- the ground is the same but for a plan without an execution order

@@ -7,6 +7,7 @@ use native.Mathlib.Omega.{arith}
 use lib.ListN.{length, drop, length-append, length-drop}
 use lib.Seq.{drop-append-seam}
 use Rattle.rules.specs.Lists.{at, every}
+use Rattle.rules.specs.Kind.{Each}
 use Rattle.rules.specs.Peak.{Peaked}
 use Rattle.rules.specs.State.{State}
 use Rattle.rules.specs.Command.{Command, plan, task, activation, execution, begin, done, fetch, places}
@@ -22,11 +23,11 @@ use Rattle.rules.proofs.Steps.{Refused, Obeyed, Step, is-refused, is-ob
 
 -- no more tasks start than there are processors
 proceed-few :
-    (s : State) (phase : ℕ) (k : Books) (peak : Peaked) (offers : ℕ)
+    (s : State) (phase : ℕ) (k : Books) (peaks : Each Peaked) (offers : ℕ)
     → every (λ i. within i (s .size)) (s .execution) ≡ true
-    → length (proceed s phase k peak offers .started) ≤ s .processors
+    → length (proceed s phase k peaks offers .started) ≤ s .processors
 unfolding proceed begun free
-proceed-few s phase k peak offers inside =
+proceed-few s phase k peaks offers inside =
     let few =
     starts-length (s .size) (at (s .parents)) (s .execution) inside
     (free (s .size) (s .processors) (ahead s k .standings)) (ahead s k .standings)

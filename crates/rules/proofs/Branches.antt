@@ -7,42 +7,43 @@ use native.Mathlib.Omega.{arith}
 use lib.Dec.{eqb}
 use lib.ListN.{length, set, drop}
 use borrow.Author.Tests.{ne-eqb}
+use Rattle.rules.specs.Kind.{Kind, Each}
 use Rattle.rules.specs.Lists.{at, first}
 use Rattle.rules.specs.Standing.{waiting, running}
-use Rattle.rules.specs.Booking.{Books, allows, book, activate, ready, starts, Share, spent, pass, release, offer, climb}
+use Rattle.rules.specs.Booking.{Terms, Books, allows, book, activate, ready, starts, Share, spent, passEach, release, offer, climb}
 
-module _ (n : ℕ) (par need : ℕ → ℕ) (bound : ℕ) (i : ℕ) (later : List ℕ) (s : Books) where
+module _ (n : ℕ) (par : ℕ → ℕ) (terms : Kind → Terms) (i : ℕ) (later : List ℕ) (s : Books) where
   -- booking ahead passes a task that does not wait, books one that is allowed, and stops at one that is not
   pub activate-pass :
       eqb (at (s .standings) i) waiting ≡ false
-      → activate n par need bound (i ∷ later) s ≡ activate n par need bound later s
+      → activate n par terms (i ∷ later) s ≡ activate n par terms later s
   unfolding activate
   activate-pass e = rw (e, activate)
 
   pub activate-book :
       eqb (at (s .standings) i) waiting ≡ true
-      → allows n par need bound s i ≡ true
-      → activate n par need bound (i ∷ later) s ≡ activate n par need bound later (book n par need s i)
+      → allows n par terms s i ≡ true
+      → activate n par terms (i ∷ later) s ≡ activate n par terms later (book n par terms s i)
   unfolding activate
   activate-book e a = rw (e, a, activate)
 
   pub activate-stop :
       eqb (at (s .standings) i) waiting ≡ true
-      → allows n par need bound s i ≡ false
-      → activate n par need bound (i ∷ later) s ≡ s
+      → allows n par terms s i ≡ false
+      → activate n par terms (i ∷ later) s ≡ s
   unfolding activate
   activate-stop e a = rw (e, a, activate)
 
 -- booking ahead passes all that do not wait
 pub passes-all :
-    (n : ℕ) (par need : ℕ → ℕ) (bound : ℕ) (l : List ℕ) (next : ℕ) (k : Books)
+    (n : ℕ) (par : ℕ → ℕ) (terms : Kind → Terms) (l : List ℕ) (next : ℕ) (k : Books)
     → ((e : ℕ) → e < next → at (k .standings) (at l e) ≡ waiting → ⊥)
-    → activate n par need bound l k ≡ activate n par need bound (drop next l) k
-passes-all n par need bound l zero k busy = refl
-passes-all n par need bound [] (suc next) k busy = refl
-passes-all n par need bound (x ∷ l) (suc next) k busy =
-    activate-pass n par need bound x l k (ne-eqb (at (k .standings) x) waiting (busy 0 (omega arith)))
-    ∙ passes-all n par need bound l next k (λ e h. busy (suc e) (omega arith))
+    → activate n par terms l k ≡ activate n par terms (drop next l) k
+passes-all n par terms l zero k busy = refl
+passes-all n par terms [] (suc next) k busy = refl
+passes-all n par terms (x ∷ l) (suc next) k busy =
+    activate-pass n par terms x l k (ne-eqb (at (k .standings) x) waiting (busy 0 (omega arith)))
+    ∙ passes-all n par terms l next k (λ e h. busy (suc e) (omega arith))
 
 module _ (n : ℕ) (par : ℕ → ℕ) (execution : List ℕ) (free : ℕ) (st : List ℕ) where
   -- starting stops where nobody is ready, and starts the first that is
@@ -57,16 +58,16 @@ module _ (n : ℕ) (par : ℕ → ℕ) (execution : List ℕ) (free : ℕ) (st :
   unfolding starts
   starts-one i e = rw (e, starts)
 
-module _ (n : ℕ) (par need st : ℕ → ℕ) (i : ℕ) (above : List ℕ) (s : Share) where
+module _ (n : ℕ) (par : ℕ → ℕ) (terms : Kind → Terms) (st : ℕ → ℕ) (i : ℕ) (above : List ℕ) (s : Each Share) where
   -- a climb stops at a waiting task or with nothing left, and offers to any other
   pub climb-stop :
-      (eqb (st i) waiting || spent s) ≡ true → climb n par need st (i ∷ above) s ≡ record { offered = []; share = s }
+      (eqb (st i) waiting || spent s) ≡ true → climb n par terms st (i ∷ above) s ≡ record { offered = []; share = s }
   unfolding climb
   climb-stop e = rw (e, climb)
 
   pub climb-offer :
       (eqb (st i) waiting || spent s) ≡ false
-      → climb n par need st (i ∷ above) s ≡ offer i (climb n par need st above (pass n par need i s))
+      → climb n par terms st (i ∷ above) s ≡ offer i (climb n par terms st above (passEach n par terms st i s))
   unfolding climb
   climb-offer e = rw (e, climb)
 

@@ -9,15 +9,17 @@ use lib.Dec.{eqb}
 use lib.ListN.{length, set}
 use lib.Seq.{drop-length}
 use borrow.Author.Tests.{eq-eqb, ne-eqb}
+use Rattle.rules.specs.Kind.{Kind, Each, of, each}
 use Rattle.rules.specs.Lists.{at}
 use Rattle.rules.specs.Phase
 use Rattle.rules.specs.Standing.{running, finished}
-use Rattle.rules.specs.State.{State, needs}
+use Rattle.rules.specs.State.{State, storeOf, needsIn}
 use Rattle.rules.specs.Command.{done}
 use Rattle.rules.specs.Grounds.{within}
 use Rattle.rules.specs.Booking.{Books, Share, Climbed, total, chain, activate, start, free, release, climb, dispatch}
-use Rattle.rules.specs.Obey.{withBooks, ahead, begun, proceed, endedStandings, shared, ended, phaseAfter, plain, obey}
-use Rattle.rules.specs.Invariant.{rankIn}
+use Rattle.rules.specs.Obey.{withBooked, withBooks, termsOf, booksOf, ahead, begun, proceed, endedStandings, shared, ended, phaseAfter, plain, obey}
+use Rattle.rules.specs.Invariant.{rankIn, Stocked}
+use Rattle.rules.proofs.EachStore.{of-each, each-same}
 use Rattle.rules.proofs.Tests.{same-or-not}
 use Rattle.rules.proofs.Sums.{Task, sum-le, only-true, only-false}
 use Rattle.rules.proofs.Orders.{within-task, mem-at, every-mem}
@@ -28,7 +30,7 @@ use Rattle.rules.proofs.Finishing.{finishing-shape}
 use Rattle.rules.proofs.Branches.{passes-all, release-root}
 use Rattle.rules.proofs.Starts.{Startable, starts-startable}
 use Rattle.rules.proofs.Entries.{at-set, at-other, moved-by-set}
-use Rattle.rules.proofs.InDay.{Planned, Going, Closed, tree, needs-roomy}
+use Rattle.rules.proofs.InDay.{Planned, Going, Remaining, Closed, tree, needs-roomy}
 
 -- nobody that has ended starts
 no-starts :
@@ -40,7 +42,7 @@ no-starts n par st (x ∷ l) all may = let e = all x (may .0) in let b = may .1 
 -- the plan once its root has ended: all have, and its out remains booked
 abbrev pub readyAfter : State → ℕ → State
 readyAfter s j =
-    withBooks s Phase.ready (endedStandings s j) (set (s .chilled .booked) j (at (s .chilled .outs) j))
+    withBooks s Phase.ready (endedStandings s j) (each (λ k. set (storeOf s k .booked) j (at (storeOf s k .outs) j)))
 
 module _ (s : State) (p : Planned s) (going : Going s) (j : ℕ) (task : Task (s .size) j) (runs : at (s .standings) j ≡ running)
     (root : at (s .parents) j ≡ 0) where
@@ -53,40 +55,43 @@ module _ (s : State) (p : Planned s) (going : Going s) (j : ℕ) (task : Task (s
       (moved-by-set (s .size) (s .standings) j finished (going .settled .good .sized) task))
       (p .rooted) j task root (at-set (s .size) (s .standings) j finished (going .settled .good .sized) task)
 
-  abbrev remaining : List ℕ
-  remaining = set (s .chilled .booked) j (at (s .chilled .outs) j)
+  abbrev remaining : Kind → List ℕ
+  remaining k = set (storeOf s k .booked) j (at (storeOf s k .outs) j)
+
+  abbrev keptIn : Kind → Share
+  keptIn k = record { left = at (storeOf s k .booked) j - at (storeOf s k .outs) j; booked = remaining k }
 
   -- nobody is above the root
   abbrev kept : Climbed
-  kept =
-      record {
-        offered = [];
-        share = record { left = at (s .chilled .booked) j - at (s .chilled .outs) j; booked = remaining };
-      }
+  kept = record { offered = []; share = each keptIn }
 
   shared-is : shared s j ≡ kept
   unfolding shared dispatch climb
   shared-is =
       ap
       (λ (l : List ℕ).
-      climb (s .size) (at (s .parents)) (needs s) (at (endedStandings s j)) l
-      (release (at (s .parents)) (at (s .chilled .outs)) (s .chilled .booked) j))
+      climb (s .size) (at (s .parents)) (termsOf s) (at (endedStandings s j)) l
+      (each (λ k. release (at (s .parents)) (at (storeOf s k .outs)) (of (booksOf s .booked) k) j)))
       (ap (chain (s .size) (at (s .parents))) root ∙ chain-none (s .size) (at (s .parents)))
-      ∙ ap (λ (h : Share). record { offered = []; share = h })
-      (release-root (at (s .parents)) (at (s .chilled .outs)) (s .chilled .booked) j (eq-eqb (at (s .parents) j) 0 root))
+      ∙ ap (λ (h : Each Share). record { offered = []; share = h })
+      (each-same (λ k. release (at (s .parents)) (at (storeOf s k .outs)) (of (booksOf s .booked) k) j) keptIn
+      (λ k.
+      ap (λ (b : List ℕ). release (at (s .parents)) (at (storeOf s k .outs)) b j) (of-each (λ d. storeOf s d .booked) k)
+      ∙ release-root (at (s .parents)) (at (storeOf s k .outs)) (storeOf s k .booked) j (eq-eqb (at (s .parents) j) 0 root)))
 
   abbrev books : Books
-  books = record { standings = endedStandings s j; booked = remaining }
+  books = record { standings = endedStandings s j; booked = each remaining }
 
   ended-is : ended s j ≡ books
   unfolding ended
-  ended-is = ap (λ (c : Climbed). record { standings = endedStandings s j; booked = c .share .booked }) shared-is
+  ended-is =
+      ap (λ (c : Climbed). record { standings = endedStandings s j; booked = each (λ k. of (c .share) k .booked) }) shared-is
 
   -- nobody waits
   nobody-booked : ahead s books ≡ books
   unfolding ahead activate
   nobody-booked =
-      passes-all (s .size) (at (s .parents)) (needs s) (s .chilled .bound) (s .activation) (length (s .activation)) books
+      passes-all (s .size) (at (s .parents)) (termsOf s) (s .activation) (length (s .activation)) books
       (λ e h w.
       let t =
       within-task (s .size) _
@@ -94,7 +99,7 @@ module _ (s : State) (p : Planned s) (going : Going s) (j : ℕ) (task : Task (s
       in
       let f = all-ended (at (s .activation) e) t in
       omega arith)
-      ∙ ap (λ (l : List ℕ). activate (s .size) (at (s .parents)) (needs s) (s .chilled .bound) l books) (drop-length (s .activation))
+      ∙ ap (λ (l : List ℕ). activate (s .size) (at (s .parents)) (termsOf s) l books) (drop-length (s .activation))
 
   -- nobody is ready
   nobody-starts : begun s books ≡ []
@@ -113,55 +118,68 @@ module _ (s : State) (p : Planned s) (going : Going s) (j : ℕ) (task : Task (s
   closes =
       rw (shared-is, ended-is, phase-is, nobody-booked, nobody-starts) refl
 
-  -- what its trolley holds is within the places, since it held its need
-  held : at (s .chilled .outs) j ≤ at (s .chilled .booked) j
-  held =
-      let exact =
-      running-holds-need (s .size) (at (s .parents)) (rankIn (s .activation)) (tree s p) (needs s) (at (s .chilled .outs))
-      (at (s .standings)) (at (s .chilled .booked)) (going .settled .good .shape) (going .settled .good .stock .books) j task runs
-      in
-      let room = needs-roomy s (s .chilled) j task in
-      omega arith
+  -- in each store
+  module _ (k : Kind) where
+    stock : Stocked (s .size) (at (s .parents)) (needsIn s (storeOf s k)) (at (storeOf s k .outs)) (storeOf s k .bound) (at (s .standings))
+        (storeOf s k .booked)
+    stock = rw (of-each (λ d. storeOf s d .booked) k) at (going .settled .good .stock k)
 
-  there : at remaining j ≡ at (s .chilled .outs) j
-  there = at-set (s .size) (s .chilled .booked) j (at (s .chilled .outs) j) (going .settled .good .stock .sized) task
+    -- what its trolley holds is within the places, since it held its need
+    held : at (storeOf s k .outs) j ≤ at (storeOf s k .booked) j
+    held =
+        let exact =
+        running-holds-need (s .size) (at (s .parents)) (rankIn (s .activation)) (tree s p) (needsIn s (storeOf s k))
+        (at (storeOf s k .outs)) (at (s .standings)) (at (storeOf s k .booked)) (going .settled .good .shape) (stock .books) j task runs
+        in
+        let room = needs-roomy s (storeOf s k) j task in
+        omega arith
 
-  elsewhere : (i : ℕ) → (i ≡ j → ⊥) → at remaining i ≡ at (s .chilled .booked) i
-  elsewhere i d = at-other (s .chilled .booked) j (at (s .chilled .outs) j) i d
+    there : at (remaining k) j ≡ at (storeOf s k .outs) j
+    there = at-set (s .size) (storeOf s k .booked) j (at (storeOf s k .outs) j) (stock .sized) task
 
-  -- the others had ended, and hold nothing
-  empty : (i : ℕ) → Task (s .size) i → (i ≡ j → ⊥) → at remaining i ≡ 0
-  unfolding endedStandings
-  empty i t d =
-      elsewhere i d
-      ∙ going .settled .good .stock .books .empty i t (sym (at-other (s .standings) j finished i d) ∙ all-ended i t)
+    elsewhere : (i : ℕ) → (i ≡ j → ⊥) → at (remaining k) i ≡ at (storeOf s k .booked) i
+    elsewhere i d = at-other (storeOf s k .booked) j (at (storeOf s k .outs) j) i d
+
+    -- the others had ended, and hold nothing
+    empty : (i : ℕ) → Task (s .size) i → (i ≡ j → ⊥) → at (remaining k) i ≡ 0
+    unfolding endedStandings
+    empty i t d =
+        elsewhere i d
+        ∙ stock .books .empty i t (sym (at-other (s .standings) j finished i d) ∙ all-ended i t)
+
+    remains-then : Remaining (readyAfter s j) (withBooked (storeOf s k) (remaining k)) false
+    unfolding withBooks total
+    remains-then =
+        record {
+          booked =
+              λ i t.
+              ⊎-elim
+              (λ q. rw q (there ∙ sym (only-true (eqb (at (s .parents) j) 0) _ (eq-eqb (at (s .parents) j) 0 root))))
+              (λ d.
+              empty i t d
+              ∙ sym
+              (only-false (eqb (at (s .parents) i) 0) _
+              (ne-eqb (at (s .parents) i) 0 (λ z. d (one-root (s .size) (at (s .parents)) (p .rooted) i j t task z root)))))
+              (same-or-not i j);
+          within =
+              (let fewer =
+              sum-le (at (remaining k)) (at (storeOf s k .booked)) (s .size)
+              (λ i t.
+              ⊎-elim (λ q. rw q (let h = held in let e = there in omega arith))
+              (λ d. let e = elsewhere i d in omega arith) (same-or-not i j))
+              in
+              let w = stock .within in
+              omega arith);
+        }
 
   pub closing : Closed (readyAfter s j) false
-  unfolding withBooks total
+  unfolding withBooks
   closing =
       record {
         phased = refl;
         all = all-ended;
         stock =
-            record {
-              booked =
-                  λ i t.
-                  ⊎-elim
-                  (λ q. rw q (there ∙ sym (only-true (eqb (at (s .parents) j) 0) _ (eq-eqb (at (s .parents) j) 0 root))))
-                  (λ d.
-                  empty i t d
-                  ∙ sym
-                  (only-false (eqb (at (s .parents) i) 0) _
-                  (ne-eqb (at (s .parents) i) 0 (λ z. d (one-root (s .size) (at (s .parents)) (p .rooted) i j t task z root)))))
-                  (same-or-not i j);
-              within =
-                  (let fewer =
-                  sum-le (at remaining) (at (s .chilled .booked)) (s .size)
-                  (λ i t.
-                  ⊎-elim (λ q. rw q (let h = held in let e = there in omega arith))
-                  (λ d. let e = elsewhere i d in omega arith) (same-or-not i j))
-                  in
-                  let w = going .settled .good .stock .within in
-                  omega arith);
-            };
+            λ k.
+            rw
+            (of-each (λ d. withBooked (storeOf s d) (of (each remaining) d)) k, of-each remaining k) (remains-then k);
       }

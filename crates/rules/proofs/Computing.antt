@@ -1,5 +1,6 @@
 -- Opens the rules for computing: whoever unfolds `computing` may evaluate a command, a day or the printer.
 use mathlib.Core.List.{flatMap}
+use Rattle.rules.specs.Kind.{all}
 use Rattle.rules.specs.Sums.{sumTo, everyTo, countTo, lowestTo}
 use Rattle.rules.specs.Lists.{mem, first, place, largest}
 use Rattle.rules.specs.Need.{children, need, resident, inProcess, trolley}
@@ -23,7 +24,7 @@ use Rattle.rules.specs.Command.{
   decode,
 }
 use Rattle.rules.specs.Phase
-use Rattle.rules.specs.Grounds.{inTurn, inLimits, peakOf, peakedOf, ownGround, ground}
+use Rattle.rules.specs.Grounds.{inTurn, inLimits, peakOf, peakIn, fitsIn, peaksOf, ownGround, ground}
 use Rattle.rules.specs.Booking.{
   chain,
   total,
@@ -32,6 +33,7 @@ use Rattle.rules.specs.Booking.{
   missing,
   fed,
   misses,
+  allowsIn,
   allows,
   book,
   activate,
@@ -43,6 +45,7 @@ use Rattle.rules.specs.Booking.{
   pass,
   release,
   offer,
+  passEach,
   climb,
   dispatch,
 }
@@ -67,8 +70,8 @@ use Rattle.rules.specs.Obey.{
   obey,
 }
 use Rattle.rules.specs.Answer.{refuse, front, accept, judge, respond, command}
-use Rattle.rules.specs.Question.{isRunning, booked, inUse, fullnessOf, fullness}
-use Rattle.rules.specs.Why.{firstWaiting, lackIn, unendedChild, why}
+use Rattle.rules.specs.Question.{isRunning, bookedIn, inUseIn, fullnessOf, fullness}
+use Rattle.rules.specs.Why.{firstWaiting, lackIn, lacks, unendedChild, why}
 use Rattle.rules.specs.Instance.{tasksTo, commands, written}
 use Rattle.rules.specs.Write.{untouched, atFront, isWhole, writtenLength, write}
 use Rattle.rules.specs.Postorder.{childrenOf, insert, byFalling, peakLessOut, bestPostorder}
@@ -135,8 +138,10 @@ unfolding
     Phase.holdsTrays
     inTurn
     inLimits
+    peakIn
+    fitsIn
     peakOf
-    peakedOf
+    peaksOf
     ownGround
     ground
     chain
@@ -146,6 +151,8 @@ unfolding
     missing
     fed
     misses
+    allowsIn
+    all
     allows
     book
     activate
@@ -158,6 +165,7 @@ unfolding
     pass
     release
     offer
+    passEach
     climb
     dispatch
     opened
@@ -184,10 +192,11 @@ unfolding
     respond
     command
     isRunning
-    booked
-    inUse
+    bookedIn
+    inUseIn
     firstWaiting
     lackIn
+    lacks
     unendedChild
     why
     flatMap

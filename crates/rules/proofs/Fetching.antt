@@ -8,16 +8,18 @@ use native.Mathlib.Omega.{arith}
 use lib.Dec.{eqb}
 use lib.ListN.{length, set}
 use borrow.Author.Tests.{eqb-true, eq-eqb, ne-eqb}
+use Rattle.rules.specs.Kind.{Kind, of, each}
 use Rattle.rules.specs.Lists.{at, first}
 use Rattle.rules.specs.Phase
-use Rattle.rules.specs.State.{State, rootOf}
+use Rattle.rules.specs.State.{State, rootOf, storeOf}
 use Rattle.rules.specs.Command.{fetch}
 use Rattle.rules.specs.Grounds.{within, inTurn}
 use Rattle.rules.specs.Booking.{total}
-use Rattle.rules.specs.Obey.{withBooks, obey}
+use Rattle.rules.specs.Obey.{withBooked, withBooks, obey}
 use Rattle.rules.specs.Obey
 use Rattle.rules.specs.Day.{Event, fetched, isFetched}
 use Rattle.rules.specs.Invariant.{rankIn}
+use Rattle.rules.proofs.EachStore.{of-each}
 use Rattle.rules.proofs.Tests.{clash, same-or-not, or-right}
 use Rattle.rules.proofs.Sums.{Task, sum-zero, only-false}
 use Rattle.rules.proofs.Roots.{root-task, root-parent, one-root}
@@ -110,20 +112,20 @@ module _ (s : State) (happened : List Event) (day : InDay s happened) (a : Accep
   not-yet : isFetched happened ≡ false
   not-yet = day .fetch ∙ ne-eqb (s .phase) Phase.over (λ q. let r = in-ready in omega arith)
 
-  abbrev freed : List ℕ
-  freed = set (s .chilled .booked) (rootOf s) 0
+  abbrev freed : Kind → List ℕ
+  freed k = set (storeOf s k .booked) (rootOf s) 0
 
   -- what remained was the root's
-  pub nothing : (i : ℕ) → Task (s .size) i → at (set (s .chilled .booked) (rootOf s) 0) i ≡ 0
-  nothing i t =
+  pub nothing : (k : Kind) (i : ℕ) → Task (s .size) i → at (set (storeOf s k .booked) (rootOf s) 0) i ≡ 0
+  nothing k i t =
       let r = root-found s (day .planned) in
-      let remained = loaded .stock .booked in
+      let remained = loaded .stock k .booked in
       ⊎-elim
       (λ (q : i ≡ rootOf s).
-      ap (at freed) q
-      ∙ freed-there (rootOf s) (s .chilled .booked))
+      ap (at (freed k)) q
+      ∙ freed-there (rootOf s) (storeOf s k .booked))
       (λ d.
-      at-other (s .chilled .booked) (rootOf s) 0 i d
+      at-other (storeOf s k .booked) (rootOf s) 0 i d
       ∙ remained i t
       ∙ only-false (eqb (at (s .parents) i) 0) _
       (ne-eqb (at (s .parents) i) 0
@@ -141,10 +143,12 @@ module _ (s : State) (happened : List Event) (day : InDay s happened) (a : Accep
               phased = refl;
               all = loaded .all;
               stock =
-                  record {
-                    booked = nothing;
-                    within = (let z = sum-zero (at freed) (s .size) nothing in omega arith);
-                  };
+                  λ k.
+                  rw (of-each (λ d. withBooked (storeOf s d) (of (each freed) d)) k, of-each freed k)
+                  (record {
+                    booked = nothing k;
+                    within = (let z = sum-zero (at (freed k)) (s .size) (nothing k) in omega arith);
+                  });
             });
         logged = fetched-logged (s .size) (at (s .standings)) happened (day .logged);
         order =

@@ -1,6 +1,6 @@
 -- What holds of every plan that commands led to: its numbers are in their limits, its columns as long as its tasks are many, and
 -- no task stands twice in an order.
-use mathlib.Core.Path.{_≡_, refl, _∙_}
+use mathlib.Core.Path.{_≡_, refl, sym, subst, _∙_}
 use mathlib.Core.Bool.{Bool, true, false, not, cond, _&&_}
 use mathlib.Core.Logic.{⊎-elim}
 use mathlib.Core.List.{List, [], _∷_, _++_}
@@ -9,15 +9,17 @@ use native.Mathlib.Omega.{arith}
 use lib.Dec.{eqb, leb}
 use lib.ListN.{length, length-append, List·getD-append}
 use borrow.Author.Tests.{eqb-true, eq-eqb, ne-eqb, leb-true, not-true}
+use Rattle.rules.specs.Kind.{Kind, chilled, Each, of}
 use Rattle.rules.specs.Limits.{maxTasks, maxProcessors, maxCount, maxBound}
 use Rattle.rules.specs.Lists.{at, mem, every, distinct}
 use Rattle.rules.specs.Phase
-use Rattle.rules.specs.State.{State, none}
+use Rattle.rules.specs.State.{Store, State, none, storeOf}
 use Rattle.rules.specs.Command.{Command, plan, task, activation, execution, begin, done, fetch, places}
 use Rattle.rules.specs.Grounds.{inTurn, inLimits, within, demand, ownGround, ground}
-use Rattle.rules.specs.Obey.{opened, withTask, withOrders, completed, withBooks, withBound, proceed, phaseAfter, unloaded, obey}
+use Rattle.rules.specs.Obey.{opened, withCounts, withTask, withOrders, completed, withBooked, withBooks, withBound, proceed, phaseAfter, unloaded, obey}
 use Rattle.rules.proofs.Tests.{and-true, same-or-not}
 use Rattle.rules.proofs.Orders.{within-task, every-snoc, distinct-snoc}
+use Rattle.rules.proofs.EachStore.{of-each}
 use Rattle.rules.proofs.Completing.{either-order, begin-turn}
 
 -- no ground is left where a test holds and none of those behind it
@@ -38,20 +40,28 @@ no-ground s c e =
     let two = demand-none (inLimits s c) 4 (ownGround s c) (λ q. omega arith) (one .1) in
     record { turn = one .0; limits = two .0; own = two .1 }
 
--- the columns of a plan: an entry for nobody, and one for each task that is given so far
-pub record Columns (s : State) : Type 0 where
-  pub works-long : length (s .chilled .works) ≡ length (s .parents)
-  pub outs-long : length (s .chilled .outs) ≡ length (s .parents)
-  pub nobody : (at (s .parents) 0 ≡ 0) × (at (s .chilled .works) 0 ≡ 0) × (at (s .chilled .outs) 0 ≡ 0)
+-- a column: an entry for nobody, and one in its limit for each task that is given so far
+pub record Column (given limit : ℕ) (l : List ℕ) : Type 0 where
+  pub long : length l ≡ given
+  pub nobody : at l 0 ≡ 0
+  pub limited : (i : ℕ) → at l i ≤ limit
+
+-- a store of a plan
+pub record StoreFormed (given : ℕ) (store : Store) : Type 0 where
+  pub bounded : store .bound ≤ maxBound
+  pub works : Column given maxCount (store .works)
+  pub outs : Column given maxCount (store .outs)
+
+-- the parents of the tasks that are given so far
+pub record Given (s : State) : Type 0 where
+  pub parents : Column (length (s .parents)) (s .size) (s .parents)
   pub in-steps : s .phase ≡ Phase.steps → (1 ≤ length (s .parents)) × (length (s .parents) ≤ s .size)
   pub whole : Phase.orders ≤ s .phase → length (s .parents) ≡ suc (s .size)
 
 pub record Formed (s : State) : Type 0 where
   pub sized : s .size ≤ maxTasks
-  pub parents : (i : ℕ) → at (s .parents) i ≤ s .size
-  pub light : (i : ℕ) → (at (s .chilled .works) i ≤ maxCount) × (at (s .chilled .outs) i ≤ maxCount)
-  pub bounded : s .chilled .bound ≤ maxBound
-  pub columns : Columns s
+  pub given : Given s
+  pub stores : (k : Kind) → StoreFormed (length (s .parents)) (storeOf s k)
   pub activation-inside : every (λ i. within i (s .size)) (s .activation) ≡ true
   pub activation-once : distinct (s .activation) ≡ true
   pub execution-inside : every (λ i. within i (s .size)) (s .execution) ≡ true
@@ -75,23 +85,33 @@ at-snoc (y ∷ l) x limit h b (suc i) = at-snoc l x limit (λ k. h (suc k)) b i
 nobody-at : (limit i : ℕ) → at (0 ∷ []) i ≤ limit
 nobody-at limit = at-snoc [] 0 limit (none-at limit) (omega arith)
 
+-- the same as columns, and one entry more
+no-column : {limit : ℕ} → Column 0 limit []
+no-column {limit} = record { long = refl; nobody = refl; limited = none-at limit }
+
+nobody-column : {limit : ℕ} → Column 1 limit (0 ∷ [])
+nobody-column {limit} = record { long = refl; nobody = refl; limited = nobody-at limit }
+
+longer-column :
+    {given limit : ℕ} {l : List ℕ} (x : ℕ) → 1 ≤ given → x ≤ limit → Column given limit l → Column (given + 1) limit (l ++ (x ∷ []))
+longer-column {given} {limit} {l} x some low c =
+    let long = c .long in
+    record {
+      long = simp length-append (omega arith);
+      nobody = List·getD-append l (x ∷ []) 0 0 (omega arith) ∙ c .nobody;
+      limited = at-snoc l x limit (c .limited) low;
+    }
+
 -- the empty plan
 pub none-formed : Formed none
 unfolding every distinct
 none-formed =
     record {
       sized = omega arith;
-      parents = none-at 0;
-      light = λ i. (none-at maxCount i, none-at maxCount i);
-      bounded = omega arith;
-      columns =
-          record {
-            works-long = refl;
-            outs-long = refl;
-            nobody = (refl, refl, refl);
-            in-steps = λ e. absurd (omega arith);
-            whole = λ h. absurd (omega arith);
-          };
+      given = record { parents = no-column; in-steps = λ e. absurd (omega arith); whole = λ h. absurd (omega arith) };
+      stores = λ k.
+          subst (StoreFormed 0) (sym (of-each (λ _. record { bound = 0; works = []; outs = []; booked = [] }) k))
+          (record { bounded = omega arith; works = no-column; outs = no-column });
       activation-inside = refl;
       activation-once = refl;
       execution-inside = refl;
@@ -106,7 +126,7 @@ new-entry x l e = not-true (mem x l) (demand-none (not (mem x l)) 5 0 (λ q. ome
 
 -- the day does not touch the plan
 pub with-books-formed :
-    (s : State) (phase : ℕ) (st b : List ℕ)
+    (s : State) (phase : ℕ) (st : List ℕ) (b : Each (List ℕ))
     → 1 ≤ s .processors
     → Phase.orders ≤ s .phase
     → Phase.orders ≤ phase
@@ -116,17 +136,11 @@ unfolding withBooks
 with-books-formed s phase st b p before after h =
     record {
       sized = h .sized;
-      parents = h .parents;
-      light = h .light;
-      bounded = h .bounded;
-      columns =
-          record {
-            works-long = h .columns .works-long;
-            outs-long = h .columns .outs-long;
-            nobody = h .columns .nobody;
-            in-steps = λ e. absurd (omega arith);
-            whole = λ _. h .columns .whole before;
-          };
+      given = record { parents = h .given .parents; in-steps = λ e. absurd (omega arith); whole = λ _. h .given .whole before };
+      stores = λ k.
+          let store = h .stores k in
+          subst (StoreFormed (length (s .parents))) (sym (of-each (λ k. withBooked (storeOf s k) (of b k)) k))
+          (record { bounded = store .bounded; works = store .works; outs = store .outs });
       activation-inside = h .activation-inside;
       activation-once = h .activation-once;
       execution-inside = h .execution-inside;
@@ -156,22 +170,15 @@ below : (a b : ℕ) → a ≤ b → (a ≡ b → ⊥) → a + 1 ≤ b
 below a b h d = omega arith
 
 -- STEP adds an entry to each column
-task-columns :
-    (s : State) (parent work out : ℕ) → s .phase ≡ Phase.steps → Columns s → Columns (withTask s parent work out)
+task-given :
+    (s : State) (parent work out : ℕ) → s .phase ≡ Phase.steps → parent ≤ s .size → Given s → Given (withTask s parent work out)
 unfolding withTask
-task-columns s parent work out steps h =
+task-given s parent work out steps limit h =
     let given = length (s .parents) in
-    let some = h .in-steps steps .0 in
-    let works = h .works-long in
-    let outs = h .outs-long in
     record {
-      works-long = simp length-append (omega arith);
-      outs-long = simp length-append (omega arith);
-      nobody = (
-        List·getD-append (s .parents) (parent ∷ []) 0 0 some ∙ h .nobody .0,
-        List·getD-append (s .chilled .works) (work ∷ []) 0 0 (omega arith) ∙ h .nobody .1,
-        List·getD-append (s .chilled .outs) (out ∷ []) 0 0 (omega arith) ∙ h .nobody .2,
-      );
+      parents =
+          subst (λ (g : ℕ). Column g (s .size) (s .parents ++ (parent ∷ []))) (sym (length-append (s .parents) (parent ∷ [])))
+          (longer-column parent (h .in-steps steps .0) limit (h .parents));
       in-steps = λ e.
           (let room = below given (s .size) (h .in-steps steps .1) (task-more given (s .size) e) in simp length-append (omega arith, omega arith));
       whole = λ e. (let all = task-last given (s .size) e in simp length-append (omega arith));
@@ -189,17 +196,8 @@ unfolding withOrders
 with-orders-formed s act exec h =
     record {
       sized = h .sized;
-      parents = h .parents;
-      light = h .light;
-      bounded = h .bounded;
-      columns =
-          record {
-            works-long = h .columns .works-long;
-            outs-long = h .columns .outs-long;
-            nobody = h .columns .nobody;
-            in-steps = h .columns .in-steps;
-            whole = h .columns .whole;
-          };
+      given = record { parents = h .given .parents; in-steps = h .given .in-steps; whole = h .given .whole };
+      stores = h .stores;
       activation-inside = act .inside;
       activation-once = act .once;
       execution-inside = exec .inside;
@@ -227,17 +225,8 @@ unfolding withBound
 with-bound-formed s bound limit h =
     record {
       sized = h .sized;
-      parents = h .parents;
-      light = h .light;
-      bounded = limit;
-      columns =
-          record {
-            works-long = h .columns .works-long;
-            outs-long = h .columns .outs-long;
-            nobody = h .columns .nobody;
-            in-steps = h .columns .in-steps;
-            whole = h .columns .whole;
-          };
+      given = record { parents = h .given .parents; in-steps = h .given .in-steps; whole = h .given .whole };
+      stores = stores;
       activation-inside = h .activation-inside;
       activation-once = h .activation-once;
       execution-inside = h .execution-inside;
@@ -245,6 +234,10 @@ with-bound-formed s bound limit h =
       staffed = h .staffed;
       limited = h .limited;
     }
+  where
+    stores : (k : Kind) → StoreFormed (length (s .parents)) (storeOf (withBound s bound) k)
+    stores chilled =
+        let store = h .stores chilled in record { bounded = limit; works = store .works; outs = store .outs }
 
 -- BEGIN completes them
 pub completed-formed : (s : State) → Formed s → Formed (completed s)
@@ -264,17 +257,10 @@ obey-formed s (plan n p bound) a h =
     let between = within-task maxProcessors p (both .1) in
     record {
       sized = tasks .high;
-      parents = nobody-at n;
-      light = λ i. (nobody-at maxCount i, nobody-at maxCount i);
-      bounded = leb-true bound maxBound (limits .1);
-      columns =
-          record {
-            works-long = refl;
-            outs-long = refl;
-            nobody = (refl, refl, refl);
-            in-steps = λ _. (omega arith, tasks .low);
-            whole = λ e. absurd (omega arith);
-          };
+      given = record { parents = nobody-column; in-steps = λ _. (omega arith, tasks .low); whole = λ e. absurd (omega arith) };
+      stores = λ k.
+          subst (StoreFormed 1) (sym (of-each (λ _. record { bound = bound; works = 0 ∷ []; outs = 0 ∷ []; booked = [] }) k))
+          (record { bounded = leb-true bound maxBound (limits .1); works = nobody-column; outs = nobody-column });
       activation-inside = refl;
       activation-once = refl;
       execution-inside = refl;
@@ -285,20 +271,26 @@ obey-formed s (plan n p bound) a h =
 obey-formed s (task parent work out) a h =
     let limits = and-true (leb parent (s .size) && leb work maxCount) (leb out maxCount) (a .limits) in
     let both = and-true (leb parent (s .size)) (leb work maxCount) (limits .0) in
+    let steps = eqb-true (s .phase) Phase.steps (a .turn) in
     record {
       sized = h .sized;
-      parents = at-snoc (s .parents) parent (s .size) (h .parents) (leb-true parent (s .size) (both .0));
-      light = λ i. (
-        at-snoc (s .chilled .works) work maxCount (λ k. h .light k .0) (leb-true work maxCount (both .1)) i,
-        at-snoc (s .chilled .outs) out maxCount (λ k. h .light k .1) (leb-true out maxCount (limits .1)) i,
-      );
-      bounded = h .bounded;
-      columns = task-columns s parent work out (eqb-true (s .phase) Phase.steps (a .turn)) (h .columns);
+      given = task-given s parent work out steps (leb-true parent (s .size) (both .0)) (h .given);
+      stores = λ k.
+          let store = h .stores k in
+          let some = h .given .in-steps steps .0 in
+          subst (StoreFormed (length (s .parents ++ (parent ∷ []))))
+          (sym (of-each (λ k. withCounts (storeOf s k) work out) k))
+          (subst (λ (given : ℕ). StoreFormed given (withCounts (storeOf s k) work out)) (sym (length-append (s .parents) (parent ∷ [])))
+          (record {
+            bounded = store .bounded;
+            works = longer-column work some (leb-true work maxCount (both .1)) (store .works);
+            outs = longer-column out some (leb-true out maxCount (limits .1)) (store .outs);
+          }));
       activation-inside = h .activation-inside;
       activation-once = h .activation-once;
       execution-inside = h .execution-inside;
       execution-once = h .execution-once;
-      staffed = λ _. h .staffed (λ e. let now = eqb-true (s .phase) Phase.steps (a .turn) in omega arith);
+      staffed = λ _. h .staffed (λ e. omega arith);
       limited = h .limited;
     }
 obey-formed s (activation i) a h =

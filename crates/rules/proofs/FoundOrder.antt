@@ -9,6 +9,7 @@ use native.Mathlib.Omega.{arith}
 use lib.Dec.{eqb, leb}
 use lib.ListN.{length}
 use borrow.Author.Tests.{eq-eqb, le-leb, lt-leb}
+use Rattle.rules.specs.Kind.{all}
 use Rattle.rules.specs.Sums.{Task}
 use Rattle.rules.specs.Lists.{at, mem, place}
 use Rattle.rules.specs.Peak.{peak, roots, root}
@@ -16,7 +17,7 @@ use Rattle.rules.specs.Phase
 use Rattle.rules.specs.State.{State, rootOf}
 use Rattle.rules.specs.Command.{activation, begin}
 use Rattle.rules.specs.Booking.{chain}
-use Rattle.rules.specs.Grounds.{noExecution, inTurn, peakOf, demand, ownGround, ground}
+use Rattle.rules.specs.Grounds.{noExecution, inTurn, peakOf, peakIn, fitsIn, demand, ownGround, ground}
 use Rattle.rules.specs.Obey.{withOrders}
 use Rattle.rules.specs.Invariant.{Valid, Tree}
 use Rattle.rules.specs.Reachable.{Reachable}
@@ -130,7 +131,7 @@ module _ (s t : State) (same : SameTasks s t) where
 
 module _ (s : State) (reached : Reachable s) where
   parents-inside : (i : ℕ) → Task (s .size) i → at (s .parents) i ≤ s .size
-  parents-inside i _ = lives reached .formed .parents i
+  parents-inside i _ = lives reached .formed .given .parents .limited i
 
   -- whoever reaches the root does so among the first n
   pub reach-soon :
@@ -151,7 +152,7 @@ module _ (s : State) (reached : Reachable s) (rooted : Rooted s) where
   valid : Valid (s .size) (at (s .parents)) (found s)
   unfolding found foundBelow
   valid =
-      found-valid (s .size) (at (s .parents)) (at (s .chilled .works)) (at (s .chilled .outs)) (parents-inside s reached)
+      found-valid (s .size) (at (s .parents)) (at (s .stores .chilled .works)) (at (s .stores .chilled .outs)) (parents-inside s reached)
       (rooted .one) all-reach
 
   found-kind : IsPostorder s (found s)
@@ -161,20 +162,20 @@ module _ (s : State) (reached : Reachable s) (rooted : Rooted s) where
         each = each-once (s .size) (found s) (valid .inside) (valid .once) (valid .whole);
         upward = valid .upward;
         together =
-            found-stands (s .size) (at (s .parents)) (at (s .chilled .works)) (at (s .chilled .outs)) (parents-inside s reached)
+            found-stands (s .size) (at (s .parents)) (at (s .stores .chilled .works)) (at (s .stores .chilled .outs)) (parents-inside s reached)
             (rooted .one) all-reach;
       }
 
   lowest-of-kind : (l : List ℕ) → IsPostorder s l → peakBy s (found s) ≤ peakBy s l
   unfolding found foundBelow
   lowest-of-kind l kind =
-      found-lowest (s .size) (at (s .parents)) (at (s .chilled .works)) (at (s .chilled .outs)) (parents-inside s reached) (rooted .one)
-      all-reach l (postorder-valid s l kind) (kind .together)
+      found-lowest (s .size) (at (s .parents)) (at (s .stores .chilled .works)) (at (s .stores .chilled .outs)) (parents-inside s reached)
+      (rooted .one) all-reach l (postorder-valid s l kind) (kind .together)
 
   parts : (i : ℕ) → Task (s .size) i → Part (foundBelow s i) (found s)
   unfolding found foundBelow
   parts =
-      found-parts (s .size) (at (s .parents)) (at (s .chilled .works)) (at (s .chilled .outs)) (parents-inside s reached)
+      found-parts (s .size) (at (s .parents)) (at (s .stores .chilled .works)) (at (s .stores .chilled .outs)) (parents-inside s reached)
       (rooted .one) all-reach
 
   goes-ahead :
@@ -186,7 +187,7 @@ module _ (s : State) (reached : Reachable s) (rooted : Rooted s) where
       → place c (found s) < place d (found s)
   unfolding found foundBelow
   goes-ahead =
-      found-taken (s .size) (at (s .parents)) (at (s .chilled .works)) (at (s .chilled .outs)) (parents-inside s reached)
+      found-taken (s .size) (at (s .parents)) (at (s .stores .chilled .works)) (at (s .stores .chilled .outs)) (parents-inside s reached)
       (rooted .one) all-reach
 
   -- 03 for its entries
@@ -217,9 +218,9 @@ module _ (s : State) (reached : Reachable s) (rooted : Rooted s) where
     -- the grounds for BEGIN
     found-ground :
         (b : Bool)
-        → leb (peakBy s (found s)) (t .chilled .bound) ≡ b
+        → leb (peakBy s (found s)) (t .stores .chilled .bound) ≡ b
         → ownGround t begin ≡ demand b 9 0
-    unfolding ownGround peakOf
+    unfolding ownGround peakOf peakIn fitsIn all
     found-ground b fits =
         rw (
           same .size,
@@ -237,13 +238,13 @@ module _ (s : State) (reached : Reachable s) (rooted : Rooted s) where
     found-begins turn =
         let own = begin-ground t turn in
         ⊎-elim
-        (λ low. inl (own ∙ found-ground true (le-leb (peakBy s (found s)) (t .chilled .bound) low)))
+        (λ low. inl (own ∙ found-ground true (le-leb (peakBy s (found s)) (t .stores .chilled .bound) low)))
         (λ high.
         inr (
-          own ∙ found-ground false (lt-leb (peakBy s (found s)) (t .chilled .bound) high),
+          own ∙ found-ground false (lt-leb (peakBy s (found s)) (t .stores .chilled .bound) high),
           (λ l kind. let h = lowest-of-kind l (kind-of s t same l kind) in let e = peak-of s t same l in omega arith),
         ))
-        (le-or-lt (peakBy s (found s)) (t .chilled .bound))
+        (le-or-lt (peakBy s (found s)) (t .stores .chilled .bound))
 
   pub found-holds : FoundHolds s (found s)
   unfolding withOrders

@@ -10,10 +10,12 @@ use Rattle.rules.specs.Sums.{countTo}
 use Rattle.rules.specs.Lists.{at}
 use Rattle.rules.specs.Peak.{peak}
 use Rattle.rules.specs.Standing.{activated, running, finished, count}
-use Rattle.rules.specs.State.{Store, State, needsIn}
-use Rattle.rules.specs.Grounds.{peakOf}
-use Rattle.rules.specs.Booking.{total, missing, misses, allows, ready, fed}
+use Rattle.rules.specs.State.{Store, State, needsIn, storeOf}
+use Rattle.rules.specs.Grounds.{peakIn}
+use Rattle.rules.specs.Booking.{total, missing, misses, allowsIn, allows, ready, fed}
 use Rattle.rules.specs.Invariant.{rankIn, Stocked}
+use Rattle.rules.specs.Obey.{booksOf, termsOf}
+use Rattle.rules.proofs.EachStore.{of-each, each-all}
 use Rattle.rules.proofs.Tests.{clash, same-or-not, and-both}
 use Rattle.rules.proofs.Sums.{Task, counted, none-counted}
 use Rattle.rules.proofs.Ranks.{stands}
@@ -64,10 +66,14 @@ module _ (s : State) (planned : Planned s) (going : Going s) where
 
   -- the first waiting task would fit, and it does not; so all have ended
   stuck-at : count (s .size) (at (s .standings)) running ≡ 0 → Found (at (s .standings)) (s .activation) → ⊥
-  unfolding allows misses peakOf
+  unfolding allows allowsIn misses peakIn
   stuck-at none found =
       clash
-      (le-leb _ (s .chilled .bound) (fits-there (s .chilled) (going .settled .good .stock) (planned .fits) none found))
+      (each-all (allowsIn (s .size) (at (s .parents)) (termsOf s) (booksOf s) (found .x))
+      (λ k.
+      rw (of-each (λ d. storeOf s d .booked) k)
+      (le-leb _ (storeOf s k .bound)
+      (fits-there (storeOf s k) (rw (of-each (λ d. storeOf s d .booked) k) at (going .settled .good .stock k)) (planned .fits k) none found))))
       (going .settled .halted (found .x)
       (found-first (s .size) (at (s .parents)) (s .activation) (planned .valid) (tree s planned) (at (s .standings))
       (going .settled .good .shape) found))

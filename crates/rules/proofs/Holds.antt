@@ -138,12 +138,12 @@ module _ (s : State) (happened : List Event) (day : InDay s happened) where
       (m : ℕ)
       → (ground s (places m) ≡ 0)
       ↔ ((s .phase ≡ Phase.running) × (m ≤ maxBound) × (peakOf s ≤ m) × (Question.booked s ≤ m))
-  unfolding inTurn inLimits ownGround Phase.holdsTrays Question.booked
+  unfolding inTurn inLimits ownGround Phase.holdsTrays Question.bookedIn
   placing m = (
     (λ e.
         let a : Accepted s (places m) = no-ground s (places m) e in
         let fits = grounds-fit s m (a .own) in
-        let low = only-le (Phase.holdsTrays (s .phase)) (total (s .size) (at (s .chilled .booked))) in
+        let low = only-le (Phase.holdsTrays (s .phase)) (total (s .size) (at (s .stores .chilled .booked))) in
         let most = fits .booked in (
           eqb-true (s .phase) Phase.running (a .turn),
           leb-true m maxBound (a .limits),
@@ -152,9 +152,9 @@ module _ (s : State) (happened : List Event) (day : InDay s happened) where
         )),
     (λ h.
         let held : Phase.holdsTrays (s .phase) ≡ true = rw (h .0) refl in
-        let all = only-true (Phase.holdsTrays (s .phase)) (total (s .size) (at (s .chilled .booked))) held in
+        let all = only-true (Phase.holdsTrays (s .phase)) (total (s .size) (at (s .stores .chilled .booked))) held in
         let most = h .3 in
-        let booked : total (s .size) (at (s .chilled .booked)) ≤ m = omega arith in
+        let booked : total (s .size) (at (s .stores .chilled .booked)) ≤ m = omega arith in
         ground-own s (places m) (eq-eqb (s .phase) Phase.running (h .0)) (le-leb m maxBound (h .1))
         ∙ rw (le-leb (peakOf s) m (h .2), le-leb _ m booked) refl),
   )
@@ -172,7 +172,7 @@ module _ (s : State) (happened : List Event) (day : InDay s happened) where
       rw (none waiting (omega arith), none activated (omega arith), none running (omega arith), sym reported ∙ e) refl
 
   pub day-holds : DayHolds s happened
-  unfolding Question.inUse Question.booked Question.standing Need.inUse counts
+  unfolding Question.inUseIn Question.bookedIn Question.standing Need.inUse counts
   day-holds =
       let phases = phased (day .course) in
       let told : Question.standing s ≡ counts (s .size) (at (s .standings)) = rw (phases .answers) refl in
@@ -200,5 +200,5 @@ module _ (s : State) (happened : List Event) (day : InDay s happened) where
         countEnded = ap (λ (l : List ℕ). at l finished) told ∙ sym reported;
         allEnded = λ e. told ∙ all-counted e;
         staffed = (let same = runners in let few = phases .staffed in omega arith);
-        store = store-holds s happened day (day .course);
+        stores = store-holds s happened day (day .course);
       }

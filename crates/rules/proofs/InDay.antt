@@ -1,26 +1,28 @@
 -- A plan in its day: what holds after an accepted BEGIN, after each accepted DONE and 08, and after the FETCH.
-use mathlib.Core.Path.{_≡_, refl, sym, _∙_}
+use mathlib.Core.Path.{_≡_, refl, sym, ap, fun-ext, _∙_}
 use mathlib.Core.Bool.{Bool, true, false, cond}
 use mathlib.Core.List.{List, _++_, map}
 use Prim.Native.Nat.{ℕ, suc, _≤_, _<_}
 use native.Mathlib.Omega.{arith}
-use lib.Dec.{eqb, leb}
+use lib.Dec.{eqb}
 use lib.ListN.{length, replicate, length-replicate, getD-replicate}
 use borrow.Author.Tests.{eqb-true, eq-eqb, ne-eqb, leb-true}
+use Rattle.rules.specs.Kind.{Kind, Each, of, all}
 use Rattle.rules.specs.Sums.{only, sumTo}
 use Rattle.rules.specs.Lists.{at}
 use Rattle.rules.specs.Need.{need}
 use Rattle.rules.specs.Peak.{Peaked, roots, ordered}
 use Rattle.rules.specs.Phase
 use Rattle.rules.specs.Standing.{waiting, running, finished, count}
-use Rattle.rules.specs.State.{Store, State, needsIn, needs}
+use Rattle.rules.specs.State.{Store, State, needsIn, storeOf}
 use Rattle.rules.specs.Command.{begin}
-use Rattle.rules.specs.Grounds.{demand, peakOf, ownGround}
-use Rattle.rules.specs.Booking.{Books, total}
-use Rattle.rules.specs.Obey.{withOrders, completed, withBooks, booksOf, ahead, begun, proceed, fresh}
+use Rattle.rules.specs.Grounds.{demand, peakIn, fitsIn, ownGround}
+use Rattle.rules.specs.Booking.{Terms, Books, start, total}
+use Rattle.rules.specs.Obey.{withOrders, completed, withBooked, withBooks, booksOf, termsBy, termsOf, ahead, begun, proceed, fresh}
 use Rattle.rules.specs.Day.{Event, started, isFetched}
 use Rattle.rules.specs.Theorem.{OrdersHold}
 use Rattle.rules.specs.Invariant.{Valid, rankIn, Tree, Roomy, arrived, Stocked, Good}
+use Rattle.rules.proofs.EachStore.{of-each, all-each}
 use Rattle.rules.proofs.Sums.{Task, sum-zero, count-none, only-false}
 use Rattle.rules.proofs.Orders.{each-once}
 use Rattle.rules.proofs.Ranks.{tree-of}
@@ -39,14 +41,13 @@ pub record Planned (s : State) : Type 0 where
   pub executed : length (s .execution) ≡ s .size
   pub rooted : roots (s .size) (at (s .parents)) ≡ 1
   pub staffed : 1 ≤ s .processors
-  pub fits : peakOf s ≤ s .chilled .bound
+  pub fits : (k : Kind) → peakIn s (storeOf s k) ≤ storeOf s k .bound
 
 -- the root has not ended
 pub record Going (s : State) : Type 0 where
   pub phased : s .phase ≡ Phase.running
   pub settled :
-      Settled (s .size) (at (s .parents)) (rankIn (s .activation)) (needs s) (at (s .chilled .outs)) (s .chilled .bound)
-      (s .processors) (booksOf s)
+      Settled (s .size) (at (s .parents)) (rankIn (s .activation)) (termsOf s) (s .processors) (booksOf s)
   pub unended : (r : ℕ) → Task (s .size) r → at (s .parents) r ≡ 0 → at (s .standings) r ≡ finished → ⊥
 
 -- what remains booked in a store once the root has ended
@@ -59,7 +60,7 @@ pub record Remaining (s : State) (store : Store) (fetched : Bool) : Type 0 where
 pub record Closed (s : State) (fetched : Bool) : Type 0 where
   pub phased : s .phase ≡ cond fetched Phase.over Phase.ready
   pub all : (i : ℕ) → Task (s .size) i → at (s .standings) i ≡ finished
-  pub stock : Remaining s (s .chilled) fetched
+  pub stock : (k : Kind) → Remaining s (storeOf s k) fetched
 
 -- how far a day has come
 pub data Course (s : State) : Type 0 where
@@ -101,7 +102,7 @@ needs-roomy s store i t = omega arith
 
 -- a planned plan is a tree by the places of its activation order
 pub tree : (s : State) → Planned s → Tree (s .size) (at (s .parents)) (rankIn (s .activation))
-tree s p = tree-of (s .size) (at (s .parents)) (s .activation) (p .valid) (λ i _. p .formed .parents i)
+tree s p = tree-of (s .size) (at (s .parents)) (s .activation) (p .valid) (λ i _. p .formed .given .parents .limited i)
 
 -- the first day of the books: nobody has begun, and nothing is booked
 fresh-at : (n i : ℕ) → Task n i → at (replicate (suc n) 0) i ≡ 0
@@ -135,9 +136,9 @@ fresh-stocked n par need out bound =
     }
 
 pub fresh-good :
-    (n : ℕ) (par rank need out : ℕ → ℕ) (bound : ℕ) → Good n par rank need out bound (fresh n)
+    (n : ℕ) (par rank : ℕ → ℕ) (terms : Kind → Terms) → Good n par rank terms (fresh n)
 unfolding fresh
-fresh-good n par rank need out bound =
+fresh-good n par rank terms =
     record {
       sized = length-replicate (suc n) waiting;
       shape =
@@ -146,7 +147,10 @@ fresh-good n par rank need out bound =
             fed = λ i c t u e r. let z = fresh-at n i t in absurd (omega arith);
             four = λ i t. let z = fresh-at n i t in omega arith;
           };
-      stock = fresh-stocked n par need out bound;
+      stock =
+          λ k.
+          rw (of-each {A = List ℕ} (λ _. replicate {A = ℕ} (suc n) 0) k)
+          (fresh-stocked n par (terms k .need) (terms k .out) (terms k .bound));
     }
 
 -- everybody waits, and nobody runs
@@ -162,20 +166,20 @@ fresh-idle n =
 
 -- what BEGIN's checks give
 pub begin-planned : (s : State) → Formed s → Accepted s begin → Planned (completed s)
-unfolding ownGround completed withOrders peakOf
+unfolding ownGround completed withOrders peakIn fitsIn
 begin-planned s formed a =
     let turn = begin-turn s (a .turn) in
     let now = turn .now in
     let seven =
     demand-none (eqb (roots (s .size) (at (s .parents))) 1) 7
-    (demand (ordered (at (s .parents)) (s .activation)) 8 (demand (leb (peakOf s) (s .chilled .bound)) 9 0))
+    (demand (ordered (at (s .parents)) (s .activation)) 8 (demand (all (fitsIn s)) 9 0))
     (λ q. omega arith) (a .own)
     in
     let eight =
-    demand-none (ordered (at (s .parents)) (s .activation)) 8 (demand (leb (peakOf s) (s .chilled .bound)) 9 0)
+    demand-none (ordered (at (s .parents)) (s .activation)) 8 (demand (all (fitsIn s)) 9 0)
     (λ q. omega arith) (seven .1)
     in
-    let nine = demand-none (leb (peakOf s) (s .chilled .bound)) 9 0 (λ q. omega arith) (eight .1) in
+    let nine = demand-none (all (fitsIn s)) 9 0 (λ q. omega arith) (eight .1) in
     record {
       formed = completed-formed s formed;
       given = omega arith;
@@ -189,7 +193,7 @@ begin-planned s formed a =
       executed = turn .executed;
       rooted = eqb-true (roots (s .size) (at (s .parents))) 1 (seven .0);
       staffed = formed .staffed (λ z. omega arith);
-      fits = leb-true (peakOf s) (s .chilled .bound) (nine .0);
+      fits = λ k. leb-true (peakIn s (storeOf s k)) (storeOf s k .bound) (all-each (fitsIn s) (nine .0) k);
     }
 
 -- both orders of such a plan are what they must be
@@ -203,8 +207,8 @@ orders-hold s p =
 
 -- the plan itself stays as it was in its day
 pub books-planned :
-    (s : State) (phase : ℕ) (st b : List ℕ) → Phase.orders ≤ phase → Planned s → Planned (withBooks s phase st b)
-unfolding withBooks peakOf
+    (s : State) (phase : ℕ) (st : List ℕ) (b : Each (List ℕ)) → Phase.orders ≤ phase → Planned s → Planned (withBooks s phase st b)
+unfolding withBooks peakIn
 books-planned s phase st b later p =
     record {
       formed = with-books-formed s phase st b (p .staffed) (p .given) later (p .formed);
@@ -213,21 +217,27 @@ books-planned s phase st b later p =
       executed = p .executed;
       rooted = p .rooted;
       staffed = p .staffed;
-      fits = p .fits;
+      fits = λ k. rw (of-each (λ d. withBooked (storeOf s d) (of b d)) k) (p .fits k);
     }
 
+-- other books change nothing of what booking finds of the stores
+pub terms-stay : (s : State) (phase : ℕ) (st : List ℕ) (b : Each (List ℕ)) → termsOf (withBooks s phase st b) ≡ termsOf s
+unfolding withBooks
+terms-stay s phase st b = fun-ext (λ k. ap (λ (e : Store). termsBy s e) (of-each (λ d. withBooked (storeOf s d) (of b d)) k))
+
 -- booking ahead and starting, from books in which what holds of the day is kept
-module _ (s : State) (p : Planned s) (k : Books) (peak : Peaked) (offers : ℕ)
-    (good : Good (s .size) (at (s .parents)) (rankIn (s .activation)) (needs s) (at (s .chilled .outs)) (s .chilled .bound) k)
+module _ (s : State) (p : Planned s) (k : Books) (peaks : Each Peaked) (offers : ℕ)
+    (good : Good (s .size) (at (s .parents)) (rankIn (s .activation)) (termsOf s) k)
     (few : count (s .size) (at (k .standings)) running ≤ s .processors) where
   proceeds :
-      Coursed (s .size) (at (s .parents)) (rankIn (s .activation)) (needs s) (at (s .chilled .outs)) (s .chilled .bound)
-      (s .processors) k (booksOf (proceed s Phase.running k peak offers .state)) (proceed s Phase.running k peak offers .started)
+      Coursed (s .size) (at (s .parents)) (rankIn (s .activation)) (termsOf (proceed s Phase.running k peaks offers .state))
+      (s .processors) k (booksOf (proceed s Phase.running k peaks offers .state)) (proceed s Phase.running k peaks offers .started)
   unfolding proceed withBooks ahead begun
   proceeds =
-      coursed (s .size) (at (s .parents)) (s .activation) (p .valid) (tree s p) (needs s) (at (s .chilled .outs)) (needs-roomy s (s .chilled))
-      (s .chilled .bound) (s .processors) (s .execution) (p .formed .execution-inside) (p .formed .execution-once) (p .executed) k
-      (ahead s k) good few refl (begun s (ahead s k)) refl
+      rw (terms-stay s Phase.running (start (begun s (ahead s k)) (ahead s k .standings)) (ahead s k .booked))
+      (coursed (s .size) (at (s .parents)) (s .activation) (p .valid) (tree s p) (termsOf s) (λ d. needs-roomy s (storeOf s d))
+      (s .processors) (s .execution) (p .formed .execution-inside) (p .formed .execution-once) (p .executed) k (ahead s k) good few refl
+      (begun s (ahead s k)) refl)
 
   -- the root has not ended then
   pub proceed-in-day :
@@ -236,7 +246,7 @@ module _ (s : State) (p : Planned s) (k : Books) (peak : Peaked) (offers : ℕ)
       → InOrder (s .size) (at (s .parents)) happened
       → isFetched happened ≡ false
       → ((r : ℕ) → Task (s .size) r → at (s .parents) r ≡ 0 → at (k .standings) r ≡ finished → ⊥)
-      → InDay (proceed s Phase.running k peak offers .state) (happened ++ map started (proceed s Phase.running k peak offers .started))
+      → InDay (proceed s Phase.running k peaks offers .state) (happened ++ map started (proceed s Phase.running k peaks offers .started))
   unfolding proceed withBooks
   proceed-in-day happened logged order fetch unended =
       let log = proceeds .logged happened logged order in

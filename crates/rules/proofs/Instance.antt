@@ -9,11 +9,12 @@ use borrow.Author.Tests.{eqb-true, eq-eqb, ne-eqb, le-leb}
 use lib.Dec.{eqb}
 use lib.ListN.{length, take}
 use lib.Seq.{take-suc, take-all, length-take-le}
+use Rattle.rules.specs.Kind.{Kind, chilled, of, each}
 use Rattle.rules.specs.Limits.{maxTasks, maxProcessors, maxCount, maxBound}
 use Rattle.rules.specs.Sums.{Task}
 use Rattle.rules.specs.Lists.{at}
 use Rattle.rules.specs.Phase
-use Rattle.rules.specs.State.{State}
+use Rattle.rules.specs.State.{State, storeOf}
 use Rattle.rules.specs.Command.{activation, execution, forms, find, byteOf, operandsOf, widthsOf}
 use Rattle.rules.specs.Grounds.{inTurn, inLimits, ownGround, ground}
 use Rattle.rules.specs.Obey.{opened, withTask, withOrders, obey}
@@ -23,24 +24,20 @@ use Rattle.rules.specs.Write.{isWhole}
 use Rattle.rules.proofs.Tests.{clash, le-or-lt, and-true}
 use Rattle.rules.proofs.Orders.{task-within}
 use Rattle.rules.proofs.Judging.{ground-own}
+use Rattle.rules.proofs.EachStore.{of-each}
+use Rattle.rules.proofs.Formed.{Column}
 use Rattle.rules.proofs.Reaching.{lives}
 use Rattle.rules.proofs.Staged.{staged}
 use Rattle.rules.proofs.Leading.{Leads, stays, obeyed-first, _then_, Order, activations-lead, executions-lead}
-
--- a column: an entry for nobody, and one in its limit for each of n tasks
-record Column (n limit : ℕ) (l : List ℕ) : Type 0 where
-  long : length l ≡ suc n
-  nobody : at l 0 ≡ 0
-  limited : (i : ℕ) → at l i ≤ limit
 
 -- every number is in its limits, every column whole, and both orders complete
 pub record Proper (m : Instance) : Type 0 where
   tasks : Task maxTasks (m .size)
   staffed : Task maxProcessors (m .processors)
-  bounded : m .bound ≤ maxBound
-  parents : Column (m .size) (m .size) (m .parents)
-  works : Column (m .size) maxCount (m .works)
-  outs : Column (m .size) maxCount (m .outs)
+  bounded : (k : Kind) → of (m .bounds) k ≤ maxBound
+  parents : Column (suc (m .size)) (m .size) (m .parents)
+  works : (k : Kind) → Column (suc (m .size)) maxCount (of (m .works) k)
+  outs : (k : Kind) → Column (suc (m .size)) maxCount (of (m .outs) k)
   pub activation : Order (m .size) (m .activation)
   pub execution : Order (m .size) (m .execution)
 
@@ -55,33 +52,45 @@ partial m k =
       activation = [];
       execution = [];
       standings = [];
-      chilled =
-          record { bound = m .bound; works = take (suc k) (m .works); outs = take (suc k) (m .outs); booked = [] };
+      stores =
+          each
+          (λ kind.
+          record {
+            bound = of (m .bounds) kind;
+            works = take (suc k) (of (m .works) kind);
+            outs = take (suc k) (of (m .outs) kind);
+            booked = [];
+          });
     }
 
+-- a column with all tasks given
+given-column : {given n limit : ℕ} {l m : List ℕ} → given ≡ n → m ≡ l → Column given limit l → Column n limit m
+given-column {limit = limit} long same c =
+    subst (Column _ limit) (sym same) (record { long = c .long ∙ long; nobody = c .nobody; limited = c .limited })
+
 -- a column with the entry for nobody alone, with one entry more, and with all
-column-first : {n limit : ℕ} {l : List ℕ} → Column n limit l → take 1 l ≡ 0 ∷ []
+column-first : {n limit : ℕ} {l : List ℕ} → Column (suc n) limit l → take 1 l ≡ 0 ∷ []
 column-first {l = l} c = let long = c .long in take-suc l 0 0 (omega arith) ∙ ap (λ (x : ℕ). x ∷ []) (c .nobody)
 
-column-more : {n limit : ℕ} {l : List ℕ} (k : ℕ) → k < n → Column n limit l → take (suc k) l ++ (at l (suc k) ∷ []) ≡ take (suc (suc k)) l
+column-more : {n limit : ℕ} {l : List ℕ} (k : ℕ) → k < n → Column (suc n) limit l → take (suc k) l ++ (at l (suc k) ∷ []) ≡ take (suc (suc k)) l
 column-more {l = l} k more c = let long = c .long in sym (take-suc l (suc k) 0 (omega arith))
 
-column-whole : {n limit : ℕ} {l : List ℕ} → Column n limit l → take (suc n) l ≡ l
+column-whole : {n limit : ℕ} {l : List ℕ} → Column (suc n) limit l → take (suc n) l ≡ l
 column-whole {n} {l = l} c = let long = c .long in take-all (suc n) l (omega arith)
 
 module _ (m : Instance) (g : Proper m) where
-  opens : opened (m .size) (m .processors) (m .bound) ≡ partial m 0
+  opens : opened (m .size) (m .processors) (m .bounds .chilled) ≡ partial m 0
   unfolding opened
   opens =
       let some = g .tasks .low in
-      rw (ne-eqb 0 (m .size) (λ e. omega arith), column-first (g .parents), column-first (g .works), column-first (g .outs))
+      rw (ne-eqb 0 (m .size) (λ e. omega arith), column-first (g .parents), column-first (g .works chilled), column-first (g .outs chilled))
 
   -- one task more
   task-ground : (k : ℕ) → k < m .size → ground (partial m k) (taskOf m (suc k)) ≡ 0
   unfolding inTurn inLimits ownGround
   task-ground k more =
       ground-own (partial m k) (taskOf m (suc k)) (rw (ne-eqb k (m .size) (λ e. omega arith)) refl)
-      (rw (le-leb _ _ (g .parents .limited (suc k)), le-leb _ _ (g .works .limited (suc k)), le-leb _ _ (g .outs .limited (suc k))))
+      (rw (le-leb _ _ (g .parents .limited (suc k)), le-leb _ _ (g .works chilled .limited (suc k)), le-leb _ _ (g .outs chilled .limited (suc k))))
 
   task-obeyed : (k : ℕ) → k < m .size → obey (partial m k) (taskOf m (suc k)) .state ≡ partial m (suc k)
   unfolding obey withTask
@@ -90,8 +99,8 @@ module _ (m : Instance) (g : Proper m) where
       rw (
         length-take-le (suc k) (m .parents) (omega arith),
         column-more k more (g .parents),
-        column-more k more (g .works),
-        column-more k more (g .outs),
+        column-more k more (g .works chilled),
+        column-more k more (g .outs chilled),
       )
 
   tasks-lead : (k : ℕ) → k ≤ m .size → Leads (partial m 0) (tasksTo m k) (partial m k)
@@ -100,8 +109,8 @@ module _ (m : Instance) (g : Proper m) where
   tasks-lead (suc k) h =
       let most = g .tasks .high in
       let parent = g .parents .limited (suc k) in
-      let work = g .works .limited (suc k) in
-      let out = g .outs .limited (suc k) in
+      let work = g .works chilled .limited (suc k) in
+      let out = g .outs chilled .limited (suc k) in
       tasks-lead k (omega arith)
       then obeyed-first (taskOf m (suc k)) (omega arith, (omega arith, (omega arith, tt)))
       (task-ground k (omega arith))
@@ -110,7 +119,7 @@ module _ (m : Instance) (g : Proper m) where
   -- the last of them leaves the plan in orders
   all-tasks : partial m (m .size) ≡ withOrders (unbegun m) [] []
   unfolding withOrders unbegun
-  all-tasks = rw (eq-eqb (m .size) (m .size) refl, column-whole (g .parents), column-whole (g .works), column-whole (g .outs))
+  all-tasks = rw (eq-eqb (m .size) (m .size) refl, column-whole (g .parents), column-whole (g .works chilled), column-whole (g .outs chilled))
 
   -- the two orders of a plan in orders
   activation-leads :
@@ -132,11 +141,11 @@ module _ (m : Instance) (g : Proper m) where
   opening-leads s idle =
       let tasks = g .tasks .high in
       let staffed = g .staffed .high in
-      let bounded = g .bounded in
+      let bounded = g .bounded chilled in
       obeyed-first (openingOf m) (omega arith, (omega arith, (omega arith, tt)))
       (ground-own s (openingOf m) (rw idle)
       (rw (task-within maxTasks (m .size) (g .tasks), task-within maxProcessors (m .processors) (g .staffed))
-      (le-leb (m .bound) maxBound (g .bounded))))
+      (le-leb (m .bounds .chilled) maxBound bounded)))
       (rw opens (stays (partial m 0)))
 
   pub commands-lead : (s : State) → Phase.holdsTrays (s .phase) ≡ false → Leads s (commands m) (unbegun m)
@@ -179,14 +188,14 @@ pub proper : (s : State) → Reachable s → isWhole s ≡ true → Proper (inst
 proper s reached whole =
     let f = lives reached .formed in
     let c = complete s whole in
-    let long = f .columns .whole (whole-given s reached whole) in
+    let long = f .given .whole (whole-given s reached whole) in
     record {
       tasks = record { low = staged reached .some (c .opened); high = f .sized };
       staffed = record { low = f .staffed (c .opened); high = f .limited };
-      bounded = f .bounded;
-      parents = record { long = long; nobody = f .columns .nobody .0; limited = f .parents };
-      works = record { long = f .columns .works-long ∙ long; nobody = f .columns .nobody .1; limited = λ i. f .light i .0 };
-      outs = record { long = f .columns .outs-long ∙ long; nobody = f .columns .nobody .2; limited = λ i. f .light i .1 };
+      bounded = λ k. subst (λ (m : ℕ). m ≤ maxBound) (sym (of-each (λ k. storeOf s k .bound) k)) (f .stores k .bounded);
+      parents = given-column long refl (f .given .parents);
+      works = λ k. given-column long (of-each (λ k. storeOf s k .works) k) (f .stores k .works);
+      outs = λ k. given-column long (of-each (λ k. storeOf s k .outs) k) (f .stores k .outs);
       activation = record { inside = f .activation-inside; once = f .activation-once; whole = c .activation };
       execution = record { inside = f .execution-inside; once = f .execution-once; whole = c .execution };
     }

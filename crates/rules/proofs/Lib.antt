@@ -1,4 +1,5 @@
 -- What is proved of the rules.
+pub mod EachStore
 -- the paper's examples
 pub mod Computing
 pub mod Marked

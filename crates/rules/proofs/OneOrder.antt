@@ -11,7 +11,7 @@ use lib.Seq.{take-all}
 use Rattle.rules.specs.Phase
 use Rattle.rules.specs.State.{State}
 use Rattle.rules.specs.Command.{execution, begin}
-use Rattle.rules.specs.Grounds.{noExecution, inTurn, peakOf, peakedOf, ownGround, ground}
+use Rattle.rules.specs.Grounds.{noExecution, inTurn, peakOf, peakIn, fitsIn, peaksOf, ownGround, ground}
 use Rattle.rules.specs.Obey.{withOrders, executionOrder, completed, withBooks, proceed, obey}
 use Rattle.rules.specs.Answer.{Answered, refuse}
 use Rattle.rules.specs.Instance.{instanceOf}
@@ -108,7 +108,7 @@ module _ (s : State) (reached : Reachable s) (one : oneOrder s ≡ true) where
       (or-right (eqb (length (s .execution)) (s .size)) (noExecution s) (eq-eqb (length (s .execution)) 0 (f .none)))
 
   same-ground : ground s begin ≡ groundBefore (completed s)
-  unfolding groundBefore completed withOrders ownGround peakOf
+  unfolding groundBefore completed withOrders ownGround peakOf peakIn fitsIn
   same-ground =
       begin-ground s in-turn
       ∙ rw (
@@ -118,7 +118,7 @@ module _ (s : State) (reached : Reachable s) (one : oneOrder s ≡ true) where
       )
 
   same-outcome : obey s begin ≡ outcomeBefore (completed s)
-  unfolding obey outcomeBefore completed withOrders peakedOf
+  unfolding obey outcomeBefore completed withOrders peaksOf
   same-outcome = refl
 
   obeyed-whole : isWhole (obey s begin .state) ≡ true

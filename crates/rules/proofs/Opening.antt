@@ -5,10 +5,10 @@ use Prim.Native.Nat.{_≤_}
 use native.Mathlib.Omega.{arith}
 use Rattle.rules.specs.Lists.{at}
 use Rattle.rules.specs.Standing.{running, count}
-use Rattle.rules.specs.State.{State, needs}
+use Rattle.rules.specs.State.{State}
 use Rattle.rules.specs.Command.{begin}
-use Rattle.rules.specs.Grounds.{peakedOf}
-use Rattle.rules.specs.Obey.{fresh, withOrders, completed, obey}
+use Rattle.rules.specs.Grounds.{peaksOf}
+use Rattle.rules.specs.Obey.{fresh, termsOf, withOrders, completed, obey}
 use Rattle.rules.specs.Day.{started, isFetched}
 use Rattle.rules.specs.Invariant.{rankIn}
 use Rattle.rules.proofs.Log.{nothing-logged, nothing-in-order}
@@ -21,12 +21,12 @@ unfolding obey completed withOrders isFetched
 begin-in-day s formed a =
     let p = begin-planned s formed a in
     let good =
-    fresh-good (s .size) (at (s .parents)) (rankIn (s .activation)) (needs s) (at (s .chilled .outs)) (s .chilled .bound)
+    fresh-good (s .size) (at (s .parents)) (rankIn (s .activation)) (termsOf s)
     in
     let few : count (s .size) (at (fresh (s .size) .standings)) running ≤ s .processors =
     (let z = fresh-idle (s .size) in omega arith)
     in
-    proceed-in-day (completed s) p (fresh (s .size)) (peakedOf s) 0 good few []
+    proceed-in-day (completed s) p (fresh (s .size)) (peaksOf s) 0 good few []
     (nothing-logged (s .size) (at (fresh (s .size) .standings)) (λ i t. let z = fresh-waits (s .size) i t in omega arith))
     (nothing-in-order (s .size) (at (s .parents))) refl
     (λ r t _ e. let w = fresh-waits (s .size) r t in omega arith)

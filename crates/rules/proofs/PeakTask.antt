@@ -8,24 +8,28 @@ use native.Mathlib.Omega.{arith}
 use lib.Dec.{eqb, leb}
 use lib.ListN.{length, getD, drop}
 use borrow.Author.Tests.{eqb-true, eq-eqb, ne-eqb}
+use Rattle.rules.specs.Kind.{Kind}
 use Rattle.rules.specs.Sums.{everyTo}
 use Rattle.rules.specs.Lists.{at, mem, every, distinct, place, largest}
 use Rattle.rules.specs.Limits.{maxTasks}
-use Rattle.rules.specs.Peak.{sumAt, sums, peak, Peaked, peakTask, peaked, noPeak, roots, ordered}
-use Rattle.rules.specs.State.{State}
+use Rattle.rules.specs.Peak.{sumAt, sums, peak, Peaked, peakTask, peaked, roots, ordered}
+use Rattle.rules.specs.Tasks
+use Rattle.rules.specs.Tasks.{Tasks}
+use Rattle.rules.specs.State.{State, storeOf, tasksIn}
 use Rattle.rules.specs.Command.{Command, plan, task, activation, execution, begin, done, fetch, places, read, decode, byteOf}
-use Rattle.rules.specs.Grounds.{within, demand, peakedOf}
+use Rattle.rules.specs.Grounds.{within, demand, peaksOf, noPeaks}
 use Rattle.rules.specs.Obey.{withOrders, completed, proceed, obey}
 use Rattle.rules.specs.Answer.{Asking, Answered, refuse, accept, command}
-use Rattle.rules.specs.Desk.{StepRecord, deskGround, deskAnswer, column, desk}
+use Rattle.rules.specs.Desk.{StepRecord, deskGround, deskAnswer, deskTasks, desk}
 use Rattle.rules.specs.Day.{isBegin, beginsDay, accepted}
 use Rattle.rules.specs.Reachable.{Reachable}
-use Rattle.rules.specs.PeakTask.{SetsPeak, SetsPeakOf, PeakHolds, DeskPeakHolds, EveryPeakHolds}
+use Rattle.rules.specs.PeakTask.{SetsPeak, SetPeaksOf, PeakHolds, DeskPeakHolds, EveryPeakHolds}
 use Rattle.rules.proofs.Tests.{clash, and-true, le-or-lt}
 use Rattle.rules.proofs.Sums.{count-le}
 use Rattle.rules.proofs.Places.{nowhere, TwoPlaces, same, ahead, behind, two-places}
 use Rattle.rules.proofs.Orders.{every-mem, mem-among, mem-here, within-task}
 use Rattle.rules.proofs.Peaks.{sum-among, largest-here, largest-later}
+use Rattle.rules.proofs.EachStore.{of-each}
 use Rattle.rules.proofs.Formed.{Formed, Accepted, demand-none}
 use Rattle.rules.proofs.InDay.{begin-planned}
 use Rattle.rules.proofs.Steps.{Step, is-refused, is-obeyed, step}
@@ -105,48 +109,49 @@ module _ (n : ℕ) (par work out : ℕ → ℕ) where
       ⊎-elim (found-here ended x (y ∷ later)) (λ above. found-later ended x (y ∷ later) above (found (x ∷ ended) y later))
       (le-or-lt (largest (sums n par work out (x ∷ ended) (y ∷ later))) (sumAt n par work out ended x))
 
-  -- the peak of an order of tasks, with its task
-  pub sets-peak :
-      (order : List ℕ)
-      → every (λ i. within i n) order ≡ true
-      → 1 ≤ length order
-      → SetsPeak n par work out order (peaked n par work out order)
-  unfolding peaked peak peakTask
-  sets-peak [] inside some = absurd (omega arith)
-  sets-peak (y ∷ order) inside some = go (found [] y order)
-    where
-      go : Found n par work out [] (y ∷ order) → SetsPeak n par work out (y ∷ order) (peaked n par work out (y ∷ order))
-      go f =
-          let is = f .is-task in
-          let stands : y ∷ order ≡ f .earlier ++ peakTask n par work out (y ∷ order) ∷ f .later = rw (← is) (f .stands) in
-          record {
-            highest = refl;
-            task =
-                within-task n (peakTask n par work out (y ∷ order))
-                (every-mem (λ i. within i n) (y ∷ order) (peakTask n par work out (y ∷ order)) inside
-                (ap (mem (peakTask n par work out (y ∷ order))) stands
-                ∙ mem-among (peakTask n par work out (y ∷ order)) (peakTask n par work out (y ∷ order)) (f .earlier) (f .later)
-                ∙ mem-here (peakTask n par work out (y ∷ order)) (peakTask n par work out (y ∷ order)) (f .earlier ++ f .later) refl));
-            earlier = f .earlier;
-            later = f .later;
-            stands = stands;
-            sum = rw (← is) (rw (append-nil (f .earlier)) at (f .sum));
-            below = λ pre x post e. rw (append-nil pre) at (f .below pre x post e);
-          }
+-- the peak of an order of tasks, with its task
+pub sets-peak :
+    (t : Tasks) (order : List ℕ)
+    → every (λ i. within i (t .size)) order ≡ true
+    → 1 ≤ length order
+    → SetsPeak t order (Tasks.peaked t order)
+unfolding peaked peak peakTask
+sets-peak t [] inside some = absurd (omega arith)
+sets-peak t (y ∷ order) inside some = go (found (t .size) (t .parent) (t .work) (t .out) [] y order)
+  where
+    go : Found (t .size) (t .parent) (t .work) (t .out) [] (y ∷ order) → SetsPeak t (y ∷ order) (Tasks.peaked t (y ∷ order))
+    go f =
+        let is = f .is-task in
+        let x : ℕ = Tasks.peaked t (y ∷ order) .task in
+        let stands : y ∷ order ≡ f .earlier ++ x ∷ f .later = rw (← is) (f .stands) in
+        record {
+          highest = refl;
+          task =
+              within-task (t .size) x
+              (every-mem (λ i. within i (t .size)) (y ∷ order) x inside
+              (ap (mem x) stands ∙ mem-among x x (f .earlier) (f .later) ∙ mem-here x x (f .earlier ++ f .later) refl));
+          earlier = f .earlier;
+          later = f .later;
+          stands = stands;
+          sum = rw (← is) (rw (append-nil (f .earlier)) at (f .sum));
+          below = λ pre z post e. rw (append-nil pre) at (f .below pre z post e);
+        }
 
 -- BEGIN, where it is accepted
 begun-peak :
     (s : State)
     → Formed s
     → Accepted s begin
-    → SetsPeakOf s (peakedOf s)
-unfolding peakedOf completed withOrders roots
-begun-peak s formed a =
+    → SetPeaksOf s (peaksOf s)
+unfolding peaksOf completed withOrders roots
+begun-peak s formed a k =
     let p = begin-planned s formed a in
     let whole = p .valid .whole in
     let one = p .rooted in
-    sets-peak (s .size) (at (s .parents)) (at (s .chilled .works)) (at (s .chilled .outs)) (s .activation)
-    (p .valid .inside) (let some = count-le (λ i. eqb (at (s .parents) i) 0) (s .size) in omega arith)
+    subst (SetsPeak (tasksIn s (storeOf s k)) (s .activation))
+    (sym (of-each (λ k. Tasks.peaked (tasksIn s (storeOf s k)) (s .activation)) k))
+    (sets-peak (tasksIn s (storeOf s k)) (s .activation) (p .valid .inside)
+    (let some = count-le (λ i. eqb (at (s .parents) i) 0) (s .size) in omega arith))
 
 -- what is told of each command that is obeyed
 obeyed-told :
@@ -154,7 +159,7 @@ obeyed-told :
     → Formed s
     → Accepted s c
     → isBegin (read c used) ≡ true
-    → SetsPeakOf s (obey s c .peak)
+    → SetPeaksOf s (obey s c .peaks)
 unfolding byteOf isBegin obey proceed
 obeyed-told s (plan n p bound) used h a e = absurd (clash e refl)
 obeyed-told s (task parent work out) used h a e = absurd (clash e refl)
@@ -165,7 +170,7 @@ obeyed-told s (done j) used h a e = absurd (clash e refl)
 obeyed-told s fetch used h a e = absurd (clash e refl)
 obeyed-told s (places bound) used h a e = absurd (clash e refl)
 
-obeyed-none : (s : State) (c : Command) (used : ℕ) → isBegin (read c used) ≡ false → obey s c .peak ≡ noPeak
+obeyed-none : (s : State) (c : Command) (used : ℕ) → isBegin (read c used) ≡ false → obey s c .peaks ≡ noPeaks
 unfolding byteOf isBegin obey proceed
 obeyed-none s (plan n p bound) used e = refl
 obeyed-none s (task parent work out) used e = refl
@@ -185,15 +190,15 @@ peak-holds s reached a = go (step s a)
     go (is-refused r) =
         record {
           told = λ e. absurd (clash (and-true (accepted s a) (isBegin (decode (a .stream) (a .place))) e .0) (r .not-accepted));
-          none = λ _. ap (λ (v : Answered). v .answer .peak) (r .answered);
+          none = λ _. ap (λ (v : Answered). v .answer .peaks) (r .answered);
         }
     go (is-obeyed c used o) =
         let is-begin : beginsDay a (command s a) ≡ isBegin (read c used)
         = ap (λ (t : Bool). t && isBegin (decode (a .stream) (a .place))) (o .is-accepted) ∙ ap isBegin (o .decoded) in
-        let answered : command s a .answer .peak ≡ obey s c .peak = ap (λ (v : Answered). v .answer .peak) (o .answered) in
+        let answered : command s a .answer .peaks ≡ obey s c .peaks = ap (λ (v : Answered). v .answer .peaks) (o .answered) in
         record {
           told = λ e.
-              subst (SetsPeakOf s) (sym answered)
+              subst (SetPeaksOf s) (sym answered)
               (obeyed-told s c used (lives reached .formed) (o .granted) (sym is-begin ∙ e));
           none = λ e. answered ∙ obeyed-none s c used (sym is-begin ∙ e);
         }
@@ -225,14 +230,12 @@ pub desk-peak-holds :
     (records : List StepRecord) (order : List ℕ) → DeskPeakHolds records order (desk records order)
 unfolding desk deskAnswer
 desk-peak-holds records order =
-    let n : ℕ = length records in
-    let par : ℕ → ℕ = at (column (λ t. t .parent) records) in
-    let work : ℕ → ℕ = at (column (λ t. t .work) records) in
-    let out : ℕ → ℕ = at (column (λ t. t .out) records) in
+    let n : ℕ = deskTasks records .size in
+    let par : ℕ → ℕ = deskTasks records .parent in
     record {
       told = λ e.
           (let tasks = desk-tasks n par order e in
-          rw (eq-eqb (deskGround n par order) 0 e) (sets-peak n par work out order (tasks .0) (tasks .1)));
+          rw (eq-eqb (deskGround n par order) 0 e) (sets-peak (deskTasks records) order (tasks .0) (tasks .1)));
       none = λ d. rw (ne-eqb (deskGround n par order) 0 d);
     }
 
@@ -241,11 +244,8 @@ every-peak-holds = record { begins = peak-holds; desks = desk-peak-holds }
 
 -- no other peak and no other task would do
 pub one-peak :
-    (n : ℕ) (par work out : ℕ → ℕ) (order : List ℕ) (p p′ : Peaked)
-    → SetsPeak n par work out order p
-    → SetsPeak n par work out order p′
-    → p ≡ p′
-one-peak n par work out order p p′ h h′ =
+    (t : Tasks) (order : List ℕ) (p p′ : Peaked) → SetsPeak t order p → SetsPeak t order p′ → p ≡ p′
+one-peak t order p p′ h h′ =
     go (two-places (h .earlier) (h′ .earlier) (h .later) (h′ .later) (p .task) (p′ .task) (sym (h .stands) ∙ h′ .stands))
   where
     trays : p .trays ≡ p′ .trays

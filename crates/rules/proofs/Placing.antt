@@ -6,17 +6,17 @@ use Prim.Native.Nat.{ℕ, _≤_}
 use native.Mathlib.Omega.{arith}
 use lib.Dec.{leb}
 use borrow.Author.Tests.{eqb-true, ne-eqb, leb-true}
+use Rattle.rules.specs.Kind.{Kind, chilled}
 use Rattle.rules.specs.Lists.{at}
 use Rattle.rules.specs.Limits.{maxBound}
-use Rattle.rules.specs.Peak.{noPeak}
 use Rattle.rules.specs.Phase
-use Rattle.rules.specs.State.{State, needs}
+use Rattle.rules.specs.State.{State, storeOf}
 use Rattle.rules.specs.Command.{places}
-use Rattle.rules.specs.Grounds.{inTurn, inLimits, ownGround, demand, peakOf}
-use Rattle.rules.specs.Booking.{total}
-use Rattle.rules.specs.Obey.{withBound, booksOf, proceed, obey}
+use Rattle.rules.specs.Grounds.{inTurn, inLimits, ownGround, demand, peakIn, peakOf, noPeaks}
+use Rattle.rules.specs.Booking.{bookedIn, total}
+use Rattle.rules.specs.Obey.{withBound, booksOf, termsOf, proceed, obey}
 use Rattle.rules.specs.Day.{Event, started, bounded, isFetched}
-use Rattle.rules.specs.Invariant.{rankIn, Good}
+use Rattle.rules.specs.Invariant.{rankIn, StockedBy, Good}
 use Rattle.rules.proofs.Tests.{or-none}
 use Rattle.rules.proofs.Log.{fetched-append, bounded-logged, bounded-in-order}
 use Rattle.rules.proofs.Formed.{Accepted, demand-none, with-bound-formed}
@@ -25,20 +25,30 @@ use Rattle.rules.proofs.InDay.{Planned, InDay, Going, still-going, proc
 -- what the grounds of 08 give
 pub record Fits (s : State) (bound : ℕ) : Type 0 where
   pub peak : peakOf s ≤ bound
-  pub booked : total (s .size) (at (s .chilled .booked)) ≤ bound
+  pub booked : total (s .size) (at (s .stores .chilled .booked)) ≤ bound
 
 pub grounds-fit : (s : State) (bound : ℕ) → ownGround s (places bound) ≡ 0 → Fits s bound
 unfolding ownGround
 grounds-fit s bound own =
-    let booked = total (s .size) (at (s .chilled .booked)) in
+    let booked = total (s .size) (at (s .stores .chilled .booked)) in
     let nine = demand-none (leb (peakOf s) bound) 9 (demand (leb booked bound) 13 0) (λ q. omega arith) own in
     let thirteen = demand-none (leb booked bound) 13 0 (λ q. omega arith) (nine .1) in
     record { peak = leb-true (peakOf s) bound (nine .0); booked = leb-true booked bound (thirteen .0) }
 
--- the plan with such a bound is still in order, and the bound at least its peak
+-- no store has fewer places than its peak, the cold room with such a bound either
+bound-fits :
+    (s : State) (bound : ℕ)
+    → peakOf s ≤ bound
+    → ((k : Kind) → peakIn s (storeOf s k) ≤ storeOf s k .bound)
+    → (k : Kind)
+    → peakIn (withBound s bound) (storeOf (withBound s bound) k) ≤ storeOf (withBound s bound) k .bound
+unfolding withBound peakOf peakIn
+bound-fits s bound high fits chilled = high
+
+-- the plan with it is still in order, and each bound at least its peak
 bound-planned : (s : State) (bound : ℕ) → bound ≤ maxBound → peakOf s ≤ bound → Planned s → Planned (withBound s bound)
-unfolding withBound peakOf
-bound-planned s bound limit fits p =
+unfolding withBound
+bound-planned s bound limit high p =
     record {
       formed = with-bound-formed s bound limit (p .formed);
       given = p .given;
@@ -46,7 +56,7 @@ bound-planned s bound limit fits p =
       executed = p .executed;
       rooted = p .rooted;
       staffed = p .staffed;
-      fits = fits;
+      fits = bound-fits s bound high (p .fits);
     }
 
 module _ (s : State) (happened : List Event) (day : InDay s happened) (bound : ℕ) (a : Accepted s (places bound)) where
@@ -64,16 +74,18 @@ module _ (s : State) (happened : List Event) (day : InDay s happened) (bound : �
   unfolding inLimits
   limit = leb-true bound maxBound (a .limits)
 
-  -- the books are within the new bound
-  good :
-      Good (s .size) (at (s .parents)) (rankIn (s .activation)) (needs s) (at (s .chilled .outs)) bound (booksOf s)
-  good =
-      let g = going .settled .good in
-      record {
-        sized = g .sized;
-        shape = g .shape;
-        stock = record { sized = g .stock .sized; books = g .stock .books; within = fits .booked };
-      }
+  -- what is kept of each store, the cold room with its new bound
+  stock :
+      (k : Kind)
+      → StockedBy (s .size) (at (s .parents)) (termsOf (withBound s bound) k) (at (s .standings)) (bookedIn (booksOf s) k)
+  unfolding withBound
+  stock chilled =
+      let kept = going .settled .good .stock chilled in
+      record { sized = kept .sized; books = kept .books; within = fits .booked }
+
+  -- the books are within it
+  good : Good (s .size) (at (s .parents)) (rankIn (s .activation)) (termsOf (withBound s bound)) (booksOf s)
+  good = record { sized = going .settled .good .sized; shape = going .settled .good .shape; stock = stock }
 
   not-fetched : isFetched (happened ++ (bounded bound ∷ [])) ≡ false
   unfolding isFetched
@@ -87,9 +99,9 @@ module _ (s : State) (happened : List Event) (day : InDay s happened) (bound : �
       InDay (obey s (places bound) .state) (happened ++ (bounded bound ∷ map started (obey s (places bound) .started)))
   unfolding obey withBound
   places-in-day =
-      let after = proceed (withBound s bound) Phase.running (booksOf s) noPeak 0 in
+      let after = proceed (withBound s bound) Phase.running (booksOf s) noPeaks 0 in
       subst (λ (l : List Event). InDay (after .state) l) (append-assoc happened (bounded bound ∷ []) (map started (after .started)))
-      (proceed-in-day (withBound s bound) (bound-planned s bound limit (fits .peak) (day .planned)) (booksOf s) noPeak 0 good
+      (proceed-in-day (withBound s bound) (bound-planned s bound limit (fits .peak) (day .planned)) (booksOf s) noPeaks 0 good
       (going .settled .staffed) (happened ++ (bounded bound ∷ []))
       (bounded-logged (s .size) (at (s .standings)) happened bound (day .logged))
       (bounded-in-order (s .size) (at (s .parents)) happened bound (day .order)) not-fetched (going .unended))

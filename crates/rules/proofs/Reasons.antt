@@ -5,6 +5,7 @@ use mathlib.Core.Logic.{inl, inr, ⊎-elim}
 use mathlib.Core.List.{List}
 use Prim.Native.Nat.{ℕ, _≤_, _<_}
 use native.Mathlib.Omega.{arith}
+use Rattle.rules.specs.Kind.{Each, of}
 use Rattle.rules.specs.Lists.{at}
 use Rattle.rules.specs.Phase
 use Rattle.rules.specs.Standing
@@ -12,8 +13,9 @@ use Rattle.rules.specs.State.{State}
 use Rattle.rules.specs.Booking.{fed}
 use Rattle.rules.specs.Grounds.{within}
 use Rattle.rules.specs.Day.{Event}
-use Rattle.rules.specs.Why.{Reason, refused, ended, running, notBooked, unfed, noProcessor, firstWaiting, lackIn, unendedChild, why}
+use Rattle.rules.specs.Why.{Reason, refused, ended, running, notBooked, unfed, noProcessor, firstWaiting, lacks, unendedChild, why}
 use Rattle.rules.specs.Reasons.{LackIsExact, NotBooked, Unfed, Says, precedence, ReasonHolds, EveryReasonHolds}
+use Rattle.rules.proofs.EachStore.{each-same}
 use Rattle.rules.proofs.Tests.{decide, clash, same-or-not, le-or-lt}
 use Rattle.rules.proofs.Sums.{Task}
 use Rattle.rules.proofs.Orders.{within-task, task-within}
@@ -81,29 +83,36 @@ module _ (s : State) {happened : List Event} (day : InDay s happened) (runs : s 
       only noProcessor h x = absurd (omega arith)
 
   -- the first waiting task is one, and lacks one number of places
-  only-lack : {x y l m : ℕ} → NotBooked s i x l → NotBooked s i y m → notBooked x l ≡ notBooked y m
+  only-lack : {x y : ℕ} {l m : Each ℕ} → NotBooked s i x l → NotBooked s i y m → notBooked x l ≡ notBooked y m
   only-lack {x} {y} {l} {m} a b =
       let same = first-waiting-one (s .size) (at (s .parents)) (s .activation) (day .planned .valid) (at (s .standings)) x y (a .first) (b .first) in
-      let exact : LackIsExact s x m = rw same (b .exact) in
+      let exact : LackIsExact s x (of m) = rw same (b .exact) in
       ap₂ notBooked same (only-exact (a .exact) exact)
     where
-      only-exact : {x l m : ℕ} → LackIsExact s x l → LackIsExact s x m → l ≡ m
+      only-exact : {x : ℕ} {l m : Each ℕ} → LackIsExact s x (of l) → LackIsExact s x (of m) → l ≡ m
       only-exact {x} {l} {m} a b =
-          let low : l < m → ⊥ = λ h. let u = a .booked in let v = b .waits l h in omega arith in
-          let high : m < l → ⊥ = λ h. let u = b .booked in let v = a .waits m h in omega arith in
-          omega arith
+          each-same (of l) (of m)
+          (λ k.
+          let low : of l k < of m k → ⊥ = λ h. let u = a .booked in let v = b .waits (of l) k h in omega arith in
+          let high : of m k < of l k → ⊥ = λ h. let u = b .booked in let v = a .waits (of m) k h in omega arith in
+          omega arith)
 
   told-waiting :
-      at (s .standings) i ≡ Standing.waiting → ReasonHolds s i (notBooked (firstWaiting s) (lackIn s (s .chilled) (firstWaiting s)))
+      at (s .standings) i ≡ Standing.waiting → ReasonHolds s i (notBooked (firstWaiting s) (lacks s (firstWaiting s)))
   told-waiting e =
       let fw = first-found s (day .planned) going i task e in
-      let says : NotBooked s i (firstWaiting s) (lackIn s (s .chilled) (firstWaiting s)) =
+      let says : NotBooked s i (firstWaiting s) (lacks s (firstWaiting s)) =
       record { asked = e; first = fw; exact = lack-exact s (day .planned) going (firstWaiting s) fw }
       in
       record { says = says; first = only says }
     where
       only :
-          {x l : ℕ} → NotBooked s i x l → (other : Reason) → precedence other ≤ precedence (notBooked x l) → Says s i other → other ≡ notBooked x l
+          {x : ℕ} {l : Each ℕ}
+          → NotBooked s i x l
+          → (other : Reason)
+          → precedence other ≤ precedence (notBooked x l)
+          → Says s i other
+          → other ≡ notBooked x l
       only told (refused k) h x = absurd (not-refused k x)
       only told ended h x = absurd (omega arith)
       only told running h x = absurd (omega arith)

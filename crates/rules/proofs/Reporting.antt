@@ -9,13 +9,12 @@ use lib.Dec.{eqb}
 use lib.ListN.{length, set}
 use borrow.Author.Tests.{eqb-true, eq-eqb, ne-eqb}
 use Rattle.rules.specs.Lists.{at}
-use Rattle.rules.specs.Peak.{noPeak}
 use Rattle.rules.specs.Phase
 use Rattle.rules.specs.Standing.{running, finished, count}
-use Rattle.rules.specs.State.{State, needs}
+use Rattle.rules.specs.State.{State, storeOf}
 use Rattle.rules.specs.Command.{done}
-use Rattle.rules.specs.Grounds.{inTurn, inLimits, ownGround}
-use Rattle.rules.specs.Obey.{withBooks, booksOf, proceed, endedStandings, shared, phaseAfter, obey}
+use Rattle.rules.specs.Grounds.{inTurn, inLimits, noPeaks, ownGround}
+use Rattle.rules.specs.Obey.{withBooks, termsOf, booksOf, proceed, endedStandings, shared, phaseAfter, obey}
 use Rattle.rules.specs.Obey
 use Rattle.rules.specs.Day.{Event, started, ended, isFetched}
 use Rattle.rules.specs.Invariant.{rankIn, Good}
@@ -117,12 +116,11 @@ module _ (s : State) (happened : List Event) (day : InDay s happened) (j : ℕ) 
   -- a task with a parent: what it held is shared out, and the day goes on
   module _ (higher : at (s .parents) j ≡ 0 → ⊥) where
     good :
-        Good (s .size) (at (s .parents)) (rankIn (s .activation)) (needs s) (at (s .chilled .outs)) (s .chilled .bound)
-        (Obey.ended s j)
+        Good (s .size) (at (s .parents)) (rankIn (s .activation)) (termsOf s) (Obey.ended s j)
     unfolding Obey.ended shared endedStandings
     good =
-        sharing-good (s .size) (at (s .parents)) (rankIn (s .activation)) (tree s (day .planned)) (needs s) (at (s .chilled .outs))
-        (needs-roomy s (s .chilled)) (s .chilled .bound) (booksOf s) (going .settled .good) j task runs higher
+        sharing-good (s .size) (at (s .parents)) (rankIn (s .activation)) (tree s (day .planned)) (termsOf s)
+        (λ d. needs-roomy s (storeOf s d)) (booksOf s) (going .settled .good) j task runs higher
 
     -- the root is another one
     still-unended : (r : ℕ) → Task (s .size) r → at (s .parents) r ≡ 0 → at (Obey.ended s j .standings) r ≡ finished → ⊥
@@ -137,9 +135,9 @@ module _ (s : State) (happened : List Event) (day : InDay s happened) (j : ℕ) 
     unfolding obey
     goes-on =
         rw runs-on
-        (subst (λ (l : List Event). InDay (proceed s Phase.running (Obey.ended s j) noPeak offers .state) l)
-        (append-assoc happened (ended j ∷ []) (map started (proceed s Phase.running (Obey.ended s j) noPeak offers .started)))
-        (proceed-in-day s (day .planned) (Obey.ended s j) noPeak offers good few (happened ++ (ended j ∷ [])) logged in-order not-fetched
+        (subst (λ (l : List Event). InDay (proceed s Phase.running (Obey.ended s j) noPeaks offers .state) l)
+        (append-assoc happened (ended j ∷ []) (map started (proceed s Phase.running (Obey.ended s j) noPeaks offers .started)))
+        (proceed-in-day s (day .planned) (Obey.ended s j) noPeaks offers good few (happened ++ (ended j ∷ [])) logged in-order not-fetched
         still-unended))
 
   -- the root: its out remains, and all have ended

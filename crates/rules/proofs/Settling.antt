@@ -8,16 +8,19 @@ use native.Mathlib.Omega.{arith}
 use lib.Dec.{eqb, leb}
 use lib.ListN.{length}
 use Rattle.rules.specs.Sums.{only}
+use Rattle.rules.specs.Kind.{Kind, Each, of}
 use Rattle.rules.specs.Lists.{at, every, distinct}
 use Rattle.rules.specs.Grounds.{within}
 use Rattle.rules.specs.Standing.{waiting, activated, running, finished, count}
 use Rattle.rules.specs.Booking.{
+  Terms,
   Books,
   total,
   figure,
   childrenFigure,
   missing,
   misses,
+  allowsIn,
   allows,
   activate,
   ready,
@@ -27,6 +30,7 @@ use Rattle.rules.specs.Booking.{
 }
 use Rattle.rules.specs.Day.{Event, started}
 use Rattle.rules.specs.Invariant.{Valid, rankIn, Tree, FirstWaiting, Roomy, Good}
+use Rattle.rules.proofs.EachStore.{all-same}
 use Rattle.rules.proofs.Tests.{same-or-not, eqb-above}
 use Rattle.rules.proofs.Sums.{Task, sum-cong}
 use Rattle.rules.proofs.Counts.{count-cong}
@@ -50,26 +54,28 @@ missing-same n par need st st′ b same x =
 
 -- and so does whether it may be booked
 pub allows-same :
-    (n : ℕ) (par need : ℕ → ℕ) (bound : ℕ) (st st′ b : List ℕ)
+    (n : ℕ) (par : ℕ → ℕ) (terms : Kind → Terms) (st st′ : List ℕ) (b : Each (List ℕ))
     → ((c : ℕ) → Task n c → eqb (at st′ c) finished ≡ eqb (at st c) finished)
     → (x : ℕ)
-    → allows n par need bound (record { standings = st′; booked = b }) x
-    ≡ allows n par need bound (record { standings = st; booked = b }) x
-unfolding allows misses
-allows-same n par need bound st st′ b same x =
-    ap (λ (m : ℕ). leb (total n (at b) + m) bound) (missing-same n par need (at st) (at st′) (at b) same x)
+    → allows n par terms (record { standings = st′; booked = b }) x
+    ≡ allows n par terms (record { standings = st; booked = b }) x
+unfolding allows allowsIn misses
+allows-same n par terms st st′ b same x =
+    all-same _ _
+    (λ k.
+    ap (λ (m : ℕ). leb (total n (at (of b k)) + m) (terms k .bound)) (missing-same n par (terms k .need) (at st) (at st′) (at (of b k)) same x))
 
 -- the books between two commands: the first waiting task does not fit, and processors are free only where nobody is ready
-pub record Settled (n : ℕ) (par rank need out : ℕ → ℕ) (bound processors : ℕ) (k : Books) : Type 0 where
-  pub good : Good n par rank need out bound k
-  pub halted : (x : ℕ) → FirstWaiting n rank (at (k .standings)) x → allows n par need bound k x ≡ false
+pub record Settled (n : ℕ) (par rank : ℕ → ℕ) (terms : Kind → Terms) (processors : ℕ) (k : Books) : Type 0 where
+  pub good : Good n par rank terms k
+  pub halted : (x : ℕ) → FirstWaiting n rank (at (k .standings)) x → allows n par terms k x ≡ false
   pub staffed : count n (at (k .standings)) running ≤ processors
   pub busy :
       count n (at (k .standings)) running < processors → (i : ℕ) → Task n i → ready n par (k .standings) i ≡ false
 
 -- what booking ahead and starting make of the books k, where the tasks of l start
-pub record Coursed (n : ℕ) (par rank need out : ℕ → ℕ) (bound processors : ℕ) (k k′ : Books) (l : List ℕ) : Type 0 where
-  pub settled : Settled n par rank need out bound processors k′
+pub record Coursed (n : ℕ) (par rank : ℕ → ℕ) (terms : Kind → Terms) (processors : ℕ) (k k′ : Books) (l : List ℕ) : Type 0 where
+  pub settled : Settled n par rank terms processors k′
   -- nobody ends
   pub ends : (i : ℕ) → Task n i → eqb (at (k′ .standings) i) finished ≡ eqb (at (k .standings) i) finished
   -- what happened, with the starts
@@ -80,14 +86,14 @@ pub record Coursed (n : ℕ) (par rank need out : ℕ → ℕ) (bound processors
       → Logged n (at (k′ .standings)) (happened ++ map started l) × InOrder n par (happened ++ map started l)
 
 module _ (n : ℕ) (par : ℕ → ℕ) (order : List ℕ) (valid : Valid n par order) (tree : Tree n par (rankIn order))
-    (need out : ℕ → ℕ) (roomy : Roomy n par need out) (bound processors : ℕ) (execution : List ℕ)
+    (terms : Kind → Terms) (roomy : (k : Kind) → Roomy n par (terms k .need) (terms k .out)) (processors : ℕ) (execution : List ℕ)
     (inside : every (λ i. within i n) execution ≡ true) (once : distinct execution ≡ true) (whole : length execution ≡ n)
-    (k k₁ : Books) (good : Good n par (rankIn order) need out bound k)
-    (staffed : count n (at (k .standings)) running ≤ processors) (ahead : k₁ ≡ activate n par need bound order k) (l : List ℕ)
+    (k k₁ : Books) (good : Good n par (rankIn order) terms k)
+    (staffed : count n (at (k .standings)) running ≤ processors) (ahead : k₁ ≡ activate n par terms order k) (l : List ℕ)
     (begun : l ≡ starts n par execution (free n processors (k₁ .standings)) (k₁ .standings)) where
-  pub activated-ahead : Activated n par (rankIn order) need out bound k k₁
+  pub activated-ahead : Activated n par (rankIn order) terms k k₁
   activated-ahead =
-      rw ahead (activates n par order valid tree need out roomy bound [] order k refl (λ j m. absurd (nobody j m)) good)
+      rw ahead (activates n par order valid tree terms roomy [] order k refl (λ j m. absurd (nobody j m)) good)
 
   -- booking ahead starts and ends nobody
   pub same-ahead :
@@ -140,14 +146,14 @@ module _ (n : ℕ) (par : ℕ → ℕ) (order : List ℕ) (valid : Valid n par o
   waits-after i w = ⊎-elim (λ e. e ∙ w) (λ h. absurd (omega (arith, h .0))) (kind i)
 
   settles :
-      Settled n par (rankIn order) need out bound processors (record { standings = start l (k₁ .standings); booked = k₁ .booked })
+      Settled n par (rankIn order) terms processors (record { standings = start l (k₁ .standings); booked = k₁ .booked })
   unfolding free
   settles =
       record {
-        good = start-good n par (rankIn order) need out bound l (k₁ .standings) (k₁ .booked) may-start (activated-ahead .good);
+        good = start-good n par (rankIn order) terms l (k₁ .standings) (k₁ .booked) may-start (activated-ahead .good);
         halted =
             λ x w.
-            allows-same n par need bound (k₁ .standings) (start l (k₁ .standings)) (k₁ .booked) same-ended x
+            allows-same n par terms (k₁ .standings) (start l (k₁ .standings)) (k₁ .booked) same-ended x
             ∙ activated-ahead .halted x
             (record {
               task = w .task;
@@ -168,7 +174,7 @@ module _ (n : ℕ) (par : ℕ → ℕ) (order : List ℕ) (valid : Valid n par o
       }
 
   pub coursed :
-      Coursed n par (rankIn order) need out bound processors k
+      Coursed n par (rankIn order) terms processors k
       (record { standings = start l (k₁ .standings); booked = k₁ .booked }) l
   coursed =
       record {

@@ -1,17 +1,19 @@
 -- Sharing out what an ended task with a parent held keeps what holds of the day.
 use mathlib.Core.Path.{_≡_, refl, sym, ap, subst, _∙_}
 use mathlib.Core.Bool.{true, false, _||_}
-use mathlib.Core.Logic.{⊎-elim}
+use mathlib.Core.Logic.{_⊎_, inl, inr, ⊎-elim}
 use mathlib.Core.List.{List, [], _∷_}
 use Prim.Native.Nat.{ℕ, suc, _+_, _-_, _≤_}
 use native.Mathlib.Omega.{arith}
 use lib.Dec.{eqb}
 use lib.ListN.{length, set, length-set}
 use borrow.Author.Tests.{eqb-true, eqb-false, ne-eqb}
+use Rattle.rules.specs.Kind.{Kind, Each, of, each}
 use Rattle.rules.specs.Lists.{at, mem}
 use Rattle.rules.specs.Standing.{waiting, activated, running, finished}
-use Rattle.rules.specs.Booking.{Books, Share, total, chain, spent, gift, pass, release, offer, climb, dispatch}
+use Rattle.rules.specs.Booking.{Terms, Books, bookedIn, Share, total, chain, spent, gift, pass, release, offer, passEach, climb, dispatch}
 use Rattle.rules.specs.Invariant.{Tree, up, Shape, Active, Balance, Balanced, Roomy, Good}
+use Rattle.rules.proofs.EachStore.{of-each, all-each}
 use Rattle.rules.proofs.Tests.{decide, clash, same-or-not, or-cases, or-right, or-false}
 use Rattle.rules.proofs.Sums.{Task, only-false}
 use Rattle.rules.proofs.Tree.{up-self, up-step, chain-none, chain-step, parent-task, not-above-itself}
@@ -56,20 +58,17 @@ module _ (n : ℕ) (par rank : ℕ → ℕ) (tree : Tree n par rank) (st : ℕ �
   at-stop :
       (x : ℕ)
       → Task n x
-      → (eqb (st x) waiting || spent s) ≡ true
+      → (st x ≡ waiting) ⊎ (s .left ≡ 0)
       → Owing n par need out st (chain n par x) s
       → SharedOut n par need out st s s
-  unfolding spent
   at-stop x t stop owing =
       record {
         sized = owing .sized;
         books =
             ⊎-elim
-            (λ (w : eqb (st x) waiting ≡ true).
-            at-waiting n par rank tree st shape need out (at (s .booked)) x (s .left) t (eqb-true (st x) waiting w) (owing .books))
-            (λ (z : eqb (s .left) 0 ≡ true).
-            nothing-left n par need out st (at (s .booked)) (chain n par x) (s .left) (eqb-true (s .left) 0 z) (owing .books))
-            (or-cases (eqb (st x) waiting) (eqb (s .left) 0) stop);
+            (λ w. at-waiting n par rank tree st shape need out (at (s .booked)) x (s .left) t w (owing .books))
+            (λ z. nothing-left n par need out st (at (s .booked)) (chain n par x) (s .left) z (owing .books))
+            stop;
         all = refl;
       }
 
@@ -114,24 +113,40 @@ module _ (n : ℕ) (par rank : ℕ → ℕ) (tree : Tree n par rank) (st st′ :
       rw (release-child par out b j (ne-eqb (par j) 0 higher))
       (record { sized = length-set (set b j 0) (par j) given ∙ sized-taken; books = owed .0 }, owed .1)
 
-module _ (n : ℕ) (par rank : ℕ → ℕ) (tree : Tree n par rank) (need out : ℕ → ℕ) (roomy : Roomy n par need out)
-    (st : ℕ → ℕ) (shape : Shape n par rank st) where
+-- a store as booking finds it, in a climb and after it
+abbrev OwingBy : (n : ℕ) (par : ℕ → ℕ) (terms : Terms) (st : ℕ → ℕ) (path : List ℕ) (s : Share) → Type 0
+OwingBy n par terms st path s = Owing n par (terms .need) (terms .out) st path s
+
+abbrev SharedOutBy : (n : ℕ) (par : ℕ → ℕ) (terms : Terms) (st : ℕ → ℕ) (s s′ : Share) → Type 0
+SharedOutBy n par terms st s s′ = SharedOut n par (terms .need) (terms .out) st s s′
+
+module _ (n : ℕ) (par rank : ℕ → ℕ) (tree : Tree n par rank) (terms : Kind → Terms)
+    (roomy : (k : Kind) → Roomy n par (terms k .need) (terms k .out)) (st : ℕ → ℕ) (shape : Shape n par rank st) where
   -- the tasks above a task that has not ended, after one step
   idle-above :
       (x : ℕ) → Task n x → ((a : ℕ) → up n par a x ≡ true → st a ≤ activated) → (a : ℕ) → up n par a (par x) ≡ true → st a ≤ activated
   idle-above x t idle a m =
       idle a (up-step n par rank tree a x t ∙ or-right (eqb a x) (up n par a (par x)) m)
 
+  -- where a climb stops, each store has nothing left or the task waits
+  stops : (x : ℕ) (s : Each Share) → (eqb (st x) waiting || spent s) ≡ true → (d : Kind) → (st x ≡ waiting) ⊎ (of s d .left ≡ 0)
+  unfolding spent
+  stops x s stop d =
+      ⊎-elim (λ (w : eqb (st x) waiting ≡ true). inl (eqb-true (st x) waiting w))
+      (λ (z : spent s ≡ true). inr (eqb-true (of s d .left) 0 (all-each (λ k. eqb (of s k .left) 0) z d)))
+      (or-cases (eqb (st x) waiting) (spent s) stop)
+
   pub climbs :
-      (path : List ℕ) (k : ℕ) (s : Share)
+      (path : List ℕ) (k : ℕ) (s : Each Share)
       → path ≡ chain n par k
       → k ≤ n
       → ((a : ℕ) → up n par a k ≡ true → st a ≤ activated)
-      → Owing n par need out st (chain n par k) s
-      → SharedOut n par need out st s (climb n par need st path s .share)
-  unfolding climb offer
-  climbs [] k s e h idle owing = past-root n par rank tree st shape need out s k (sym e) owing
-  climbs (x ∷ above) k s e h idle owing =
+      → ((d : Kind) → OwingBy n par (terms d) st (chain n par k) (of s d))
+      → (d : Kind)
+      → SharedOutBy n par (terms d) st (of s d) (of (climb n par terms st path s .share) d)
+  unfolding climb offer passEach
+  climbs [] k s e h idle owing d = past-root n par rank tree st shape (terms d .need) (terms d .out) (of s d) k (sym e) (owing d)
+  climbs (x ∷ above) k s e h idle owing d =
       let task-k : Task n k =
       ⊎-elim
       (λ z.
@@ -145,33 +160,40 @@ module _ (n : ℕ) (par rank : ℕ → ℕ) (tree : Tree n par rank) (need out :
       let x-is : k ≡ x = cc in
       let t : Task n x = subst (λ (v : ℕ). Task n v) x-is task-k in
       let above-is : above ≡ chain n par (par x) = (let w : above ≡ chain n par (par k) = cc in w ∙ ap (λ (v : ℕ). chain n par (par v)) x-is) in
-      let owing-x : Owing n par need out st (chain n par x) s =
-      subst (λ (v : ℕ). Owing n par need out st (chain n par v) s) x-is owing
+      let owing-x : (c : Kind) → OwingBy n par (terms c) st (chain n par x) (of s c) =
+      λ c. subst (λ (v : ℕ). OwingBy n par (terms c) st (chain n par v) (of s c)) x-is (owing c)
       in
       let idle-x : (a : ℕ) → up n par a x ≡ true → st a ≤ activated =
       subst (λ (v : ℕ). (a : ℕ) → up n par a v ≡ true → st a ≤ activated) x-is idle
       in
       ⊎-elim
       (λ (stop : (eqb (st x) waiting || spent s) ≡ true).
-      rw (climb-stop n par need st x above s stop) (at-stop n par rank tree st shape need out s x t stop owing-x))
+      rw (climb-stop n par terms st x above s stop)
+      (at-stop n par rank tree st shape (terms d .need) (terms d .out) (of s d) x t (stops x s stop d) (owing-x d)))
       (λ (go : (eqb (st x) waiting || spent s) ≡ false).
       let busy = eqb-false (st x) waiting (or-false (eqb (st x) waiting) (spent s) go .0) in
       let low = idle-x x (up-self n par rank tree x t) in
       let a : Active st x = omega arith in
+      let f : Kind → Share = λ c. pass n par (terms c .need) x (of s c) in
       let later =
-      climbs above (par x) (pass n par need x s) above-is (tree .within x t) (idle-above x t idle-x)
-      (passed n par rank tree st shape need out s roomy x t a owing-x)
+      climbs above (par x) (each f) above-is (tree .within x t) (idle-above x t idle-x)
+      (λ c.
+      rw (of-each f c) (passed n par rank tree st shape (terms c .need) (terms c .out) (of s c) (roomy c) x t a (owing-x c))) d
       in
-      rw (climb-offer n par need st x above s go)
+      let all =
+      passed-all n par rank tree st shape (terms d .need) (terms d .out) (of s d) (roomy d) x t a (owing-x d)
+      in
+      rw (climb-offer n par terms st x above s go)
       (record {
         sized = later .sized;
         books = later .books;
-        all = later .all ∙ passed-all n par rank tree st shape need out s roomy x t a owing-x;
+        all = later .all ∙ ap (held n) (of-each f d) ∙ all;
       }))
       (decide (eqb (st x) waiting || spent s))
 
-module _ (n : ℕ) (par rank : ℕ → ℕ) (tree : Tree n par rank) (need out : ℕ → ℕ) (roomy : Roomy n par need out)
-    (bound : ℕ) (k : Books) (good : Good n par rank need out bound k) (j : ℕ) (task : Task n j)
+module _ (n : ℕ) (par rank : ℕ → ℕ) (tree : Tree n par rank) (terms : Kind → Terms)
+    (roomy : (k : Kind) → Roomy n par (terms k .need) (terms k .out))
+    (k : Books) (good : Good n par rank terms k) (j : ℕ) (task : Task n j)
     (runs : at (k .standings) j ≡ running) (higher : par j ≡ 0 → ⊥) where
   moved : Moved n (at (k .standings)) (at (set (k .standings) j finished)) j finished
   moved = moved-by-set n (k .standings) j finished (good .sized) task
@@ -191,30 +213,41 @@ module _ (n : ℕ) (par rank : ℕ → ℕ) (tree : Tree n par rank) (need out :
       let same = at-other (k .standings) j finished a a-not in
       omega arith
 
+  abbrev givenUp : Kind → Share
+  givenUp d = release par (terms d .out) (bookedIn k d) j
+
+  -- what each store gives up
+  gives : (d : Kind) → OwingBy n par (terms d) (at (set (k .standings) j finished)) (chain n par (par j)) (givenUp d)
+      × (held n (givenUp d) ≡ total n (at (bookedIn k d)))
+  gives d =
+      released n par rank tree (at (k .standings)) _ (good .shape) j task runs moved higher (terms d .need) (terms d .out) (roomy d)
+      (bookedIn k d) (good .stock d .sized) (good .stock d .books)
+
   -- the books once j has ended
   pub sharing-good :
-      Good n par rank need out bound
+      Good n par rank terms
       (record {
         standings = set (k .standings) j finished;
-        booked = dispatch n par need (at (set (k .standings) j finished)) out (k .booked) j .share .booked;
+        booked = each (λ d. of (dispatch n par terms (at (set (k .standings) j finished)) (k .booked) j .share) d .booked);
       })
   unfolding dispatch
   sharing-good =
-      let release =
-      released n par rank tree (at (k .standings)) _ (good .shape) j task runs moved higher need out roomy (k .booked)
-      (good .stock .sized) (good .stock .books)
-      in
       let shared =
-      climbs n par rank tree need out roomy (at (set (k .standings) j finished)) shape-after (chain n par (par j)) (par j) _ refl
-      (tree .within j task) idle (release .0)
+      climbs n par rank tree terms roomy (at (set (k .standings) j finished)) shape-after (chain n par (par j)) (par j) (each givenUp) refl
+      (tree .within j task) idle (λ d. rw (of-each givenUp d) (gives d .0))
       in
       record {
         sized = length-set (k .standings) j finished ∙ good .sized;
         shape = shape-after;
         stock =
-            record {
-              sized = shared .sized;
-              books = shared .books;
-              within = (let all = shared .all ∙ release .1 in let w = good .stock .within in omega arith);
-            };
+            λ d.
+            rw (of-each (λ e. of (climb n par terms (at (set (k .standings) j finished)) (chain n par (par j)) (each givenUp) .share) e .booked) d)
+            (record {
+              sized = shared d .sized;
+              books = shared d .books;
+              within =
+                  (let all = shared d .all ∙ ap (held n) (of-each givenUp d) ∙ gives d .1 in
+                  let w = good .stock d .within in
+                  omega arith);
+            });
       }

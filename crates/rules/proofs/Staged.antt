@@ -7,12 +7,13 @@ use Prim.Native.Nat.{ℕ, _≤_}
 use native.Mathlib.Omega.{arith}
 use lib.Dec.{leb}
 use borrow.Author.Tests.{eqb-true}
+use Rattle.rules.specs.Kind.{Each, each}
 use Rattle.rules.specs.Limits.{maxTasks, maxProcessors, maxBound}
 use Rattle.rules.specs.Phase
 use Rattle.rules.specs.State.{State, none}
 use Rattle.rules.specs.Command.{Command, plan, task, activation, execution, begin, done, fetch, places}
 use Rattle.rules.specs.Grounds.{inTurn, inLimits, within}
-use Rattle.rules.specs.Obey.{opened, withTask, withOrders, completed, withBooks, withBound, unloaded, proceed, obey}
+use Rattle.rules.specs.Obey.{opened, withTask, withOrders, completed, booksOf, withBooks, withBound, unloaded, proceed, obey}
 use Rattle.rules.specs.Reachable.{Reachable}
 use Rattle.rules.proofs.Tests.{and-true}
 use Rattle.rules.proofs.Orders.{within-task}
@@ -23,7 +24,7 @@ use Rattle.rules.proofs.Reaching.{by-commands}
 pub record Staged (s : State) : Type 0 where
   pub some : (s .phase ≡ Phase.empty → ⊥) → 1 ≤ s .size
   pub no-orders : s .phase ≤ Phase.steps → (s .activation ≡ []) × (s .execution ≡ [])
-  pub no-books : s .phase ≤ Phase.orders → (s .standings ≡ []) × (s .chilled .booked ≡ [])
+  pub no-books : s .phase ≤ Phase.orders → (s .standings ≡ []) × (booksOf s .booked ≡ each (λ _. []))
 
 none-staged : Staged none
 none-staged =
@@ -38,7 +39,7 @@ entry-staged s act exec now h =
 
 -- from BEGIN on only the task is left
 day-staged :
-    (s : State) (phase : ℕ) (st b : List ℕ)
+    (s : State) (phase : ℕ) (st : List ℕ) (b : Each (List ℕ))
     → Phase.orders ≤ s .phase
     → Phase.running ≤ phase
     → Staged s

@@ -9,10 +9,11 @@ use lib.Dec.{eqb}
 use lib.ListN.{length, set, length-set}
 use borrow.Author.Tests.{eqb-true, eq-eqb, ne-eqb, not-false}
 use Rattle.rules.specs.Sums.{countTo}
+use Rattle.rules.specs.Kind.{Kind, Each, of}
 use Rattle.rules.specs.Lists.{at, mem, every, first}
 use Rattle.rules.specs.Grounds.{within}
 use Rattle.rules.specs.Standing.{activated, running, finished, count}
-use Rattle.rules.specs.Booking.{fed, ready, starts, start}
+use Rattle.rules.specs.Booking.{Terms, fed, ready, starts, start}
 use Rattle.rules.specs.Invariant.{Shape, Stocked, Good}
 use Rattle.rules.proofs.Tests.{decide, clash, same-or-not, and-true, and-false}
 use Rattle.rules.proofs.Sums.{Task, none-counted, count-none}
@@ -210,20 +211,22 @@ module _ (n : ℕ) (par : ℕ → ℕ) where
 
   -- and what holds of the day is kept
   pub start-good :
-      (rank need out : ℕ → ℕ) (bound : ℕ) (l st b : List ℕ)
+      (rank : ℕ → ℕ) (terms : Kind → Terms) (l st : List ℕ) (b : Each (List ℕ))
       → Startable n par st l
-      → Good n par rank need out bound (record { standings = st; booked = b })
-      → Good n par rank need out bound (record { standings = start l st; booked = b })
+      → Good n par rank terms (record { standings = st; booked = b })
+      → Good n par rank terms (record { standings = start l st; booked = b })
   unfolding start Startable
-  start-good rank need out bound [] st b s good = good
-  start-good rank need out bound (x ∷ l) st b s good =
+  start-good rank terms [] st b s good = good
+  start-good rank terms (x ∷ l) st b s good =
       let moved = moved-by-set n st x running (good .sized) (s .0) in
-      start-good rank need out bound l (set st x running) b (s .3)
+      start-good rank terms l (set st x running) b (s .3)
       (record {
         sized = length-set st x running ∙ good .sized;
         shape = starting-shape n par rank (at st) (at (set st x running)) (good .shape) x (s .1) (s .2) moved;
         stock =
-            start-stocked rank (at st) (at (set st x running)) (good .shape) x (s .1) (s .2) moved need out bound b (good .stock);
+            λ d.
+            start-stocked rank (at st) (at (set st x running)) (good .shape) x (s .1) (s .2) moved (terms d .need) (terms d .out)
+            (terms d .bound) (of b d) (good .stock d);
       })
 
 -- who is started was booked, and all others stay as they were

@@ -7,12 +7,13 @@ use native.Mathlib.Nat.{zero-add}
 use native.Mathlib.Omega.{arith}
 use lib.Dec.{eqb}
 use borrow.Author.Tests.{eqb-true, eq-eqb, ne-eqb, le-leb}
+use Rattle.rules.specs.Kind.{Kind}
 use Rattle.rules.specs.Sums.{only, sumTo}
 use Rattle.rules.specs.Lists.{at, mem}
 use Rattle.rules.specs.Need
 use Rattle.rules.specs.Phase
 use Rattle.rules.specs.Standing.{running, finished}
-use Rattle.rules.specs.State.{Store, State, needsIn}
+use Rattle.rules.specs.State.{Store, State, needsIn, storeOf}
 use Rattle.rules.specs.Command.{fetch}
 use Rattle.rules.specs.Grounds.{within}
 use Rattle.rules.specs.Booking.{total, ready}
@@ -20,6 +21,7 @@ use Rattle.rules.specs.Question
 use Rattle.rules.specs.Day.{Event, starts, ends}
 use Rattle.rules.specs.Theorem.{runs, usedBy, StoreHolds}
 use Rattle.rules.specs.Invariant.{rankIn, Stocked}
+use Rattle.rules.proofs.EachStore.{of-each}
 use Rattle.rules.proofs.Sums.{Task, sum-cong, only-true}
 use Rattle.rules.proofs.Peaks.{resident-cong}
 use Rattle.rules.proofs.Tree.{parent-task}
@@ -89,7 +91,7 @@ module _ (s : State) (happened : List Event) (day : InDay s happened) where
     by-names : inProcessWith (runsOrEnded (at (s .standings))) ≡ inProcessWith (hasBegun (at (s .standings)))
     by-names =
         in-process-named (s .size) (at (s .parents)) (at (store .works)) (at (store .outs)) (at (s .standings))
-        (four-standings s (day .course)) (λ i _. day .planned .formed .parents i)
+        (four-standings s (day .course)) (λ i _. day .planned .formed .given .parents .limited i)
 
     -- while the root has not ended
     module _ (going : Going s)
@@ -144,7 +146,7 @@ module _ (s : State) (happened : List Event) (day : InDay s happened) where
       nothing-in-process =
           none-in-process (s .size) (at (s .parents)) (at (store .outs)) (hasEnded (at (s .standings))) ended-then
           (at (store .works)) (hasBegun (at (s .standings)))
-          (λ i t. let e = all i t in le-leb running (at (s .standings) i) (omega arith)) (λ i _. day .planned .formed .parents i)
+          (λ i t. let e = all i t in le-leb running (at (s .standings) i) (omega arith)) (λ i _. day .planned .formed .given .parents .limited i)
 
       trolley-then : (gone : Bool) → trolleyOf gone ≡ sumTo (remains (at (s .parents)) (at (store .outs)) gone) (s .size)
       trolley-then gone =
@@ -219,16 +221,26 @@ module _ (s : State) (happened : List Event) (day : InDay s happened) where
               unloaded = λ _. (none-answered _, none-answered _);
             }
 
-  pub store-holds : Course s → StoreHolds s happened (s .chilled) (answeredBooked (s .chilled)) (answeredInUse (s .chilled))
-  store-holds (goes g) = going-holds (s .chilled) g (g .settled .good .stock)
-  store-holds (closed false c) = loaded-holds (s .chilled) (c .all) (c .phased) (c .stock)
-  store-holds (closed true c) = freed-holds (s .chilled) (c .all) (c .phased) (c .stock)
+  -- what is kept of a store
+  stocked-in :
+      Going s
+      → (k : Kind)
+      → Stocked (s .size) (at (s .parents)) (needsIn s (storeOf s k)) (at (storeOf s k .outs)) (storeOf s k .bound) (at (s .standings))
+      (storeOf s k .booked)
+  stocked-in g k = rw (of-each (λ d. storeOf s d .booked) k) at (g .settled .good .stock k)
+
+  pub store-holds :
+      Course s → (k : Kind) → StoreHolds s happened (storeOf s k) (answeredBooked (storeOf s k)) (answeredInUse (storeOf s k))
+  store-holds (goes g) k = going-holds (storeOf s k) g (stocked-in g k)
+  store-holds (closed false c) k = loaded-holds (storeOf s k) (c .all) (c .phased) (c .stock k)
+  store-holds (closed true c) k = freed-holds (storeOf s k) (c .all) (c .phased) (c .stock k)
 
   -- what is answered for trays in use while the root has not ended
   pub in-use-going :
       Going s
-      → Question.inUse s
-      ≡ Need.inProcess (s .size) (at (s .parents)) (at (s .chilled .works)) (at (s .chilled .outs)) (hasEnded (at (s .standings)))
+      → (k : Kind)
+      → Question.inUseIn s k
+      ≡ Need.inProcess (s .size) (at (s .parents)) (at (storeOf s k .works)) (at (storeOf s k .outs)) (hasEnded (at (s .standings)))
       (hasBegun (at (s .standings)))
-  unfolding Question.inUse Need.inUse
-  in-use-going g = used-then (s .chilled) g (g .settled .good .stock)
+  unfolding Question.inUseIn Need.inUse
+  in-use-going g k = used-then (storeOf s k) g (stocked-in g k)

@@ -10,19 +10,21 @@ use lib.Dec.{eqb, leb}
 use lib.ListN.{length, drop}
 use lib.Seq.{drop-cons}
 use borrow.Author.Tests.{eqb-true, eqb-false, eq-eqb, ne-eqb, le-leb, lt-leb, leb-false, not-true}
+use Rattle.rules.specs.Kind.{Kind, of}
 use Rattle.rules.specs.Sums.{countTo}
 use Rattle.rules.specs.Lists.{at, first}
 use Rattle.rules.specs.Phase
 use Rattle.rules.specs.Standing
 use Rattle.rules.specs.Standing.{waiting, activated, finished, count}
-use Rattle.rules.specs.State.{State, needs}
-use Rattle.rules.specs.Booking.{Books, isUnendedChild, fed, misses, allows, book, activate, ready}
+use Rattle.rules.specs.State.{State, needsIn, storeOf}
+use Rattle.rules.specs.Booking.{Terms, allowsIn, total, missing, Books, isUnendedChild, fed, misses, allows, book, activate, ready}
 use Rattle.rules.specs.Grounds.{within}
-use Rattle.rules.specs.Obey.{booksOf, withBound, ahead}
+use Rattle.rules.specs.Obey.{termsOf, booksOf, withPlaces, withBounds, ahead}
 use Rattle.rules.specs.Question.{isRunning}
 use Rattle.rules.specs.Invariant.{Valid, rankIn, FirstWaiting}
-use Rattle.rules.specs.Why.{refused, ended, running, notBooked, unfed, noProcessor, has, firstWaiting, lackIn, unendedChild, why}
+use Rattle.rules.specs.Why.{refused, ended, running, notBooked, unfed, noProcessor, has, firstWaiting, lackIn, lacks, unendedChild, why}
 use Rattle.rules.specs.Reasons.{LackIsExact, Unfed}
+use Rattle.rules.proofs.EachStore.{of-each, each-all, some-fails, one-fails}
 use Rattle.rules.proofs.Tests.{decide, clash, fails, le-or-lt, and-true, and-both}
 use Rattle.rules.proofs.Sums.{Task, none-counted}
 use Rattle.rules.proofs.Lowest.{lowest-found}
@@ -62,7 +64,7 @@ module _ (s : State) (i : ℕ) where
           )
 
       pub why-waiting :
-          at (s .standings) i ≡ waiting → why s i ≡ notBooked (firstWaiting s) (lackIn s (s .chilled) (firstWaiting s))
+          at (s .standings) i ≡ waiting → why s i ≡ notBooked (firstWaiting s) (lacks s (firstWaiting s))
       unfolding why isRunning
       why-waiting e =
           rw (
@@ -126,37 +128,37 @@ module _ (n : ℕ) (par : ℕ → ℕ) (order : List ℕ) (valid : Valid n par o
 
 -- booking ahead leaves the standing of whoever does not wait
 activate-keeps :
-    (n : ℕ) (par need : ℕ → ℕ) (bound : ℕ) (l : List ℕ) (k : Books) (i : ℕ)
+    (n : ℕ) (par : ℕ → ℕ) (terms : Kind → Terms) (l : List ℕ) (k : Books) (i : ℕ)
     → (at (k .standings) i ≡ waiting → ⊥)
-    → at (activate n par need bound l k .standings) i ≡ at (k .standings) i
+    → at (activate n par terms l k .standings) i ≡ at (k .standings) i
 unfolding activate book
-activate-keeps n par need bound [] k i busy = refl
-activate-keeps n par need bound (x ∷ l) k i busy =
+activate-keeps n par terms [] k i busy = refl
+activate-keeps n par terms (x ∷ l) k i busy =
     ⊎-elim
     (λ (w : eqb (at (k .standings) x) waiting ≡ true).
     ⊎-elim
-    (λ (a : allows n par need bound k x ≡ true).
+    (λ (a : allows n par terms k x ≡ true).
     let other : i ≡ x → ⊥ = λ q. busy (ap (at (k .standings)) q ∙ eqb-true (at (k .standings) x) waiting w) in
     let same = at-other (k .standings) x activated i other in
-    ap (λ (b : Books). at (b .standings) i) (activate-book n par need bound x l k w a)
-    ∙ activate-keeps n par need bound l (book n par need k x) i (λ v. busy (sym same ∙ v))
+    ap (λ (b : Books). at (b .standings) i) (activate-book n par terms x l k w a)
+    ∙ activate-keeps n par terms l (book n par terms k x) i (λ v. busy (sym same ∙ v))
     ∙ same)
-    (λ (a : allows n par need bound k x ≡ false).
-    ap (λ (b : Books). at (b .standings) i) (activate-stop n par need bound x l k w a))
-    (decide (allows n par need bound k x)))
+    (λ (a : allows n par terms k x ≡ false).
+    ap (λ (b : Books). at (b .standings) i) (activate-stop n par terms x l k w a))
+    (decide (allows n par terms k x)))
     (λ (w : eqb (at (k .standings) x) waiting ≡ false).
-    ap (λ (b : Books). at (b .standings) i) (activate-pass n par need bound x l k w)
-    ∙ activate-keeps n par need bound l k i busy)
+    ap (λ (b : Books). at (b .standings) i) (activate-pass n par terms x l k w)
+    ∙ activate-keeps n par terms l k i busy)
     (decide (eqb (at (k .standings) x) waiting))
 
 -- booking ahead within some bound comes to the first waiting task, and books it just where it is allowed
-module _ (n : ℕ) (par need : ℕ → ℕ) (bound : ℕ) (order : List ℕ) (valid : Valid n par order) (k : Books) (x : ℕ)
+module _ (n : ℕ) (par : ℕ → ℕ) (terms : Kind → Terms) (order : List ℕ) (valid : Valid n par order) (k : Books) (x : ℕ)
     (fw : FirstWaiting n (rankIn order) (at (k .standings)) x) where
   comes :
-      activate n par need bound order k ≡ activate n par need bound (x ∷ drop (suc (rankIn order x)) order) k
+      activate n par terms order k ≡ activate n par terms (x ∷ drop (suc (rankIn order x)) order) k
   comes =
-      passes-all n par need bound order (rankIn order x) k (before n par order valid (at (k .standings)) x fw)
-      ∙ ap (λ (l : List ℕ). activate n par need bound l k)
+      passes-all n par terms order (rankIn order x) k (before n par order valid (at (k .standings)) x fw)
+      ∙ ap (λ (l : List ℕ). activate n par terms l k)
       (drop-cons order (rankIn order x) 0 (inside n par order valid (at (k .standings)) x fw)
       ∙ ap (λ (y : ℕ). y ∷ drop (suc (rankIn order x)) order) (there n par order valid (at (k .standings)) x fw))
 
@@ -165,49 +167,76 @@ module _ (n : ℕ) (par need : ℕ → ℕ) (bound : ℕ) (order : List ℕ) (va
 
   allowed-booked :
       length (k .standings) ≡ suc n
-      → allows n par need bound k x ≡ true
-      → at (activate n par need bound order k .standings) x ≡ activated
+      → allows n par terms k x ≡ true
+      → at (activate n par terms order k .standings) x ≡ activated
   unfolding book
   allowed-booked sized a =
       let own = at-set n (k .standings) x activated sized (fw .task) in
       ap (λ (b : Books). at (b .standings) x)
-      (comes ∙ activate-book n par need bound x (drop (suc (rankIn order x)) order) k waits-true a)
-      ∙ activate-keeps n par need bound (drop (suc (rankIn order x)) order) (book n par need k x) x (λ w. omega arith)
+      (comes ∙ activate-book n par terms x (drop (suc (rankIn order x)) order) k waits-true a)
+      ∙ activate-keeps n par terms (drop (suc (rankIn order x)) order) (book n par terms k x) x (λ w. omega arith)
       ∙ own
 
-  denied-waits : allows n par need bound k x ≡ false → at (activate n par need bound order k .standings) x ≡ waiting
+  denied-waits : allows n par terms k x ≡ false → at (activate n par terms order k .standings) x ≡ waiting
   denied-waits a =
       ap (λ (b : Books). at (b .standings) x)
-      (comes ∙ activate-stop n par need bound x (drop (suc (rankIn order x)) order) k waits-true a)
+      (comes ∙ activate-stop n par terms x (drop (suc (rankIn order x)) order) k waits-true a)
       ∙ fw .waits
-
--- what is asked for is above a bound: with the difference more it is within, with fewer it is not
-within-then : (asked bound : ℕ) → bound < asked → leb asked (bound + (asked - bound)) ≡ true
-within-then asked bound h = le-leb asked (bound + (asked - bound)) (omega arith)
-
-above-still : (asked bound fewer : ℕ) → fewer < asked - bound → leb asked (bound + fewer) ≡ false
-above-still asked bound fewer h = lt-leb asked (bound + fewer) (omega arith)
 
 -- a plan whose day goes on
 module _ (s : State) (planned : Planned s) (going : Going s) where
+  -- what the books and a task x would make together in a store
+  abbrev asked : ℕ → Kind → ℕ
+  asked x k =
+      total (s .size) (at (storeOf s k .booked))
+      + missing (s .size) (at (s .parents)) (needsIn s (storeOf s k)) (at (s .standings)) (at (storeOf s k .booked)) x
+
+  -- with more places it is allowed where that is within them
+  allowed-with :
+      (more : Kind → ℕ) (x : ℕ) (k : Kind)
+      → allowsIn (s .size) (at (s .parents)) (termsOf (withBounds s (λ d. storeOf s d .bound + more d))) (booksOf s) x k
+      ≡ leb (asked x k) (storeOf s k .bound + more k)
+  unfolding allowsIn misses withBounds
+  allowed-with more x k =
+      rw (
+        of-each (λ d. storeOf s d .booked) k,
+        of-each (λ d. withPlaces (storeOf s d) (storeOf s d .bound + more d)) k,
+      ) refl
+
   -- the first waiting task lacks so many places just
   pub lack-exact :
       (x : ℕ)
       → FirstWaiting (s .size) (rankIn (s .activation)) (at (s .standings)) x
-      → LackIsExact s x (lackIn s (s .chilled) x)
-  unfolding lackIn ahead withBound allows misses
+      → LackIsExact s x (of (lacks s x))
+  unfolding lacks lackIn ahead withBounds allows allowsIn misses
   lack-exact x fw =
-      let short = leb-false _ (s .chilled .bound) (going .settled .halted x fw) in
       record {
-        some = omega arith;
+        some =
+            (let short = some-fails (allowsIn (s .size) (at (s .parents)) (termsOf s) (booksOf s) x) (going .settled .halted x fw) in
+            lacking (short .0) (short .1));
         booked =
-            allowed-booked (s .size) (at (s .parents)) (needs s) _ (s .activation) (planned .valid) (booksOf s) x fw
-            (going .settled .good .sized) (within-then _ (s .chilled .bound) short);
+            allowed-booked (s .size) (at (s .parents)) _ (s .activation) (planned .valid) (booksOf s) x fw
+            (going .settled .good .sized)
+            (each-all _
+            (λ k.
+            allowed-with (of (lacks s x)) x k
+            ∙ le-leb (asked x k) _ (let e = of-each (λ d. lackIn s (storeOf s d) x) k in omega arith)));
         waits =
-            λ fewer h.
-            denied-waits (s .size) (at (s .parents)) (needs s) _ (s .activation) (planned .valid) (booksOf s) x fw
-            (above-still _ (s .chilled .bound) fewer h);
+            λ more k h.
+            denied-waits (s .size) (at (s .parents)) _ (s .activation) (planned .valid) (booksOf s) x fw
+            (one-fails _ k
+            (allowed-with more x k
+            ∙ lt-leb (asked x k) _ (let e = of-each (λ d. lackIn s (storeOf s d) x) k in omega arith)));
       }
+    where
+      lacking :
+          (k : Kind)
+          → allowsIn (s .size) (at (s .parents)) (termsOf s) (booksOf s) x k ≡ false
+          → (d : Kind) × (1 ≤ of (lacks s x) d)
+      lacking k f =
+          let g : leb (asked x k) (storeOf s k .bound) ≡ false = rw (of-each (λ d. storeOf s d .booked) k) at f in
+          let short = leb-false (asked x k) (storeOf s k .bound) g in
+          (k, (let e = of-each (λ d. lackIn s (storeOf s d) x) k in omega arith))
 
   -- where somebody waits, the first that is found is the first
   pub first-found :

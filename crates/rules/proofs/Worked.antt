@@ -5,6 +5,7 @@ use mathlib.Core.List.{List, [], _∷_, _++_, map}
 use Prim.Native.Nat.{ℕ, _<_}
 use native.Mathlib.Omega.{arith}
 use lib.ListN.{length, take, replicate}
+use Rattle.rules.specs.Kind.{each}
 use Rattle.rules.specs.Sums.{countTo}
 use Rattle.rules.specs.Phase
 use Rattle.rules.specs.State.{none}
@@ -97,7 +98,7 @@ worked-second = refl
 -- why no other task starts: in plan A, once task 1 runs, task 2 is next and lacks 5 of the 6 places that it misses
 pub worked-lack :
     map (why (after none (asks (planA 7 ++ begin ∷ [])))) (0 ∷ 1 ∷ 2 ∷ 3 ∷ 4 ∷ [])
-    ≡ Why.refused 4 ∷ Why.running ∷ Why.notBooked 2 5 ∷ Why.notBooked 2 5 ∷ Why.refused 4 ∷ []
+    ≡ Why.refused 4 ∷ Why.running ∷ Why.notBooked 2 (each (λ _. 5)) ∷ Why.notBooked 2 (each (λ _. 5)) ∷ Why.refused 4 ∷ []
 unfolding computing asks tasksA planA inOrder ask
 worked-lack = refl
 
@@ -211,7 +212,7 @@ worked-empty = refl
 
 -- wrong: "booked trays are fewer than the places"
 abbrev pub Below : Type 0
-Below = EveryDay (λ _ s _. Question.booked s < s .chilled .bound)
+Below = EveryDay (λ _ s _. Question.booked s < s .stores .chilled .bound)
 
 -- wrong: "fewer tasks run than there are processors"
 abbrev pub Spare : Type 0
@@ -235,7 +236,7 @@ AsFound = EveryDay (λ found s _. s .execution ≡ found .execution)
 
 -- wrong: "the places stay as BEGIN found them"
 abbrev pub Fixed : Type 0
-Fixed = EveryDay (λ found s _. s .chilled .bound ≡ found .chilled .bound)
+Fixed = EveryDay (λ found s _. s .stores .chilled .bound ≡ found .stores .chilled .bound)
 
 -- after the morning all seven places are booked
 pub not-below : Below → ⊥

@@ -46,7 +46,7 @@ pub found-uneven : found (after none (asks uneven)) ≡ 2 ∷ 1 ∷ 3 ∷ []
 unfolding computing asks uneven ask
 found-uneven = refl
 
-pub by-found : last (uneven ++ map activation (found (after none (asks uneven)))) begin .answer .peak ≡ record { trays = 10; task = 2 }
+pub by-found : last (uneven ++ map activation (found (after none (asks uneven)))) begin .answer .peaks .chilled ≡ record { trays = 10; task = 2 }
 unfolding computing last asks uneven ask
 by-found = refl
 
@@ -79,7 +79,7 @@ pub twins-found : last (twins ++ map activation (found (after none (asks twins))
 unfolding computing last asks twins ask
 twins-found = refl
 
-pub twins-by-number : last (twins ++ map activation (1 ∷ 2 ∷ 3 ∷ 4 ∷ 5 ∷ [])) begin .answer .peak .trays ≡ 12
+pub twins-by-number : last (twins ++ map activation (1 ∷ 2 ∷ 3 ∷ 4 ∷ 5 ∷ [])) begin .answer .peaks .chilled .trays ≡ 12
 unfolding computing last asks twins ask
 twins-by-number = refl
 

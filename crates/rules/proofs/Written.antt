@@ -8,6 +8,7 @@ use native.Mathlib.Omega.{arith}
 use borrow.Author.Tests.{lt-ltb, le-ltb}
 use lib.ListN.{length, take, drop, length-append, length-drop}
 use lib.Seq.{take-append-seam, drop-append-seam}
+use Rattle.rules.specs.Kind.{each}
 use Rattle.rules.specs.Phase
 use Rattle.rules.specs.State.{State, none}
 use Rattle.rules.specs.Command.{Command, activation, execution, forms, find, byteOf, operandsOf, widthsOf, room, bytes}
@@ -100,7 +101,8 @@ same-plan : (s : State) → Reachable s → s .phase ≡ Phase.orders → unbegu
 unfolding unbegun withBooks
 same-plan s reached now =
     let books = staged reached .no-books (omega arith) in
-    ap (λ (phase : ℕ). withBooks s phase [] []) (sym now) ∙ ap₂ (withBooks s (s .phase)) (sym (books .0)) (sym (books .1))
+    ap (λ (phase : ℕ). withBooks s phase [] (each (λ _. []))) (sym now)
+    ∙ ap₂ (withBooks s (s .phase)) (sym (books .0)) (sym (books .1))
 
 plan-holds : (s : State) → Reachable s → isWhole s ≡ true → WrittenHolds s
 plan-holds s reached whole =

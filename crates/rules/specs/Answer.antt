@@ -5,10 +5,11 @@ use Prim.Native.Nat.{ℕ}
 use lib.Dec.{eqb, ltb}
 use lib.ListN.{length, drop}
 use Rattle.rules.specs.Limits.{leastStarts}
-use Rattle.rules.specs.Peak.{Peaked, noPeak}
+use Rattle.rules.specs.Kind.{Each}
+use Rattle.rules.specs.Peak.{Peaked}
 use Rattle.rules.specs.State.{State}
 use Rattle.rules.specs.Command.{Command, Decoded, refused, read, decode}
-use Rattle.rules.specs.Grounds.{ground}
+use Rattle.rules.specs.Grounds.{noPeaks, ground}
 use Rattle.rules.specs.Obey.{Outcome, obey}
 
 -- "An accepted command answers number 0, the bytes used and how many steps it starts. The peak is answered by BEGIN only, offers
@@ -17,7 +18,8 @@ pub record Answer : Type 0 where
   pub number : ℕ
   pub used : ℕ
   pub starts : ℕ
-  pub peak : Peaked
+  -- chilled first
+  pub peaks : Each Peaked
   pub offers : ℕ
 
 -- an answer, with the plan and the start list afterwards
@@ -30,7 +32,7 @@ pub record Answered : Type 0 where
 -- remain what they were."
 unfoldable pub refuse : ℕ → State → List ℕ → Answered
 refuse k s list =
-    record { answer = record { number = k; used = 0; starts = 0; peak = noPeak; offers = 0 }; state = s; list = list }
+    record { answer = record { number = k; used = 0; starts = 0; peaks = noPeaks; offers = 0 }; state = s; list = list }
 
 -- "writes the steps it starts, in order, to the front of that list and touches no later entry"
 unfoldable pub front : List ℕ → List ℕ → List ℕ
@@ -40,7 +42,7 @@ unfoldable pub accept : Outcome → ℕ → List ℕ → Answered
 accept o used list =
     record {
       answer =
-          record { number = 0; used = used; starts = length (o .started); peak = o .peak; offers = o .offers };
+          record { number = 0; used = used; starts = length (o .started); peaks = o .peaks; offers = o .offers };
       state = o .state;
       list = front (o .started) list;
     }

@@ -5,6 +5,7 @@ use mathlib.Core.List.{List, [], _∷_}
 use Prim.Native.Nat.{ℕ, zero, suc, _+_, _-_}
 use lib.Dec.{eqb, leb}
 use lib.ListN.{set}
+use Rattle.rules.specs.Kind.{Kind, Each, of, each, all}
 use Rattle.rules.specs.Sums.{only, sumTo, countTo}
 use Rattle.rules.specs.Lists.{at, mem, first}
 use Rattle.rules.specs.Need.{isChild}
@@ -40,36 +41,50 @@ missing n par need st b i = need i - (b i + childrenFigure n par st b i)
 unfoldable pub fed : (n : ℕ) (par st : ℕ → ℕ) → ℕ → Bool
 fed n par st i = eqb (countTo (isUnendedChild par st i) n) 0
 
--- what booking changes: standings and booked trays
+-- a store as booking finds it: its places, and the needs and the outs of the tasks there
+pub record Terms : Type 0 where
+  pub bound : ℕ
+  pub need : ℕ → ℕ
+  pub out : ℕ → ℕ
+
+-- what booking changes: standings, and the booked trays of each store
 pub record Books : Type 0 where
   pub standings : List ℕ
-  pub booked : List ℕ
+  pub booked : Each (List ℕ)
 
-module _ (n : ℕ) (par need : ℕ → ℕ) where
-  -- the missing trays of task i
-  unfoldable pub misses : Books → ℕ → ℕ
-  misses s i = missing n par need (at (s .standings)) (at (s .booked)) i
+-- the booked trays of a store
+abbrev pub bookedIn : Books → Kind → List ℕ
+bookedIn s k = of (s .booked) k
+
+module _ (n : ℕ) (par : ℕ → ℕ) (terms : Kind → Terms) where
+  -- the missing trays of task i in a store
+  unfoldable pub misses : Books → Kind → ℕ → ℕ
+  misses s k i = missing n par (terms k .need) (at (s .standings)) (at (bookedIn s k)) i
 
   -- "If B + missing is at most M"
-  unfoldable pub allows : (bound : ℕ) → Books → ℕ → Bool
-  allows bound s i = leb (total n (at (s .booked)) + misses s i) bound
+  unfoldable pub allowsIn : Books → ℕ → Kind → Bool
+  allowsIn s i k = leb (total n (at (bookedIn s k)) + misses s k i) (terms k .bound)
+
+  -- and it is so in every store
+  unfoldable pub allows : Books → ℕ → Bool
+  allows s i = all (allowsIn s i)
 
   -- "it gets them and becomes booked"
   unfoldable pub book : Books → ℕ → Books
   book s i =
       record {
         standings = set (s .standings) i activated;
-        booked = set (s .booked) i (at (s .booked) i + misses s i);
+        booked = each (λ k. set (bookedIn s k) i (at (bookedIn s k) i + misses s k i));
       }
 
   -- "Booking ahead. Look at the first waiting step in the activation order. .. it gets them and becomes booked, and the next is
   -- looked at. Otherwise booking ahead stops. No later step is tried."
-  unfoldable pub activate : (bound : ℕ) → List ℕ → Books → Books
-  activate bound [] s = s
-  activate bound (i ∷ later) s =
+  unfoldable pub activate : List ℕ → Books → Books
+  activate [] s = s
+  activate (i ∷ later) s =
       elim (eqb (at (s .standings) i) waiting) [
-        | true ↦ elim (allows bound s i) [ true ↦ activate bound later (book s i) | false ↦ s ]
-        | false ↦ activate bound later s
+        | true ↦ elim (allows s i) [ true ↦ activate later (book s i) | false ↦ s ]
+        | false ↦ activate later s
       ]
 
 -- a booked task with all its children ended
@@ -99,9 +114,9 @@ pub record Share : Type 0 where
   pub left : ℕ
   pub booked : List ℕ
 
--- "R is 0"
-unfoldable pub spent : Share → Bool
-spent s = eqb (s .left) 0
+-- "R is 0", in every store
+unfoldable pub spent : Each Share → Bool
+spent s = all (λ k. eqb (of s k .left) 0)
 
 -- "max(0, need of i − its subtree figure)"
 unfoldable pub gift : (n : ℕ) (par need : ℕ → ℕ) → List ℕ → ℕ → ℕ
@@ -128,23 +143,27 @@ release par out b j =
 -- what a climb leaves: the tasks on the way, each one offer, and what is shared out
 pub record Climbed : Type 0 where
   pub offered : List ℕ
-  pub share : Share
+  pub share : Each Share
 
 -- one offer more, ahead of the others
 unfoldable pub offer : ℕ → Climbed → Climbed
 offer i c = record { offered = i ∷ c .offered; share = c .share }
 
-module _ (n : ℕ) (par need : ℕ → ℕ) (st : ℕ → ℕ) where
+module _ (n : ℕ) (par : ℕ → ℕ) (terms : Kind → Terms) (st : ℕ → ℕ) where
+  -- one offer in each store
+  unfoldable pub passEach : ℕ → Each Share → Each Share
+  passEach i s = each (λ k. pass n par (terms k .need) i (of s k))
+
   -- "climb from parent to parent .., ending at the first of: past the root, a step that is waiting, R is 0. .. Each step i on
   -- the way is one offer"
-  unfoldable pub climb : List ℕ → Share → Climbed
+  unfoldable pub climb : List ℕ → Each Share → Climbed
   climb [] s = record { offered = []; share = s }
   climb (i ∷ above) s =
       elim (eqb (st i) waiting || spent s) [
         | true ↦ record { offered = []; share = s }
-        | false ↦ offer i (climb above (pass n par need i s))
+        | false ↦ offer i (climb above (passEach i s))
       ]
 
   -- "Then climb from parent to parent, from j's parent on .. What is left of R is free."
-  unfoldable pub dispatch : (out : ℕ → ℕ) → List ℕ → ℕ → Climbed
-  dispatch out b j = climb (chain n par (par j)) (release par out b j)
+  unfoldable pub dispatch : Each (List ℕ) → ℕ → Climbed
+  dispatch b j = climb (chain n par (par j)) (each (λ k. release par (terms k .out) (of b k) j))

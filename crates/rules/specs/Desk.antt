@@ -8,6 +8,8 @@ use Rattle.rules.specs.Sums.{everyTo}
 use Rattle.rules.specs.Lists.{at, every, distinct}
 use Rattle.rules.specs.Limits.{maxTasks}
 use Rattle.rules.specs.Peak
+use Rattle.rules.specs.Tasks
+use Rattle.rules.specs.Tasks.{Tasks}
 use Rattle.rules.specs.Grounds.{within, demand}
 
 -- what the desk is answered: "Everyone who uses the peak gets both", the peak and its step
@@ -28,11 +30,11 @@ deskGround n par activation =
     (demand (eqb (Peak.roots n par) 1) 7 (demand (Peak.ordered par activation) 8 0)))
 
 -- "There is no M and no 9. A refusal answers its number and peak 0", and step 0
-unfoldable pub deskAnswer : (n : ℕ) (par work out : ℕ → ℕ) → List ℕ → DeskAnswer
-deskAnswer n par work out activation =
+unfoldable pub deskAnswer : Tasks → List ℕ → DeskAnswer
+deskAnswer t activation =
     record {
-      number = deskGround n par activation;
-      peak = cond (eqb (deskGround n par activation) 0) (Peak.peaked n par work out activation) Peak.noPeak;
+      number = deskGround (t .size) (t .parent) activation;
+      peak = cond (eqb (deskGround (t .size) (t .parent) activation) 0) (Tasks.peaked t activation) Peak.noPeak;
     }
 
 -- "A record is parent, work and out"
@@ -45,8 +47,16 @@ pub record StepRecord : Type 0 where
 unfoldable pub column : (StepRecord → ℕ) → List StepRecord → List ℕ
 column field records = 0 ∷ map field records
 
+-- the tasks of the records
+abbrev pub deskTasks : List StepRecord → Tasks
+deskTasks records =
+    record {
+      size = length records;
+      parent = at (column (λ r. r .parent) records);
+      work = at (column (λ r. r .work) records);
+      out = at (column (λ r. r .out) records);
+    }
+
 -- the number and the peak with its task that the desk is answered
 unfoldable pub desk : List StepRecord → List ℕ → DeskAnswer
-desk records activation =
-    deskAnswer (length records) (at (column (λ r. r .parent) records)) (at (column (λ r. r .work) records))
-    (at (column (λ r. r .out) records)) activation
+desk records = deskAnswer (deskTasks records)

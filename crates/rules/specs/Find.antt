@@ -21,7 +21,7 @@ allReach n par = everyTo (λ i. mem (root n par) (chain n par i)) n
 
 -- the order that is found for the subtree of a task, which has no more than n levels
 unfoldable pub foundBelow : State → ℕ → List ℕ
-foundBelow s = bestPostorder (s .size) (s .size) (at (s .parents)) (at (s .chilled .works)) (at (s .chilled .outs))
+foundBelow s = bestPostorder (s .size) (s .size) (at (s .parents)) (at (s .stores .chilled .works)) (at (s .stores .chilled .outs))
 
 -- the order that is found: all tasks are of the root's subtree
 unfoldable pub found : State → List ℕ

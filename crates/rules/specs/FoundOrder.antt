@@ -8,9 +8,10 @@ use Prim.Native.Nat.{ℕ, _≤_, _<_}
 use lib.ListN.{length, getD, take, drop}
 use Rattle.rules.specs.Sums.{Task}
 use Rattle.rules.specs.Lists.{at, mem, place}
-use Rattle.rules.specs.Peak.{peak, EachOnce, roots, ordered}
+use Rattle.rules.specs.Peak.{EachOnce, roots, ordered}
+use Rattle.rules.specs.Tasks
 use Rattle.rules.specs.Phase
-use Rattle.rules.specs.State.{State, rootOf}
+use Rattle.rules.specs.State.{State, rootOf, tasksIn}
 use Rattle.rules.specs.Command.{activation, begin}
 use Rattle.rules.specs.Booking.{chain}
 use Rattle.rules.specs.Grounds.{inTurn, ground}
@@ -43,19 +44,19 @@ pub record IsPostorder (s : State) (order : List ℕ) : Type 0 where
 
 -- the peak of an order
 abbrev pub peakBy : State → List ℕ → ℕ
-peakBy s order = peak (s .size) (at (s .parents)) (at (s .chilled .works)) (at (s .chilled .outs)) order
+peakBy s = Tasks.peak (tasksIn s (s .stores .chilled))
 
 -- "(subtree peak less out)" of a task
 abbrev pub peakLessOutOf : State → ℕ → ℕ
 peakLessOutOf s c =
-    peakLessOut (s .size) (at (s .parents)) (at (s .chilled .works)) (at (s .chilled .outs)) (foundBelow s c) c
+    peakLessOut (s .size) (at (s .parents)) (at (s .stores .chilled .works)) (at (s .stores .chilled .outs)) (foundBelow s c) c
 
 -- two plans of the same tasks: their places, processors, orders and days may differ
 pub record SameTasks (s t : State) : Type 0 where
   pub size : t .size ≡ s .size
   pub parents : t .parents ≡ s .parents
-  pub works : t .chilled .works ≡ s .chilled .works
-  pub outs : t .chilled .outs ≡ s .chilled .outs
+  pub works : t .stores .chilled .works ≡ s .stores .chilled .works
+  pub outs : t .stores .chilled .outs ≡ s .stores .chilled .outs
 
 -- a list is a part of another
 pub record Part (l m : List ℕ) : Type 0 where
@@ -66,7 +67,7 @@ pub record Part (l m : List ℕ) : Type 0 where
 -- the number for BEGIN is 0, or 9 and no order of that kind is within the bound
 abbrev pub BeginsUnlessNoneFits : State → ℕ → Type 0
 BeginsUnlessNoneFits s number =
-    (number ≡ 0) ⊎ ((number ≡ 9) × ((l : List ℕ) → IsPostorder s l → s .chilled .bound < peakBy s l))
+    (number ≡ 0) ⊎ ((number ≡ 9) × ((l : List ℕ) → IsPostorder s l → s .stores .chilled .bound < peakBy s l))
 
 -- of the order that is found
 pub record FoundHolds (s : State) (order : List ℕ) : Type 0 where

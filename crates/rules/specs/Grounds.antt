@@ -4,12 +4,14 @@ use mathlib.Core.Bool.{Bool, true, not, cond, _&&_, _||_}
 use Prim.Native.Nat.{ℕ}
 use lib.Dec.{eqb, leb, ltb}
 use lib.ListN.{length}
+use Rattle.rules.specs.Kind.{Kind, Each, each, all}
 use Rattle.rules.specs.Lists.{at, mem}
 use Rattle.rules.specs.Limits.{maxTasks, maxProcessors, maxCount, maxBound}
 use Rattle.rules.specs.Peak
+use Rattle.rules.specs.Tasks
 use Rattle.rules.specs.Phase
 use Rattle.rules.specs.Standing
-use Rattle.rules.specs.State.{State}
+use Rattle.rules.specs.State.{Store, State, tasksIn, storeOf}
 use Rattle.rules.specs.Command.{Command, plan, task, activation, execution, begin, done, fetch, places}
 use Rattle.rules.specs.Booking.{total}
 
@@ -50,15 +52,25 @@ inLimits s (done i) = within i (s .size)
 inLimits s fetch = true
 inLimits s (places bound) = leb bound maxBound
 
--- the peak of the plan's activation order
-unfoldable pub peakOf : State → ℕ
-peakOf s =
-    Peak.peak (s .size) (at (s .parents)) (at (s .chilled .works)) (at (s .chilled .outs)) (s .activation)
+-- the peak of the plan's activation order in a store
+unfoldable pub peakIn : State → Store → ℕ
+peakIn s store = Tasks.peak (tasksIn s store) (s .activation)
 
--- the same with its task
-unfoldable pub peakedOf : State → Peak.Peaked
-peakedOf s =
-    Peak.peaked (s .size) (at (s .parents)) (at (s .chilled .works)) (at (s .chilled .outs)) (s .activation)
+-- the places of a store are enough for it
+unfoldable pub fitsIn : State → Kind → Bool
+fitsIn s k = leb (peakIn s (storeOf s k)) (storeOf s k .bound)
+
+-- the peak in the cold room
+unfoldable pub peakOf : State → ℕ
+peakOf s = peakIn s (s .stores .chilled)
+
+-- "The peak shall always come with its step": the peak in each store, with its task
+unfoldable pub peaksOf : State → Each Peak.Peaked
+peaksOf s = each (λ k. Tasks.peaked (tasksIn s (storeOf s k)) (s .activation))
+
+-- "Where no peak is answered, the step is 0"
+abbrev pub noPeaks : Each Peak.Peaked
+noPeaks = each (λ _. Peak.noPeak)
 
 -- the number where the test fails, and what else is checked where it holds
 abbrev pub demand : Bool → ℕ → ℕ → ℕ
@@ -75,14 +87,14 @@ ownGround s (execution i) = demand (not (mem i (s .execution))) 5 0
 -- 9 "the peak is above M"
 ownGround s begin =
     demand (eqb (Peak.roots (s .size) (at (s .parents))) 1) 7
-    (demand (Peak.ordered (at (s .parents)) (s .activation)) 8 (demand (leb (peakOf s) (s .chilled .bound)) 9 0))
+    (demand (Peak.ordered (at (s .parents)) (s .activation)) 8 (demand (all (fitsIn s)) 9 0))
 -- 6 "DONE for a step that isn't running"
 ownGround s (done i) = demand (eqb (at (s .standings) i) Standing.running) 6 0
 ownGround s fetch = 0
 -- "It is taken if the new M is at least the peak and at least the booked trays": 9 "if below the peak; then 13 if below the booked
 -- trays"
 ownGround s (places bound) =
-    demand (leb (peakOf s) bound) 9 (demand (leb (total (s .size) (at (s .chilled .booked))) bound) 13 0)
+    demand (leb (peakOf s) bound) 9 (demand (leb (total (s .size) (at (s .stores .chilled .booked))) bound) 13 0)
 
 unfoldable pub ground : State → Command → ℕ
 ground s c = demand (inTurn s c) 3 (demand (inLimits s c) 4 (ownGround s c))

@@ -2,20 +2,21 @@
 -- order, the execution order, without BEGIN" are its commands.
 use mathlib.Core.List.{List, [], _∷_, _++_, map, flatMap}
 use Prim.Native.Nat.{ℕ, zero, suc}
+use Rattle.rules.specs.Kind.{Each, of, each}
 use Rattle.rules.specs.Lists.{at}
 use Rattle.rules.specs.Phase
-use Rattle.rules.specs.State.{State}
+use Rattle.rules.specs.State.{State, storeOf}
 use Rattle.rules.specs.Command.{Command, plan, task, activation, execution, bytes}
 
 pub record Instance : Type 0 where
-  -- n, p, and M: the memory bound in force
+  -- n, p, and M of each store: the memory bound in force
   pub size : ℕ
   pub processors : ℕ
-  pub bound : ℕ
-  -- parent, work and out of each task, entry 0 for nobody
+  pub bounds : Each ℕ
+  -- the parent of each task, and its work and out in each store; entry 0 for nobody
   pub parents : List ℕ
-  pub works : List ℕ
-  pub outs : List ℕ
+  pub works : Each (List ℕ)
+  pub outs : Each (List ℕ)
   -- the two orders
   pub activation : List ℕ
   pub execution : List ℕ
@@ -26,10 +27,10 @@ instanceOf s =
     record {
       size = s .size;
       processors = s .processors;
-      bound = s .chilled .bound;
+      bounds = each (λ k. storeOf s k .bound);
       parents = s .parents;
-      works = s .chilled .works;
-      outs = s .chilled .outs;
+      works = each (λ k. storeOf s k .works);
+      outs = each (λ k. storeOf s k .outs);
       activation = s .activation;
       execution = s .execution;
     }
@@ -45,15 +46,16 @@ unbegun m =
       activation = m .activation;
       execution = m .execution;
       standings = [];
-      chilled = record { bound = m .bound; works = m .works; outs = m .outs; booked = [] };
+      stores =
+          each (λ k. record { bound = of (m .bounds) k; works = of (m .works) k; outs = of (m .outs) k; booked = [] });
     }
 
 -- PLAN, STEP for task i, and STEP for each of the tasks 1 to k, in order
 abbrev pub openingOf : Instance → Command
-openingOf m = plan (m .size) (m .processors) (m .bound)
+openingOf m = plan (m .size) (m .processors) (m .bounds .chilled)
 
 abbrev pub taskOf : Instance → ℕ → Command
-taskOf m i = task (at (m .parents) i) (at (m .works) i) (at (m .outs) i)
+taskOf m i = task (at (m .parents) i) (at (m .works .chilled) i) (at (m .outs .chilled) i)
 
 unfoldable pub tasksTo : Instance → ℕ → List Command
 tasksTo m zero = []

@@ -6,12 +6,13 @@ use mathlib.Core.List.{List, []}
 use Prim.Native.Nat.{ℕ, suc, _+_, _≤_, _<_}
 use lib.Dec.{eqb}
 use lib.ListN.{length}
+use Rattle.rules.specs.Kind.{Kind}
 use Rattle.rules.specs.Sums.{Task, only}
 use Rattle.rules.specs.Lists.{at, mem, every, distinct, place}
 use Rattle.rules.specs.Need.{children}
 use Rattle.rules.specs.Peak.{ordered}
 use Rattle.rules.specs.Standing.{waiting, activated, running, finished}
-use Rattle.rules.specs.Booking.{Books, chain, figure, total}
+use Rattle.rules.specs.Booking.{Terms, Books, bookedIn, chain, figure, total}
 use Rattle.rules.specs.Grounds.{within}
 
 -- an activation order of n tasks, as BEGIN's checks find it: each stands in it once, before its parent
@@ -89,8 +90,12 @@ pub record Stocked (n : ℕ) (par need out : ℕ → ℕ) (bound : ℕ) (st : �
   pub books : Balanced n par need out st (at b)
   pub within : total n (at b) ≤ bound
 
--- what holds of the books: of the standings, and of the store
-pub record Good (n : ℕ) (par rank need out : ℕ → ℕ) (bound : ℕ) (k : Books) : Type 0 where
-  pub sized : length (k .standings) ≡ suc n
-  pub shape : Shape n par rank (at (k .standings))
-  pub stock : Stocked n par need out bound (at (k .standings)) (k .booked)
+-- the same by what booking finds of the store
+abbrev pub StockedBy : (n : ℕ) (par : ℕ → ℕ) (terms : Terms) (st : ℕ → ℕ) (b : List ℕ) → Type 0
+StockedBy n par terms st b = Stocked n par (terms .need) (terms .out) (terms .bound) st b
+
+-- what holds of the books: of the standings, and of each store
+pub record Good (n : ℕ) (par rank : ℕ → ℕ) (terms : Kind → Terms) (b : Books) : Type 0 where
+  pub sized : length (b .standings) ≡ suc n
+  pub shape : Shape n par rank (at (b .standings))
+  pub stock : (k : Kind) → StockedBy n par (terms k) (at (b .standings)) (bookedIn b k)

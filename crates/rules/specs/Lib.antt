@@ -1,10 +1,12 @@
 -- The rules, in the order of the paper.
 pub mod Sums
+pub mod Kind
 pub mod Lists
 -- A plan
 pub mod Limits
 pub mod Need
 pub mod Peak
+pub mod Tasks
 pub mod Phase
 pub mod Standing
 pub mod State

@@ -39,7 +39,7 @@ startedBy a = take (a .answer .starts) (a .list)
 
 -- the peak that a command is answered, and its step
 unfoldable pub peakTold : Answered → List ℕ
-peakTold a = a .answer .peak .trays ∷ a .answer .peak .task ∷ []
+peakTold a = a .answer .peaks .chilled .trays ∷ a .answer .peaks .chilled .task ∷ []
 
 -- both orders 1 to n
 unfoldable pub inOrder : List ℕ → List Command
@@ -132,7 +132,7 @@ marked =
     ∷ record {
       given =
           dayC (begin ∷ []) (done 1) .answer .offers
-          ∷ at (dayC (begin ∷ []) (done 1) .state .chilled .booked) 3
+          ∷ at (dayC (begin ∷ []) (done 1) .state .stores .chilled .booked) 3
           ∷ booked (dayC (begin ∷ []) (done 1) .state)
           ∷ inUse (dayC (begin ∷ []) (done 1) .state)
           ∷ startedBy (dayC (begin ∷ []) (done 1));
@@ -186,7 +186,7 @@ short stream = record { stream = stream; place = 0; list = replicate 63 0 }
 unfoldable pub told : List Asking → Asking → List ℕ
 told earlier a =
     let said = command (after none earlier) a .answer in
-    said .number ∷ said .used ∷ said .starts ∷ said .peak .trays ∷ said .peak .task ∷ said .offers ∷ []
+    said .number ∷ said .used ∷ said .starts ∷ said .peaks .chilled .trays ∷ said .peaks .chilled .task ∷ said .offers ∷ []
 
 -- the counts of a refusal: "its number, with bytes used, starts and every other count 0"
 unfoldable pub refusal : ℕ → List ℕ
@@ -346,7 +346,7 @@ unfoldable pub lackTold : Reason → List ℕ
 lackTold (refused k) = []
 lackTold ended = []
 lackTold running = []
-lackTold (notBooked x lack) = x ∷ lack ∷ []
+lackTold (notBooked x lack) = x ∷ lack .chilled ∷ []
 lackTold (unfed c) = []
 lackTold noProcessor = []
 

@@ -11,7 +11,7 @@ use Rattle.rules.specs.Phase
 use Rattle.rules.specs.State.{State}
 use Rattle.rules.specs.Command.{execution, begin, bytes, decode}
 use Rattle.rules.specs.Grounds as grounds
-use Rattle.rules.specs.Grounds.{inTurn, demand, noExecution, ownGround, peakedOf}
+use Rattle.rules.specs.Grounds.{inTurn, demand, noExecution, ownGround, peaksOf}
 use Rattle.rules.specs.Obey.{Outcome, withOrders, completed, proceed, fresh, obey}
 use Rattle.rules.specs.Answer.{Asking, Answered, refuse, accept, judge, command}
 use Rattle.rules.specs.Day.{answers, accepts, isBegin}
@@ -32,7 +32,7 @@ groundBefore s =
 
 -- what it did: it booked ahead and started by the orders that were given
 unfoldable pub outcomeBefore : State → Outcome
-outcomeBefore s = proceed s Phase.running (fresh (s .size)) (peakedOf s) 0
+outcomeBefore s = proceed s Phase.running (fresh (s .size)) (peaksOf s) 0
 
 -- what it was answered; BEGIN has no operands, so that it uses its byte
 unfoldable pub beginBefore : State → List ℕ → Answered

@@ -4,45 +4,44 @@ use mathlib.Core.Path.{_≡_}
 use mathlib.Core.Bool.{true, false}
 use mathlib.Core.List.{List, _∷_, _++_}
 use Prim.Native.Nat.{ℕ, _<_}
-use lib.ListN.{length}
+use Rattle.rules.specs.Kind.{Kind, Each, of}
 use Rattle.rules.specs.Sums.{Task}
-use Rattle.rules.specs.Lists.{at}
-use Rattle.rules.specs.Peak.{sumAt, peak, Peaked, noPeak}
-use Rattle.rules.specs.State.{State}
+use Rattle.rules.specs.Peak.{Peaked, noPeak}
+use Rattle.rules.specs.Tasks
+use Rattle.rules.specs.Tasks.{Tasks}
+use Rattle.rules.specs.State.{State, storeOf, tasksIn}
+use Rattle.rules.specs.Grounds.{noPeaks}
 use Rattle.rules.specs.Answer.{Asking, Answered, command}
-use Rattle.rules.specs.Desk.{DeskAnswer, StepRecord, column, desk}
+use Rattle.rules.specs.Desk.{DeskAnswer, StepRecord, deskTasks, desk}
 use Rattle.rules.specs.Day.{beginsDay}
 use Rattle.rules.specs.Reachable.{Reachable}
 
 -- the peak of an order, and the task that sets it
-pub record SetsPeak (n : ℕ) (par work out : ℕ → ℕ) (order : List ℕ) (p : Peaked) : Type 0 where
-  pub highest : p .trays ≡ peak n par work out order
+pub record SetsPeak (t : Tasks) (order : List ℕ) (p : Peaked) : Type 0 where
+  pub highest : p .trays ≡ Tasks.peak t order
   -- one of the n tasks, where the peak is 0 too
-  pub task : Task n (p .task)
-  -- it stands in the order, and while it runs the cold room holds the peak
+  pub task : Task (t .size) (p .task)
+  -- it stands in the order, and while it runs the store holds the peak
   pub earlier : List ℕ
   pub later : List ℕ
   pub stands : order ≡ earlier ++ p .task ∷ later
-  pub sum : sumAt n par work out earlier (p .task) ≡ p .trays
-  -- "the earliest .. where several are equal": while one of those ahead of it runs, the cold room holds less
+  pub sum : Tasks.sumAt t earlier (p .task) ≡ p .trays
+  -- "the earliest .. where several are equal": while one of those ahead of it runs, the store holds less
   pub below :
-      (pre : List ℕ) (x : ℕ) (post : List ℕ) → earlier ≡ pre ++ x ∷ post → sumAt n par work out pre x < p .trays
+      (pre : List ℕ) (x : ℕ) (post : List ℕ) → earlier ≡ pre ++ x ∷ post → Tasks.sumAt t pre x < p .trays
 
--- the same of the activation order of a plan
-abbrev pub SetsPeakOf : State → Peaked → Type 0
-SetsPeakOf s = SetsPeak (s .size) (at (s .parents)) (at (s .chilled .works)) (at (s .chilled .outs)) (s .activation)
+-- the same of the activation order of a plan, in every store
+abbrev pub SetPeaksOf : State → Each Peaked → Type 0
+SetPeaksOf s peaks = (k : Kind) → SetsPeak (tasksIn s (storeOf s k)) (s .activation) (of peaks k)
 
 -- of what one asking is answered: BEGIN, where it is accepted, tells the peak with its task; "Where no peak is answered, the step is 0."
 pub record PeakHolds (s : State) (a : Asking) (r : Answered) : Type 0 where
-  pub told : beginsDay a r ≡ true → SetsPeakOf s (r .answer .peak)
-  pub none : beginsDay a r ≡ false → r .answer .peak ≡ noPeak
+  pub told : beginsDay a r ≡ true → SetPeaksOf s (r .answer .peaks)
+  pub none : beginsDay a r ≡ false → r .answer .peaks ≡ noPeaks
 
 -- of what the desk is answered
 pub record DeskPeakHolds (records : List StepRecord) (activation : List ℕ) (r : DeskAnswer) : Type 0 where
-  pub told :
-      r .number ≡ 0
-      → SetsPeak (length records) (at (column (λ t. t .parent) records)) (at (column (λ t. t .work) records))
-      (at (column (λ t. t .out) records)) activation (r .peak)
+  pub told : r .number ≡ 0 → SetsPeak (deskTasks records) activation (r .peak)
   pub none : (r .number ≡ 0 → ⊥) → r .peak ≡ noPeak
 
 -- "Everyone who uses the peak gets both: BEGIN, the desk's own list": of every plan that commands led to, and of every list

@@ -2,32 +2,33 @@
 use mathlib.Core.Path.{_≡_}
 use mathlib.Core.Logic.{_⊎_}
 use Prim.Native.Nat.{ℕ, _+_, _≤_, _<_}
+use Rattle.rules.specs.Kind.{Kind, Each, of}
 use Rattle.rules.specs.Sums.{Task}
 use Rattle.rules.specs.Lists.{at}
 use Rattle.rules.specs.Phase
 use Rattle.rules.specs.Standing
-use Rattle.rules.specs.State.{State}
-use Rattle.rules.specs.Obey.{booksOf, withBound, ahead}
+use Rattle.rules.specs.State.{State, storeOf}
+use Rattle.rules.specs.Obey.{booksOf, withBounds, ahead}
 use Rattle.rules.specs.Invariant.{rankIn, FirstWaiting}
 use Rattle.rules.specs.Reachable.{Reachable}
 use Rattle.rules.specs.Why.{Reason, refused, ended, running, notBooked, unfed, noProcessor, why}
 
--- the standing of x if booking ahead came now, with more places in the cold room
-abbrev pub standingWith : State → ℕ → ℕ → ℕ
-standingWith s more x = at (ahead (withBound s (s .chilled .bound + more)) (booksOf s) .standings) x
+-- the standing of x if booking ahead came now, with more places in each store
+abbrev pub standingWith : State → (Kind → ℕ) → ℕ → ℕ
+standingWith s more x = at (ahead (withBounds s (λ k. storeOf s k .bound + more k)) (booksOf s) .standings) x
 
 -- "with that many more tray places the first waiting step would be booked now, and with one fewer than that it would not": nor with
--- fewer still
-pub record LackIsExact (s : State) (x lack : ℕ) : Type 0 where
-  pub some : 1 ≤ lack
+-- fewer still, whatever is added to another store
+pub record LackIsExact (s : State) (x : ℕ) (lack : Kind → ℕ) : Type 0 where
+  pub some : (k : Kind) × (1 ≤ lack k)
   pub booked : standingWith s lack x ≡ Standing.activated
-  pub waits : (fewer : ℕ) → fewer < lack → standingWith s fewer x ≡ Standing.waiting
+  pub waits : (more : Kind → ℕ) (k : Kind) → more k < lack k → standingWith s more x ≡ Standing.waiting
 
 -- "not booked, with the first waiting step in the activation order and the number of trays that step lacks"
-pub record NotBooked (s : State) (i x lack : ℕ) : Type 0 where
+pub record NotBooked (s : State) (i x : ℕ) (lack : Each ℕ) : Type 0 where
   pub asked : at (s .standings) i ≡ Standing.waiting
   pub first : FirstWaiting (s .size) (rankIn (s .activation)) (at (s .standings)) x
-  pub exact : LackIsExact s x lack
+  pub exact : LackIsExact s x (of lack)
 
 -- "waiting for a feeder, with the lowest-numbered unended child"
 pub record Unfed (s : State) (i c : ℕ) : Type 0 where

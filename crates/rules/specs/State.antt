@@ -1,10 +1,11 @@
 -- A plan and its day, as the commands have left them.
 use mathlib.Core.List.{List, []}
 use Prim.Native.Nat.{ℕ}
+use Rattle.rules.specs.Kind.{Kind, Each, of, each}
 use Rattle.rules.specs.Lists.{at}
-use Rattle.rules.specs.Need
 use Rattle.rules.specs.Peak.{root}
 use Rattle.rules.specs.Phase
+use Rattle.rules.specs.Tasks
 
 -- one store: its places and, for each task, its counts there
 pub record Store : Type 0 where
@@ -28,8 +29,8 @@ pub record State : Type 0 where
   pub execution : List ℕ
   -- the standing of each task, from BEGIN on
   pub standings : List ℕ
-  -- the cold room
-  pub chilled : Store
+  -- the stores
+  pub stores : Each Store
 
 -- the empty plan, to which a list of commands is given
 abbrev pub none : State
@@ -42,17 +43,24 @@ none =
       activation = [];
       execution = [];
       standings = [];
-      chilled = record { bound = 0; works = []; outs = []; booked = [] };
+      stores = each (λ _. record { bound = 0; works = []; outs = []; booked = [] });
     }
 
 -- the root of a plan
 abbrev pub rootOf : State → ℕ
 rootOf s = root (s .size) (at (s .parents))
 
--- the needs of the tasks of a plan in a store
-abbrev pub needsIn : State → Store → ℕ → ℕ
-needsIn s store = Need.need (s .size) (at (s .parents)) (at (store .works)) (at (store .outs))
+-- the tasks of a plan in a store, and their needs
+abbrev pub tasksIn : State → Store → Tasks.Tasks
+tasksIn s store = record { size = s .size; parent = at (s .parents); work = at (store .works); out = at (store .outs) }
 
--- and in the cold room
+abbrev pub needsIn : State → Store → ℕ → ℕ
+needsIn s store = Tasks.need (tasksIn s store)
+
+-- the store of a kind
+abbrev pub storeOf : State → Kind → Store
+storeOf s k = of (s .stores) k
+
+-- the needs in the cold room
 abbrev pub needs : State → ℕ → ℕ
-needs s = needsIn s (s .chilled)
+needs s = needsIn s (s .stores .chilled)

@@ -84,7 +84,7 @@ line (task parent work out) a = []
 line (activation i) a = []
 line (execution i) a = []
 line begin a =
-    beginLine (a .answer .peak) (booked (a .state)) (inUse (a .state)) (fullness (a .state))
+    beginLine (a .answer .peaks .chilled) (booked (a .state)) (inUse (a .state)) (fullness (a .state))
     (take (a .answer .starts) (a .list))
 line (done j) a =
     doneLine j (a .answer .offers) (booked (a .state)) (inUse (a .state)) (fullness (a .state))

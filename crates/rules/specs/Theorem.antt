@@ -5,16 +5,17 @@ use mathlib.Core.Logic.{_↔_}
 use mathlib.Core.List.{List, [], _∷_, _++_}
 use Prim.Native.Nat.{ℕ, _≤_, _<_}
 use lib.ListN.{length, drop}
+use Rattle.rules.specs.Kind.{Kind}
 use Rattle.rules.specs.Limits.{maxBound, leastStarts}
 use Rattle.rules.specs.Sums.{Task, countTo}
 use Rattle.rules.specs.Lists.{at, mem}
-use Rattle.rules.specs.Need
+use Rattle.rules.specs.Tasks
 use Rattle.rules.specs.Peak.{EachOnce, ordered}
 use Rattle.rules.specs.Phase
 use Rattle.rules.specs.Standing
-use Rattle.rules.specs.State.{Store, State, none, needsIn}
+use Rattle.rules.specs.State.{Store, State, none, tasksIn, needsIn, storeOf}
 use Rattle.rules.specs.Command
-use Rattle.rules.specs.Grounds.{peakOf, ground}
+use Rattle.rules.specs.Grounds.{peakIn, peakOf, ground}
 use Rattle.rules.specs.Booking.{total}
 use Rattle.rules.specs.Obey.{completed}
 use Rattle.rules.specs.Answer.{Asking, refuse, command}
@@ -28,9 +29,7 @@ runs happened i = mem i (starts happened) && not (mem i (ends happened))
 -- trays in use in a store, "reckoned from the starts, the ends and the fetch"
 unfoldable pub usedBy : State → Store → List Event → ℕ
 usedBy s store happened =
-    Need.inUse (s .size) (at (s .parents)) (at (store .works)) (at (store .outs))
-    (λ i. mem i (ends happened))
-    (λ i. mem i (starts happened)) (isFetched happened)
+    Tasks.inUse (tasksIn s store) (λ i. mem i (ends happened)) (λ i. mem i (starts happened)) (isFetched happened)
 
 -- what is promised of one store in a day: `booked` and `inUse` are what the plan answers for it
 pub record StoreHolds (s : State) (happened : List Event) (store : Store) (booked inUse : ℕ) : Type 0 where
@@ -104,16 +103,16 @@ pub record DayHolds (s : State) (happened : List Event) : Type 0 where
   pub allEnded : length (ends happened) ≡ s .size → Question.standing s ≡ 0 ∷ 0 ∷ 0 ∷ s .size ∷ []
   -- no more tasks run than there are processors
   pub staffed : countTo (runs happened) (s .size) ≤ s .processors
-  -- all that is promised of a store holds of the cold room
-  pub store : StoreHolds s happened (s .chilled) (Question.booked s) (Question.inUse s)
+  -- all that is promised of a store holds of each
+  pub stores : (k : Kind) → StoreHolds s happened (storeOf s k) (Question.bookedIn s k) (Question.inUseIn s k)
 
 -- the plan itself is the same: its steps, its stations and its orders
 pub record SamePlan (s s′ : State) : Type 0 where
   pub size : s′ .size ≡ s .size
   pub processors : s′ .processors ≡ s .processors
   pub parents : s′ .parents ≡ s .parents
-  pub works : s′ .chilled .works ≡ s .chilled .works
-  pub outs : s′ .chilled .outs ≡ s .chilled .outs
+  pub works : (k : Kind) → storeOf s′ k .works ≡ storeOf s k .works
+  pub outs : (k : Kind) → storeOf s′ k .outs ≡ storeOf s k .outs
   pub activation : s′ .activation ≡ s .activation
   pub execution : s′ .execution ≡ s .execution
 
@@ -156,9 +155,9 @@ pub record Theorem : Type 0 where
   pub orders : EveryDay (λ _ s _. OrdersHold s)
   pub plans : EveryDay (λ found s _. SamePlan (completed found) s)
   -- the places of the cold room are those of the last accepted 08 of the day, or those that BEGIN found: "the bound in force"
-  pub places : EveryDay (λ found s happened. s .chilled .bound ≡ inForce (found .chilled .bound) happened)
-  -- which is never below the peak
-  pub fits : EveryDay (λ _ s _. peakOf s ≤ s .chilled .bound)
+  pub places : EveryDay (λ found s happened. s .stores .chilled .bound ≡ inForce (found .stores .chilled .bound) happened)
+  -- and the places of each store are never below the peak there
+  pub fits : EveryDay (λ _ s _. (k : Kind) → peakIn s (storeOf s k) ≤ storeOf s k .bound)
   -- all that is promised of an asking holds of each of the list
   pub askings : (earlier : List Asking) (a : Asking) → AskingHolds (after none earlier) a
   -- "from the accepted commands alone": without those that are refused the plan is the same, and so is what happened

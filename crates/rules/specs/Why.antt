@@ -4,10 +4,11 @@
 use mathlib.Core.Bool.{Bool, not, cond}
 use Prim.Native.Nat.{ℕ, _+_, _-_}
 use lib.Dec.{eqb}
+use Rattle.rules.specs.Kind.{Each, each}
 use Rattle.rules.specs.Sums.{lowestTo}
 use Rattle.rules.specs.Lists.{at, first}
 use Rattle.rules.specs.Standing
-use Rattle.rules.specs.State.{Store, State, needsIn}
+use Rattle.rules.specs.State.{Store, State, needsIn, storeOf}
 use Rattle.rules.specs.Booking.{total, isUnendedChild, missing, fed}
 use Rattle.rules.specs.Grounds.{within}
 use Rattle.rules.specs.Question.{isRunning}
@@ -18,8 +19,8 @@ pub data Reason : Type 0 where
   refused : ℕ → Reason
   ended : Reason
   running : Reason
-  -- the first waiting task, and the places that it lacks
-  notBooked : ℕ → ℕ → Reason
+  -- the first waiting task, and the places that it lacks in each store
+  notBooked : ℕ → Each ℕ → Reason
   -- the lowest-numbered child that has not ended
   unfed : ℕ → Reason
   noProcessor : Reason
@@ -39,6 +40,10 @@ lackIn s store x =
     + missing (s .size) (at (s .parents)) (needsIn s store) (at (s .standings)) (at (store .booked)) x
     - store .bound
 
+-- in each store
+unfoldable pub lacks : State → ℕ → Each ℕ
+lacks s x = each (λ k. lackIn s (storeOf s k) x)
+
 -- "the lowest-numbered unended child" of i, 0 where all have ended
 unfoldable pub unendedChild : State → ℕ → ℕ
 unendedChild s i = lowestTo (isUnendedChild (at (s .parents)) (at (s .standings)) i) (s .size)
@@ -50,5 +55,5 @@ why s i =
     (cond (not (within i (s .size))) (refused 4)
     (cond (has s Standing.finished i) ended
     (cond (has s Standing.running i) running
-    (cond (has s Standing.waiting i) (notBooked (firstWaiting s) (lackIn s (s .chilled) (firstWaiting s)))
+    (cond (has s Standing.waiting i) (notBooked (firstWaiting s) (lacks s (firstWaiting s)))
     (cond (not (fed (s .size) (at (s .parents)) (at (s .standings)) i)) (unfed (unendedChild s i)) noProcessor)))))

@@ -8,13 +8,16 @@ use native.Mathlib.Omega.{arith}
 use lib.Dec.{eqb}
 use lib.ListN.{length, set, length-set}
 use borrow.Author.Tests.{eqb-true, eq-eqb, ne-eqb}
+use Rattle.rules.specs.Kind.{Kind, of, each}
+use Rattle.rules.specs.Kind
 use Rattle.rules.specs.Sums.{Task}
 use Rattle.rules.specs.Lists.{at}
 use Rattle.rules.specs.Limits.{maxTasks}
 use Rattle.rules.specs.Need.{need}
 use Rattle.rules.specs.Standing.{waiting, activated, running, finished, count}
-use Rattle.rules.specs.Booking.{ready, fed, start}
+use Rattle.rules.specs.Booking.{Terms, bookedIn, ready, fed, start}
 use Rattle.rules.specs.Invariant.{Balanced, rankIn, Good}
+use Rattle.rules.proofs.EachStore.{of-each}
 use Rattle.rules.proofs.Sums.{count-le}
 use Rattle.rules.proofs.Counts.{count-cong}
 use Rattle.rules.proofs.Shape.{Moved}
@@ -23,15 +26,16 @@ use Rattle.rules.proofs.Entries.{at-other, moved-by-set}
 use Rattle.rules.proofs.Starts.{Startable, fed-children, ready-parts, start-count, start-good, start-kind}
 use Rattle.rules.proofs.Usage.{in-process-within}
 use Rattle.words.specs.Layout.{row, rows, words, standing, chilled}
-use Rattle.words.specs.Contents.{Contents, contents, withCell, storeWithCell, withHead, storeWithHead, withReady}
+use Rattle.words.specs.Contents.{StoreContents, Contents, contents, withCell, storeWithCell, withHead, storeWithHead, withReady}
 use Rattle.words.specs.Marks.{Marks, changed, Changed}
 use Rattle.words.proofs.Contents.{contents-cell, contents-head}
 use Rattle.ready.proofs.Marks.{marks-kept}
-use Rattle.store.specs.Rows.{rowsOf, books, activationOf, executionOf}
-use Rattle.store.specs.Cached.{isReadyAt, inProcessBy}
-use Rattle.store.specs.Kept.{Kept, SamePlan}
+use Rattle.store.specs.Rows.{rowsOf, books, termsIn, activationOf, executionOf}
+use Rattle.store.specs.Cached.{isReadyAt, inProcessBy, StoreCached}
+use Rattle.store.specs.Kept.{DayInvariant, Kept, SamePlan}
 use Rattle.store.specs.Store.{AtTask, withStore, withHoldings, loaded}
 use Rattle.store.proofs.Rows.{rows-set, zero-set}
+use Rattle.store.proofs.Same.{terms-same}
 use Rattle.store.proofs.Ready.{placed-task, ready-changed}
 use Rattle.store.proofs.Unended.{unended-same, ready-same}
 use Rattle.store.proofs.Figures.{partial-same}
@@ -58,7 +62,7 @@ withRunning x ready filled c =
       places = c .places;
       unended = c .unended;
       standings = set (c .standings) x running;
-      chilled = loaded x (c .chilled);
+      stores = each (λ k. loaded x (of (c .stores) k));
       activation = c .activation;
       execution = c .execution;
       ready = ready;
@@ -131,40 +135,42 @@ module _ {place : ℕ} {c : Contents} (may : MayRun place c) where
 
   -- the invariant of the day
   good-after :
-      Good (c .size) (at (c .parents)) (rankIn (activationOf c)) (at (c .chilled .needs)) (at (c .chilled .outs)) (c .chilled .bound)
-      (record { standings = after; booked = books c .booked })
+      Good (c .size) (at (c .parents)) (rankIn (activationOf c)) (termsIn c) (record { standings = after; booked = books c .booked })
   unfolding start
   good-after =
-      start-good (c .size) (at (c .parents)) (rankIn (activationOf c)) (at (c .chilled .needs)) (at (c .chilled .outs))
-      (c .chilled .bound) (x ∷ []) st (books c .booked) startable (may .kept .invariant .good)
+      start-good (c .size) (at (c .parents)) (rankIn (activationOf c)) (termsIn c) (x ∷ []) st (books c .booked) startable
+      (may .kept .invariant .good)
 
-  -- what is in use
-  used-after :
-      inProcessBy (c .size) (at (c .parents)) (at (c .chilled .works)) (at (c .chilled .outs)) (at after)
-      ≡ c .chilled .used + (at (c .chilled .works) x + at (c .chilled .outs) x)
-  used-after =
-      used-started (c .size) (at (c .parents)) (at (c .chilled .works)) (at (c .chilled .outs))
-      (λ i _. may .kept .invariant .parents i) (at st) (at after) x task is-booked is-fed moved
-      ∙ ap (λ (v : ℕ). v + (at (c .chilled .works) x + at (c .chilled .outs) x)) (sym (may .kept .cached .store .uses))
+  module _ (k : Kind) where
+    -- what is in use of a store
+    used-after :
+        inProcessBy (c .size) (at (c .parents)) (at (of (c .stores) k .works)) (at (of (c .stores) k .outs)) (at after)
+        ≡ of (c .stores) k .used + (at (of (c .stores) k .works) x + at (of (c .stores) k .outs) x)
+    used-after =
+        used-started (c .size) (at (c .parents)) (at (of (c .stores) k .works)) (at (of (c .stores) k .outs))
+        (λ i _. may .kept .invariant .parents i) (at st) (at after) x task is-booked is-fed moved
+        ∙ ap (λ (v : ℕ). v + (at (of (c .stores) k .works) x + at (of (c .stores) k .outs) x)) (sym (may .kept .cached .stores k .uses))
 
-  pub used-fits : c .chilled .used + (at (c .chilled .works) x + at (c .chilled .outs) x) < 2 ^ 32
-  used-fits =
-      let inv = may .kept .invariant in
-      let same-need : at (c .chilled .needs) ≡ need (c .size) (at (c .parents)) (at (c .chilled .works)) (at (c .chilled .outs)) =
-      fun-ext (may .kept .cached .store .needed)
-      in
-      let used =
-      in-process-within (c .size) (at (c .parents)) (rankIn (activationOf c))
-      (tree-of (c .size) (at (c .parents)) (activationOf c) (inv .valid) (λ i _. inv .parents i)) (at (c .chilled .works))
-      (at (c .chilled .outs)) (at after) (at (books c .booked)) (good-after .shape)
-      (subst
-      (λ (f : ℕ → ℕ). Balanced (c .size) (at (c .parents)) f (at (c .chilled .outs)) (at after) (at (books c .booked)))
-      same-need (good-after .stock .books))
-      in
-      let e = used-after in
-      let w = good-after .stock .within in
-      let b = inv .bounded in
-      omega arith
+    pub used-fits : of (c .stores) k .used + (at (of (c .stores) k .works) x + at (of (c .stores) k .outs) x) < 2 ^ 32
+    used-fits =
+        let inv = may .kept .invariant in
+        let same-need :
+        at (of (c .stores) k .needs) ≡ need (c .size) (at (c .parents)) (at (of (c .stores) k .works)) (at (of (c .stores) k .outs)) =
+        fun-ext (may .kept .cached .stores k .needed)
+        in
+        let used =
+        in-process-within (c .size) (at (c .parents)) (rankIn (activationOf c))
+        (tree-of (c .size) (at (c .parents)) (activationOf c) (inv .valid) (λ i _. inv .parents i)) (at (of (c .stores) k .works))
+        (at (of (c .stores) k .outs)) (at after) (at (bookedIn (books c) k)) (good-after .shape)
+        (subst
+        (λ (f : ℕ → ℕ).
+        Balanced (c .size) (at (c .parents)) f (at (of (c .stores) k .outs)) (at after) (at (bookedIn (books c) k)))
+        same-need (good-after .stock k .books))
+        in
+        let e = used-after in
+        let w = good-after .stock k .within in
+        let b = inv .bounded k in
+        omega arith
 
   -- the ready set: the task itself is no longer ready, and all others are ready as they were
   ready-after :
@@ -198,6 +204,52 @@ module _ {place : ℕ} {c : Contents} (may : MayRun place c) where
         (marks-kept {c′ = then} refl refl
         (taken .marks (isReadyAt (c .size) (at (c .parents)) (executionOf c) st) (may .kept .cached .marks) (may .ready)))
 
+    store-is : (k : Kind) → of (then .stores) k ≡ loaded x (of (c .stores) k)
+    unfolding withRunning
+    store-is k = of-each (λ d. loaded x (of (c .stores) d)) k
+
+    same-after : SamePlan c then
+    unfolding withRunning loaded withHoldings
+    same-after =
+        record {
+          phase = refl;
+          size = refl;
+          processors = refl;
+          given = refl;
+          ranked = refl;
+          placed = refl;
+          parents = refl;
+          ranks = refl;
+          places = refl;
+          activation = refl;
+          execution = refl;
+          bound = λ k. ap (λ (s : StoreContents). s .bound) (store-is k);
+          works = λ k. ap (λ (s : StoreContents). s .works) (store-is k);
+          outs = λ k. ap (λ (s : StoreContents). s .outs) (store-is k);
+          needs = λ k. ap (λ (s : StoreContents). s .needs) (store-is k);
+        }
+
+    store-after :
+        (k : Kind)
+        → StoreCached (then .size) (at (then .parents)) (at (books then .standings)) (bookedIn (books then) k) (of (then .stores) k)
+    unfolding withRunning loaded withHoldings
+    store-after k =
+        let old = may .kept .cached .stores k in
+        rw (rows-after, store-is k)
+        (record {
+          needed = old .needed;
+          figured =
+              λ i t.
+              old .figured i t
+              ∙ sym
+              (partial-same (c .size) (at (c .parents)) (at st) (at after) (at (bookedIn (books c) k)) i
+              (λ j _. same-others waiting (λ e. omega arith) (λ e. omega arith) j));
+          totals = old .totals;
+          uses = sym (used-after k);
+          booked-zero = old .booked-zero;
+          figures-zero = old .figures-zero;
+        })
+
     kept-after : Kept then
     unfolding withRunning loaded withHoldings count start
     kept-after =
@@ -205,14 +257,16 @@ module _ {place : ℕ} {c : Contents} (may : MayRun place c) where
         let old = may .kept .cached in
         record {
           invariant =
-              record {
+              subst (λ (e : Kind → Terms). DayInvariant (c .size) (at (c .parents)) e (activationOf c) (books then))
+              (sym (terms-same same-after))
+              (record {
                 small = inv .small;
                 bounded = inv .bounded;
                 valid = inv .valid;
                 parents = inv .parents;
                 roomy = inv .roomy;
                 good = rw rows-after good-after;
-              };
+              });
           cached =
               record {
                 long = old .long;
@@ -240,43 +294,8 @@ module _ {place : ℕ} {c : Contents} (may : MayRun place c) where
                 placed = old .placed;
                 standings-zero = zero-set (c .size) (c .standings) x running (task .high) (old .standings-zero);
                 unended-zero = old .unended-zero;
-                store =
-                    record {
-                      needed = old .store .needed;
-                      figured =
-                          rw rows-after
-                          (λ i t.
-                          old .store .figured i t
-                          ∙ sym
-                          (partial-same (c .size) (at (c .parents)) (at st) (at after) (at (books c .booked)) i
-                          (λ k _. same-others waiting (λ e. omega arith) (λ e. omega arith) k)));
-                      totals = old .store .totals;
-                      uses = rw rows-after (sym used-after);
-                      booked-zero = old .store .booked-zero;
-                      figures-zero = old .store .figures-zero;
-                    };
+                stores = store-after;
               };
-        }
-
-    same-after : SamePlan c then
-    unfolding withRunning loaded withHoldings
-    same-after =
-        record {
-          phase = refl;
-          size = refl;
-          processors = refl;
-          given = refl;
-          ranked = refl;
-          placed = refl;
-          parents = refl;
-          ranks = refl;
-          places = refl;
-          activation = refl;
-          execution = refl;
-          bound = refl;
-          works = refl;
-          outs = refl;
-          needs = refl;
         }
 
     pub ran : {t : ℕ} {c′ : Contents} → t ≡ x → c′ ≡ withRunning t (d .ready) (d .filled) c → OneStarted place c c′ t
@@ -324,15 +343,15 @@ module _ (w₁ : List ℕ) {place t a : ℕ} {c : Contents} {w₂ w₃ : List �
       ∙ ap (withCell standing t running) (taken .same))
 
   pub may-load :
-      c .chilled .used + (at (c .chilled .works) t + at (c .chilled .outs) t) < 2 ^ 32
+      c .stores .chilled .used + (at (c .stores .chilled .works) t + at (c .stores .chilled .outs) t) < 2 ^ 32
       → AtTask chilled t (contents w₃)
-      × (contents w₃ .chilled .used + (at (contents w₃ .chilled .works) t + at (contents w₃ .chilled .outs) t) < 2 ^ 32)
+      × (contents w₃ .stores .chilled .used + (at (contents w₃ .stores .chilled .works) t + at (contents w₃ .stores .chilled .outs) t) < 2 ^ 32)
   unfolding withHead storeWithHead withCell storeWithCell withReady
-  may-load fits = rw before-load (record { long = long; offset = refl; task-in = in-rows }, fits)
+  may-load fits = rw before-load (record { long = long; offset = refl; inside = omega arith; task-in = in-rows }, fits)
 
   pub after-load :
       {c′ : Contents}
-      → c′ ≡ withStore (loaded t (contents w₃ .chilled)) (contents w₃)
+      → c′ ≡ withStore Kind.chilled (loaded t (contents w₃ .stores .chilled)) (contents w₃)
       → c′ ≡ withRunning t (contents w₁ .ready) (contents w₁ .filled) c
   unfolding withRunning withStore loaded withHoldings withHead storeWithHead withCell storeWithCell withReady
-  after-load third = third ∙ ap (λ (k : Contents). withStore (loaded t (k .chilled)) k) before-load
+  after-load third = third ∙ ap (λ (k : Contents). withStore Kind.chilled (loaded t (k .stores .chilled)) k) before-load

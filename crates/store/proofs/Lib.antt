@@ -6,5 +6,6 @@ pub mod Figures
 pub mod Using
 pub mod Idle
 pub mod Same
+pub mod InStore
 pub mod Ready
 pub mod Writing

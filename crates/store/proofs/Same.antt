@@ -1,6 +1,8 @@
 -- What one part of a command leaves of a plan, several do.
-use mathlib.Core.Path.{refl, _∙_}
+use mathlib.Core.Path.{_≡_, refl, fun-ext, _∙_}
+use Rattle.rules.specs.Lists.{at}
 use Rattle.words.specs.Contents.{Contents}
+use Rattle.store.specs.Rows.{termsIn}
 use Rattle.store.specs.Kept.{SamePlan}
 
 pub same-refl : (c : Contents) → SamePlan c c
@@ -17,10 +19,10 @@ same-refl c =
       places = refl;
       activation = refl;
       execution = refl;
-      bound = refl;
-      works = refl;
-      outs = refl;
-      needs = refl;
+      bound = λ _. refl;
+      works = λ _. refl;
+      outs = λ _. refl;
+      needs = λ _. refl;
     }
 
 pub same-trans : {c c′ c″ : Contents} → SamePlan c c′ → SamePlan c′ c″ → SamePlan c c″
@@ -37,8 +39,12 @@ same-trans a b =
       places = b .places ∙ a .places;
       activation = b .activation ∙ a .activation;
       execution = b .execution ∙ a .execution;
-      bound = b .bound ∙ a .bound;
-      works = b .works ∙ a .works;
-      outs = b .outs ∙ a .outs;
-      needs = b .needs ∙ a .needs;
+      bound = λ k. b .bound k ∙ a .bound k;
+      works = λ k. b .works k ∙ a .works k;
+      outs = λ k. b .outs k ∙ a .outs k;
+      needs = λ k. b .needs k ∙ a .needs k;
     }
+
+-- what booking finds of the stores is the same
+pub terms-same : {c c′ : Contents} → SamePlan c c′ → termsIn c′ ≡ termsIn c
+terms-same s = fun-ext (λ k z. record { bound = s .bound k z; need = at (s .needs k z); out = at (s .outs k z) })

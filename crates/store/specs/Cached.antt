@@ -7,11 +7,12 @@ use Prim.Native.Nat.{ℕ, _+_, _≤_, _<_}
 use lib.Dec.{eqb, leb, ltb}
 use lib.ListN.{length}
 use Rattle.rules.specs.Sums.{Task, only, sumTo, countTo}
+use Rattle.rules.specs.Kind.{Kind, of}
 use Rattle.rules.specs.Lists.{at, mem, every, distinct}
 use Rattle.rules.specs.Need.{need, inProcess}
 use Rattle.rules.specs.Grounds.{within}
 use Rattle.rules.specs.Standing.{waiting, running, finished, count}
-use Rattle.rules.specs.Booking.{Books, chain, figure, total, isUnendedChild, ready}
+use Rattle.rules.specs.Booking.{Books, bookedIn, chain, figure, total, isUnendedChild, ready}
 use Rattle.words.specs.Layout.{words}
 use Rattle.words.specs.Contents.{StoreContents, Contents}
 use Rattle.words.specs.Marks.{Marks}
@@ -35,9 +36,8 @@ unfoldable pub unendedChildren : (n : ℕ) (par st : ℕ → ℕ) → ℕ → �
 unendedChildren n par st i = countTo (isUnendedChild par st i) n
 
 -- the figures of the tasks, and the children that they still wait for
-abbrev pub Figured : (n : ℕ) (par : ℕ → ℕ) (k : Books) (figures : List ℕ) → Type 0
-Figured n par k figures =
-    (i : ℕ) → Task n i → at figures i ≡ partialFigure n par (at (k .standings)) (at (k .booked)) i
+abbrev pub Figured : (n : ℕ) (par st b : ℕ → ℕ) (figures : List ℕ) → Type 0
+Figured n par st b figures = (i : ℕ) → Task n i → at figures i ≡ partialFigure n par st b i
 
 abbrev pub Counted : (n : ℕ) (par : ℕ → ℕ) (k : Books) (unended : List ℕ) → Type 0
 Counted n par k unended = (i : ℕ) → Task n i → at unended i ≡ unendedChildren n par (at (k .standings)) i
@@ -64,11 +64,11 @@ abbrev pub inProcessBy : (n : ℕ) (par work out st : ℕ → ℕ) → ℕ
 inProcessBy n par work out st = inProcess n par work out (λ i. eqb (st i) finished) (λ i. leb running (st i))
 
 -- all that is kept of a store while the root has not ended
-pub record StoreCached (n : ℕ) (par : ℕ → ℕ) (k : Books) (s : StoreContents) : Type 0 where
+pub record StoreCached (n : ℕ) (par st : ℕ → ℕ) (b : List ℕ) (s : StoreContents) : Type 0 where
   pub needed : (i : ℕ) → at (s .needs) i ≡ need n par (at (s .works)) (at (s .outs)) i
-  pub figured : Figured n par k (s .figures)
-  pub totals : s .total ≡ total n (at (k .booked))
-  pub uses : s .used ≡ inProcessBy n par (at (s .works)) (at (s .outs)) (at (k .standings))
+  pub figured : Figured n par st (at b) (s .figures)
+  pub totals : s .total ≡ total n (at b)
+  pub uses : s .used ≡ inProcessBy n par (at (s .works)) (at (s .outs)) st
   pub booked-zero : ZeroPast n (s .booked)
   pub figures-zero : ZeroPast n (s .figures)
 
@@ -83,4 +83,5 @@ pub record Cached (c : Contents) : Type 0 where
   pub placed : Placed (c .size) (executionOf c) (at (c .places))
   pub standings-zero : ZeroPast (c .size) (c .standings)
   pub unended-zero : ZeroPast (c .size) (c .unended)
-  pub store : StoreCached (c .size) (at (c .parents)) (books c) (c .chilled)
+  pub stores :
+      (k : Kind) → StoreCached (c .size) (at (c .parents)) (at (books c .standings)) (bookedIn (books c) k) (of (c .stores) k)

@@ -2,27 +2,27 @@
 use mathlib.Core.Path.{_≡_}
 use mathlib.Core.List.{List}
 use Prim.Native.Nat.{ℕ, _^_, _≤_, _<_}
+use Rattle.rules.specs.Kind.{Kind, of}
 use Rattle.rules.specs.Lists.{at}
 use Rattle.rules.specs.Limits.{maxTasks}
-use Rattle.rules.specs.Booking.{Books}
+use Rattle.rules.specs.Booking.{Terms, Books}
 use Rattle.rules.specs.Invariant.{Valid, rankIn, Roomy, Good}
 use Rattle.words.specs.Contents.{Contents}
-use Rattle.store.specs.Rows.{books, activationOf}
+use Rattle.store.specs.Rows.{books, termsIn, activationOf}
 use Rattle.store.specs.Cached.{Cached}
 
 -- a plan whose activation order is valid and whose books keep what holds of a day
-pub record DayInvariant (n : ℕ) (par need out : ℕ → ℕ) (order : List ℕ) (bound : ℕ) (k : Books) : Type 0 where
+pub record DayInvariant (n : ℕ) (par : ℕ → ℕ) (terms : Kind → Terms) (order : List ℕ) (b : Books) : Type 0 where
   pub small : n ≤ maxTasks
-  pub bounded : bound < 2 ^ 32
+  pub bounded : (k : Kind) → terms k .bound < 2 ^ 32
   pub valid : Valid n par order
   pub parents : (i : ℕ) → par i ≤ n
-  pub roomy : Roomy n par need out
-  pub good : Good n par (rankIn order) need out bound k
+  pub roomy : (k : Kind) → Roomy n par (terms k .need) (terms k .out)
+  pub good : Good n par (rankIn order) terms b
 
 pub record Kept (c : Contents) : Type 0 where
   pub invariant :
-      DayInvariant (c .size) (at (c .parents)) (at (c .chilled .needs)) (at (c .chilled .outs)) (activationOf c) (c .chilled .bound)
-      (books c)
+      DayInvariant (c .size) (at (c .parents)) (termsIn c) (activationOf c) (books c)
   pub cached : Cached c
 
 -- what sharing out, booking ahead and starting leave of a plan
@@ -38,7 +38,7 @@ pub record SamePlan (c c′ : Contents) : Type 0 where
   pub places : c′ .places ≡ c .places
   pub activation : c′ .activation ≡ c .activation
   pub execution : c′ .execution ≡ c .execution
-  pub bound : c′ .chilled .bound ≡ c .chilled .bound
-  pub works : c′ .chilled .works ≡ c .chilled .works
-  pub outs : c′ .chilled .outs ≡ c .chilled .outs
-  pub needs : c′ .chilled .needs ≡ c .chilled .needs
+  pub bound : (k : Kind) → of (c′ .stores) k .bound ≡ of (c .stores) k .bound
+  pub works : (k : Kind) → of (c′ .stores) k .works ≡ of (c .stores) k .works
+  pub outs : (k : Kind) → of (c′ .stores) k .outs ≡ of (c .stores) k .outs
+  pub needs : (k : Kind) → of (c′ .stores) k .needs ≡ of (c .stores) k .needs

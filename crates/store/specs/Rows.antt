@@ -3,8 +3,10 @@ use mathlib.Core.Path.{_≡_}
 use mathlib.Core.List.{List}
 use Prim.Native.Nat.{ℕ, suc, _<_}
 use lib.ListN.{take}
+use Rattle.rules.specs.Kind.{Kind, of, each}
 use Rattle.rules.specs.Lists.{at}
-use Rattle.rules.specs.Booking.{Books}
+use Rattle.rules.specs.Tasks.{Tasks}
+use Rattle.rules.specs.Booking.{Terms, Books}
 use Rattle.words.specs.Contents.{Contents}
 
 -- the entries of the tasks of a plan of n, with the one of nobody, at the front of a column
@@ -16,11 +18,30 @@ abbrev pub ZeroPast : ℕ → List ℕ → Type 0
 ZeroPast n l = (a : ℕ) → n < a → at l a ≡ 0
 
 -- the standings and the booked trays of the tasks
-abbrev pub booksIn : ℕ → List ℕ → List ℕ → Books
-booksIn n standings booked = record { standings = rowsOf n standings; booked = rowsOf n booked }
+abbrev pub booksIn : ℕ → List ℕ → (Kind → List ℕ) → Books
+booksIn n standings booked = record { standings = rowsOf n standings; booked = each (λ k. rowsOf n (booked k)) }
 
 abbrev pub books : Contents → Books
-books c = booksIn (c .size) (c .standings) (c .chilled .booked)
+books c = booksIn (c .size) (c .standings) (λ k. of (c .stores) k .booked)
+
+-- a store as booking finds it
+abbrev pub termsIn : Contents → Kind → Terms
+termsIn c k =
+    record {
+      bound = of (c .stores) k .bound;
+      need = at (of (c .stores) k .needs);
+      out = at (of (c .stores) k .outs);
+    }
+
+-- the tasks in a store
+abbrev pub tasksOf : Contents → Kind → Tasks
+tasksOf c k =
+    record {
+      size = c .size;
+      parent = at (c .parents);
+      work = at (of (c .stores) k .works);
+      out = at (of (c .stores) k .outs);
+    }
 
 -- the orders, once they are given
 abbrev pub activationOf : Contents → List ℕ

@@ -5,13 +5,18 @@ use mathlib.Core.List.{List}
 use Prim.Native.Nat.{ℕ, _+_, _-_, _*_, _^_, _≤_, _<_}
 use lib.Dec.{eqb}
 use lib.ListN.{set}
+use Rattle.rules.specs.Kind.{Kind, of, put}
 use Rattle.rules.specs.Lists.{at}
-use Rattle.words.specs.Layout.{words, row, rows, chilled}
+use Rattle.words.specs.Layout.{words, row, rows, offset, kindAt}
 use Rattle.words.specs.Contents.{StoreContents, Contents}
 
+-- the store at an offset
+abbrev pub storeAt : ℕ → Contents → StoreContents
+storeAt store c = of (c .stores) (kindAt store)
+
 -- the plan with another store
-unfoldable pub withStore : StoreContents → Contents → Contents
-withStore s c =
+unfoldable pub withStore : Kind → StoreContents → Contents → Contents
+withStore k s c =
     record {
       extent = c .extent;
       phase = c .phase;
@@ -28,12 +33,16 @@ withStore s c =
       places = c .places;
       unended = c .unended;
       standings = c .standings;
-      chilled = s;
+      stores = put k s (c .stores);
       activation = c .activation;
       execution = c .execution;
       ready = c .ready;
       filled = c .filled;
     }
+
+-- the plan once its store at an offset is changed
+abbrev pub withStoreAt : ℕ → (StoreContents → StoreContents) → Contents → Contents
+withStoreAt store changed c = withStore (kindAt store) (changed (storeAt store c)) c
 
 -- the store with other totals and other booked trays and figures of the tasks
 unfoldable pub withHoldings : ℕ → ℕ → List ℕ → List ℕ → StoreContents → StoreContents
@@ -57,10 +66,16 @@ grown l i more = cond (eqb i 0) l (set l i (at l i + more))
 abbrev pub fewer : List ℕ → ℕ → List ℕ
 fewer l i = set l i (at l i - 1)
 
+-- an offset at which a store lies
+pub record AtStore (store : ℕ) : Type 0 where
+  pub offset : store ≡ offset (kindAt store)
+  pub inside : store + 5 ≤ row
+
 -- a task x of a store, by the offset of the store
 pub record AtTask (store x : ℕ) (c : Contents) : Type 0 where
   pub long : c .extent ≡ words
-  pub offset : store ≡ chilled
+  pub offset : store ≡ offset (kindAt store)
+  pub inside : store + 5 ≤ row
   pub task-in : x < rows
 
 -- task x is booked and gets m: its figure grows, and its parent's by that figure
@@ -73,12 +88,12 @@ granted parent x m s =
 pub record MayGrant (store x m : ℕ) (c : Contents) : Type 0 where
   pub at-task : AtTask store x c
   pub parent-in : at (c .parents) x < rows
-  pub total-fits : c .chilled .total + m < 2 ^ 32
-  pub booked-fits : at (c .chilled .booked) x + m < 2 ^ 32
-  pub figure-fits : at (c .chilled .figures) x + m < 2 ^ 32
+  pub total-fits : storeAt store c .total + m < 2 ^ 32
+  pub booked-fits : at (storeAt store c .booked) x + m < 2 ^ 32
+  pub figure-fits : at (storeAt store c .figures) x + m < 2 ^ 32
   pub parent-fits :
       (at (c .parents) x ≡ 0 → ⊥)
-      → at (set (c .chilled .figures) x (at (c .chilled .figures) x + m)) (at (c .parents) x) + (at (c .chilled .figures) x + m)
+      → at (set (storeAt store c .figures) x (at (storeAt store c .figures) x + m)) (at (c .parents) x) + (at (storeAt store c .figures) x + m)
       < 2 ^ 32
 
 -- what comes into use as task x starts: its work and its out
@@ -96,9 +111,9 @@ passed x r s =
 
 pub record MayPass (store x r : ℕ) (c : Contents) : Type 0 where
   pub at-task : AtTask store x c
-  pub figure-has : r ≤ at (c .chilled .figures) x
-  pub gift-small : gift x r (c .chilled) ≤ r
-  pub booked-fits : at (c .chilled .booked) x + gift x r (c .chilled) < 2 ^ 32
+  pub figure-has : r ≤ at (storeAt store c .figures) x
+  pub gift-small : gift x r (storeAt store c) ≤ r
+  pub booked-fits : at (storeAt store c .booked) x + gift x r (storeAt store c) < 2 ^ 32
 
 -- a waiting task at which r trays end their way: its figure loses them
 unfoldable pub rested : (x r : ℕ) → StoreContents → StoreContents
@@ -114,12 +129,12 @@ released parent x s =
 pub record MayRelease (store x : ℕ) (c : Contents) : Type 0 where
   pub at-task : AtTask store x c
   pub parent-in : at (c .parents) x < rows
-  pub out-held : at (c .chilled .outs) x ≤ at (c .chilled .booked) x
+  pub out-held : at (storeAt store c .outs) x ≤ at (storeAt store c .booked) x
   pub higher : at (c .parents) x ≡ 0 → ⊥
-  pub parent-fits : at (set (c .chilled .booked) x 0) (at (c .parents) x) + at (c .chilled .outs) x < 2 ^ 32
-  pub used-has : at (c .chilled .needs) x ≤ c .chilled .used
+  pub parent-fits : at (set (storeAt store c .booked) x 0) (at (c .parents) x) + at (storeAt store c .outs) x < 2 ^ 32
+  pub used-has : at (storeAt store c .needs) x ≤ storeAt store c .used
   pub used-fits :
-      c .chilled .used - at (c .chilled .needs) x + at (c .chilled .outs) x < 2 ^ 32
+      storeAt store c .used - at (storeAt store c .needs) x + at (storeAt store c .outs) x < 2 ^ 32
 
 -- "What is left of R is free."
 unfoldable pub freed : ℕ → StoreContents → StoreContents

@@ -3,7 +3,7 @@ ghost use mathlib.Core.Path.{_≡_};
 ghost use Prim.Native.Nat.{_+_, _-_, _^_, _≤_, _<_};
 ghost use lib.Dec.{leb};
 ghost use Rattle.rules.specs.Lists.{at};
-ghost use Rattle.words.specs.Layout.{words, chilled};
+ghost use Rattle.words.specs.Layout.{words};
 ghost use Rattle.words.specs.Contents.{contents};
 ghost use Rattle.store.specs.Store as stores;
 use cells::cell;
@@ -20,7 +20,7 @@ fn less(from: u32, taken: u32) -> u32
 // "its need less (its own booked trays plus the subtree figures of its children), never below 0"
 pub fn missing(plan: &[u32; Plan::WORDS], store: usize, task: usize) -> u32
     requires { ⌜ stores.AtTask store task (contents (now plan)) ⌝ }
-    ensures { λ r. ⌜ r ≡ at (contents (now (plan .entry)) .chilled .needs) task - at (contents (now (plan .entry)) .chilled .figures) task ⌝ }
+    ensures { λ r. ⌜ r ≡ at (stores.storeAt store (contents (now (plan .entry))) .needs) task - at (stores.storeAt store (contents (now (plan .entry))) .figures) task ⌝ }
 {
     less(
         cell(plan, task, store + Plan::NEED),
@@ -30,8 +30,8 @@ pub fn missing(plan: &[u32; Plan::WORDS], store: usize, task: usize) -> u32
 
 // "If B + missing is at most M": what is booked is within the bound, so that the difference says it.
 pub fn has_room(plan: &[u32; Plan::WORDS], store: usize, units: u32) -> bool
-    requires { ⌜ (store ≡ chilled) × (contents (now plan) .chilled .total ≤ contents (now plan) .chilled .bound) ⌝ }
-    ensures { λ r. ⌜ r ≡ leb (contents (now (plan .entry)) .chilled .total + units) (contents (now (plan .entry)) .chilled .bound) ⌝ }
+    requires { ⌜ stores.AtStore store × (stores.storeAt store (contents (now plan)) .total ≤ stores.storeAt store (contents (now plan)) .bound) ⌝ }
+    ensures { λ r. ⌜ r ≡ leb (stores.storeAt store (contents (now (plan .entry))) .total + units) (stores.storeAt store (contents (now (plan .entry))) .bound) ⌝ }
 {
     let bound = cell(plan, Plan::HEAD, store + Plan::BOUND);
     let total = cell(plan, Plan::HEAD, store + Plan::TOTAL);
@@ -40,8 +40,8 @@ pub fn has_room(plan: &[u32; Plan::WORDS], store: usize, units: u32) -> bool
 
 // "the number of trays that step lacks": what B + missing has above M.
 pub fn shortage(plan: &[u32; Plan::WORDS], store: usize, units: u32) -> u32
-    requires { ⌜ (store ≡ chilled) × (contents (now plan) .chilled .total ≤ contents (now plan) .chilled .bound) ⌝ }
-    ensures { λ r. ⌜ r ≡ contents (now (plan .entry)) .chilled .total + units - contents (now (plan .entry)) .chilled .bound ⌝ }
+    requires { ⌜ stores.AtStore store × (stores.storeAt store (contents (now plan)) .total ≤ stores.storeAt store (contents (now plan)) .bound) ⌝ }
+    ensures { λ r. ⌜ r ≡ stores.storeAt store (contents (now (plan .entry))) .total + units - stores.storeAt store (contents (now (plan .entry))) .bound ⌝ }
 {
     let bound = cell(plan, Plan::HEAD, store + Plan::BOUND);
     let total = cell(plan, Plan::HEAD, store + Plan::TOTAL);
@@ -62,7 +62,7 @@ fn grow(plan: &mut [u32; Plan::WORDS], task: usize, column: usize, more: u32)
 // "it gets them": what a task misses, with its figure and its parent's.
 pub fn grant(plan: &mut [u32; Plan::WORDS], store: usize, task: usize, units: u32)
     requires { ⌜ stores.MayGrant store task units (contents (now plan)) ⌝ }
-    ensures { λ _. ⌜ contents (now (plan .exit)) ≡ stores.withStore (stores.granted (at (contents (now (plan .entry)) .parents) task) task units (contents (now (plan .entry)) .chilled)) (contents (now (plan .entry))) ⌝ }
+    ensures { λ _. ⌜ contents (now (plan .exit)) ≡ stores.withStoreAt store (stores.granted (at (contents (now (plan .entry)) .parents) task) task units) (contents (now (plan .entry))) ⌝ }
 {
     let parent = cell(plan, task, Plan::PARENT) as usize;
     let total = cell(plan, Plan::HEAD, store + Plan::TOTAL);
@@ -76,8 +76,8 @@ pub fn grant(plan: &mut [u32; Plan::WORDS], store: usize, task: usize, units: u3
 
 // What a task brings into use as it starts.
 pub fn load(plan: &mut [u32; Plan::WORDS], store: usize, task: usize)
-    requires { ⌜ stores.AtTask store task (contents (now plan)) × (contents (now plan) .chilled .used + (at (contents (now plan) .chilled .works) task + at (contents (now plan) .chilled .outs) task) < 2 ^ 32) ⌝ }
-    ensures { λ _. ⌜ contents (now (plan .exit)) ≡ stores.withStore (stores.loaded task (contents (now (plan .entry)) .chilled)) (contents (now (plan .entry))) ⌝ }
+    requires { ⌜ stores.AtTask store task (contents (now plan)) × (stores.storeAt store (contents (now plan)) .used + (at (stores.storeAt store (contents (now plan)) .works) task + at (stores.storeAt store (contents (now plan)) .outs) task) < 2 ^ 32) ⌝ }
+    ensures { λ _. ⌜ contents (now (plan .exit)) ≡ stores.withStoreAt store (stores.loaded task) (contents (now (plan .entry))) ⌝ }
 {
     let work = cell(plan, task, store + Plan::WORK);
     let out = cell(plan, task, store + Plan::OUT);
@@ -88,8 +88,8 @@ pub fn load(plan: &mut [u32; Plan::WORDS], store: usize, task: usize)
 // "Each step i on the way is one offer": what is left of R behind it.
 pub fn pass(plan: &mut [u32; Plan::WORDS], store: usize, task: usize, left: u32) -> u32
     requires { ⌜ stores.MayPass store task left (contents (now plan)) ⌝ }
-    ensures { λ r. ⌜ (contents (now (plan .exit)) ≡ stores.withStore (stores.passed task left (contents (now (plan .entry)) .chilled)) (contents (now (plan .entry))))
-        × (r ≡ left - stores.gift task left (contents (now (plan .entry)) .chilled)) ⌝ }
+    ensures { λ r. ⌜ (contents (now (plan .exit)) ≡ stores.withStoreAt store (stores.passed task left) (contents (now (plan .entry))))
+        × (r ≡ left - stores.gift task left (stores.storeAt store (contents (now (plan .entry))))) ⌝ }
 {
     let figure = cell(plan, task, store + Plan::FIGURE) - left;
     let gift = less(cell(plan, task, store + Plan::NEED), figure);
@@ -101,8 +101,8 @@ pub fn pass(plan: &mut [u32; Plan::WORDS], store: usize, task: usize, left: u32)
 
 // What is left of R at a waiting task is in no figure from there on.
 pub fn rest(plan: &mut [u32; Plan::WORDS], store: usize, task: usize, left: u32)
-    requires { ⌜ stores.AtTask store task (contents (now plan)) × (left ≤ at (contents (now plan) .chilled .figures) task) ⌝ }
-    ensures { λ _. ⌜ contents (now (plan .exit)) ≡ stores.withStore (stores.rested task left (contents (now (plan .entry)) .chilled)) (contents (now (plan .entry))) ⌝ }
+    requires { ⌜ stores.AtTask store task (contents (now plan)) × (left ≤ at (stores.storeAt store (contents (now plan)) .figures) task) ⌝ }
+    ensures { λ _. ⌜ contents (now (plan .exit)) ≡ stores.withStoreAt store (stores.rested task left) (contents (now (plan .entry))) ⌝ }
 {
     let figure = cell(plan, task, store + Plan::FIGURE);
     set_cell(plan, task, store + Plan::FIGURE, figure - left);
@@ -112,8 +112,8 @@ pub fn rest(plan: &mut [u32; Plan::WORDS], store: usize, task: usize, left: u32)
 // parent is given j's out, and R falls by it": what is left of R.
 pub fn release(plan: &mut [u32; Plan::WORDS], store: usize, task: usize) -> u32
     requires { ⌜ stores.MayRelease store task (contents (now plan)) ⌝ }
-    ensures { λ r. ⌜ (contents (now (plan .exit)) ≡ stores.withStore (stores.released (at (contents (now (plan .entry)) .parents) task) task (contents (now (plan .entry)) .chilled)) (contents (now (plan .entry))))
-        × (r ≡ at (contents (now (plan .entry)) .chilled .booked) task - at (contents (now (plan .entry)) .chilled .outs) task) ⌝ }
+    ensures { λ r. ⌜ (contents (now (plan .exit)) ≡ stores.withStoreAt store (stores.released (at (contents (now (plan .entry)) .parents) task) task) (contents (now (plan .entry))))
+        × (r ≡ at (stores.storeAt store (contents (now (plan .entry))) .booked) task - at (stores.storeAt store (contents (now (plan .entry))) .outs) task) ⌝ }
 {
     let parent = cell(plan, task, Plan::PARENT) as usize;
     let held = cell(plan, task, store + Plan::BOOKED);
@@ -131,7 +131,7 @@ pub fn release(plan: &mut [u32; Plan::WORDS], store: usize, task: usize) -> u32
 // is all that is booked, and all that is in use.
 pub fn hold_alone(plan: &mut [u32; Plan::WORDS], store: usize, task: usize, units: u32)
     requires { ⌜ stores.AtTask store task (contents (now plan)) ⌝ }
-    ensures { λ _. ⌜ contents (now (plan .exit)) ≡ stores.withStore (stores.heldAlone task units (contents (now (plan .entry)) .chilled)) (contents (now (plan .entry))) ⌝ }
+    ensures { λ _. ⌜ contents (now (plan .exit)) ≡ stores.withStoreAt store (stores.heldAlone task units) (contents (now (plan .entry))) ⌝ }
 {
     set_cell(plan, task, store + Plan::BOOKED, units);
     set_cell(plan, Plan::HEAD, store + Plan::TOTAL, units);
@@ -140,8 +140,8 @@ pub fn hold_alone(plan: &mut [u32; Plan::WORDS], store: usize, task: usize, unit
 
 // "What is left of R is free."
 pub fn free(plan: &mut [u32; Plan::WORDS], store: usize, left: u32)
-    requires { ⌜ (store ≡ chilled) × (contents (now plan) .extent ≡ words) × (left ≤ contents (now plan) .chilled .total) ⌝ }
-    ensures { λ _. ⌜ contents (now (plan .exit)) ≡ stores.withStore (stores.freed left (contents (now (plan .entry)) .chilled)) (contents (now (plan .entry))) ⌝ }
+    requires { ⌜ stores.AtStore store × (contents (now plan) .extent ≡ words) × (left ≤ stores.storeAt store (contents (now plan)) .total) ⌝ }
+    ensures { λ _. ⌜ contents (now (plan .exit)) ≡ stores.withStoreAt store (stores.freed left) (contents (now (plan .entry))) ⌝ }
 {
     let total = cell(plan, Plan::HEAD, store + Plan::TOTAL);
     set_cell(plan, Plan::HEAD, store + Plan::TOTAL, total - left);

@@ -20,7 +20,7 @@ unendedColumn = 3
 
 -- more in a need, and in a number of children
 module _ (w : List ℕ) (i more : ℕ) (long : length w ≡ words) (h : i < rows) where
-  need-at : at w (row * i + needColumn) ≡ at (contents w .chilled .needs) i
+  need-at : at w (row * i + needColumn) ≡ at (contents w .stores .chilled .needs) i
   unfolding contents storeContents
   need-at = column-at needColumn w i h
 
@@ -30,27 +30,27 @@ module _ (w : List ℕ) (i more : ℕ) (long : length w ≡ words) (h : i < rows
 
   need-plus :
       contents (set w (row * i + needColumn) (at w (row * i + needColumn) + more))
-      ≡ withFigures (plus (contents w .chilled .needs) i more) (contents w .unended) (contents w)
+      ≡ withFigures (plus (contents w .stores .chilled .needs) i more) (contents w .unended) (contents w)
   unfolding withCell storeWithCell withFigures withNeeds
   need-plus =
       contents-cell w long needColumn i (at w (row * i + needColumn) + more) (omega arith) h
       ∙ ap
-      (λ (x : ℕ). withFigures (set (contents w .chilled .needs) i (x + more)) (contents w .unended) (contents w))
+      (λ (x : ℕ). withFigures (set (contents w .stores .chilled .needs) i (x + more)) (contents w .unended) (contents w))
       need-at
 
   children-plus :
       contents (set w (row * i + unendedColumn) (at w (row * i + unendedColumn) + more))
-      ≡ withFigures (contents w .chilled .needs) (plus (contents w .unended) i more) (contents w)
+      ≡ withFigures (contents w .stores .chilled .needs) (plus (contents w .unended) i more) (contents w)
   unfolding withCell storeWithCell withFigures withNeeds
   children-plus =
       contents-cell w long unendedColumn i (at w (row * i + unendedColumn) + more) (omega arith) h
       ∙ ap
-      (λ (x : ℕ). withFigures (contents w .chilled .needs) (set (contents w .unended) i (x + more)) (contents w))
+      (λ (x : ℕ). withFigures (contents w .stores .chilled .needs) (set (contents w .unended) i (x + more)) (contents w))
       children-at
 
 -- task i adds to its own need, then to its parent's, then to its parent's children
 module _ (w : List ℕ) (i p work out : ℕ) (may : MayWeigh i (contents w)) (parent : p ≡ at (contents w .parents) i)
-    (works : work ≡ at (contents w .chilled .works) i) (outs : out ≡ at (contents w .chilled .outs) i) where
+    (works : work ≡ at (contents w .stores .chilled .works) i) (outs : out ≡ at (contents w .stores .chilled .outs) i) where
   long : length w ≡ words
   unfolding contents
   long = may .long
@@ -70,7 +70,7 @@ module _ (w : List ℕ) (i p work out : ℕ) (may : MayWeigh i (contents w)) (pa
         ap contents own
         ∙ need-plus w i (work + out) long (may .here)
         ∙ ap₂
-        (λ (a b : ℕ). withFigures (plus (contents w .chilled .needs) i (a + b)) (contents w .unended) (contents w))
+        (λ (a b : ℕ). withFigures (plus (contents w .stores .chilled .needs) i (a + b)) (contents w .unended) (contents w))
         works
         outs
 
@@ -81,7 +81,7 @@ module _ (w : List ℕ) (i p work out : ℕ) (may : MayWeigh i (contents w)) (pa
     unfolding withFigures withNeeds
     may-parent =
         let here : at w₁ (row * p + needColumn) ≡ at (ownNeed (contents w) i) (at (contents w .parents) i) =
-        need-at w₁ p 0 long₁ p-in ∙ ap₂ (λ (k : Contents) (q : ℕ). at (k .chilled .needs) q) after-own parent
+        need-at w₁ p 0 long₁ p-in ∙ ap₂ (λ (k : Contents) (q : ℕ). at (k .stores .chilled .needs) q) after-own parent
         in
         let fits = may .parent-fits in
         record { line-in = p-in; column-in = omega arith; fits = omega arith }
@@ -92,13 +92,13 @@ module _ (w : List ℕ) (i p work out : ℕ) (may : MayWeigh i (contents w)) (pa
 
       after-parent :
           contents w₂
-          ≡ withFigures (plus (ownNeed (contents w) i) (at (contents w .parents) i) (at (contents w .chilled .outs) i))
+          ≡ withFigures (plus (ownNeed (contents w) i) (at (contents w .parents) i) (at (contents w .stores .chilled .outs) i))
           (contents w .unended) (contents w)
       unfolding withFigures withNeeds
       after-parent =
           ap contents up
           ∙ need-plus w₁ p out long₁ p-in
-          ∙ ap (λ (k : Contents). withFigures (plus (k .chilled .needs) p out) (k .unended) k) after-own
+          ∙ ap (λ (k : Contents). withFigures (plus (k .stores .chilled .needs) p out) (k .unended) k) after-own
           ∙ ap₂ (λ (q x : ℕ). withFigures (plus (ownNeed (contents w) i) q x) (contents w .unended) (contents w)) parent outs
 
       pub may-child : MayAdd p unendedColumn 1 w₂
@@ -118,9 +118,9 @@ module _ (w : List ℕ) (i p work out : ℕ) (may : MayWeigh i (contents w)) (pa
       weighed-is w₃ child =
           ap contents child
           ∙ children-plus w₂ p 1 long₂ p-in
-          ∙ ap (λ (k : Contents). withFigures (k .chilled .needs) (plus (k .unended) p 1) k) after-parent
+          ∙ ap (λ (k : Contents). withFigures (k .stores .chilled .needs) (plus (k .unended) p 1) k) after-parent
           ∙ ap
           (λ (q : ℕ).
-          withFigures (plus (ownNeed (contents w) i) (at (contents w .parents) i) (at (contents w .chilled .outs) i))
+          withFigures (plus (ownNeed (contents w) i) (at (contents w .parents) i) (at (contents w .stores .chilled .outs) i))
           (plus (contents w .unended) q 1) (contents w))
           parent

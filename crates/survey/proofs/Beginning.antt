@@ -8,19 +8,23 @@ use lib.Dec.{eqb}
 use lib.ListN.{length, replicate, length-replicate, getD-replicate}
 use lib.Seq.{ext-getD}
 use borrow.Author.Tests.{eq-eqb, ne-eqb}
+use Rattle.rules.specs.Kind.{Kind, chilled, Each, of}
 use Rattle.rules.specs.Lists.{at}
 use Rattle.rules.specs.Need.{need}
 use Rattle.rules.specs.Standing.{running, finished}
+use Rattle.rules.specs.Booking.{bookedIn}
 use Rattle.rules.specs.Obey.{fresh}
 use Rattle.rules.specs.Invariant.{rankIn, Roomy}
+use Rattle.rules.proofs.EachStore.{each-same}
 use Rattle.rules.proofs.Sums.{count-none}
 use Rattle.rules.proofs.InDay.{fresh-good}
 use Rattle.words.specs.Layout.{rows, bits, blocks}
 use Rattle.words.specs.Contents.{Contents}
-use Rattle.store.specs.Rows.{rowsOf, books, activationOf, executionOf}
-use Rattle.store.specs.Cached.{isReadyAt}
+use Rattle.store.specs.Rows.{rowsOf, books, termsIn, activationOf, executionOf}
+use Rattle.store.specs.Cached.{isReadyAt, StoreCached}
 use Rattle.store.specs.Kept.{Kept}
 use Rattle.store.proofs.Rows.{rows-length, rows-is}
+use Rattle.store.proofs.InStore.{by-kind}
 use Rattle.survey.specs.Prepare.{withNeeds, withFigures, MayPrepare, Prepared}
 use Rattle.survey.proofs.Weighing.{Partly, WeighedTo, counts-are, needs-are}
 use Rattle.survey.proofs.Nothing.{digits-none, no-count, not-ready, all-unended, no-use, no-total, no-figure}
@@ -36,7 +40,8 @@ rows-fresh n l long none =
     let size = rows-length n l long in
     rows-zero n l none i ∙ sym (getD-replicate (suc n) i 0 0 (omega arith)))
 
-module _ (c : Contents) (may : MayPrepare c) (long-standings : length (c .standings) ≡ rows) (long-booked : length (c .chilled .booked) ≡ rows) where
+module _ (c : Contents) (may : MayPrepare c) (long-standings : length (c .standings) ≡ rows)
+    (long-booked : (k : Kind) → length (of (c .stores) k .booked) ≡ rows) where
   abbrev n : ℕ
   n = c .size
 
@@ -44,24 +49,47 @@ module _ (c : Contents) (may : MayPrepare c) (long-standings : length (c .standi
   unfolding fresh
   fresh-is =
       let small = may .small in
-      ap₂ (λ (st b : List ℕ). record { standings = st; booked = b })
+      ap₂ (λ (st : List ℕ) (b : Each (List ℕ)). record { standings = st; booked = b })
       (rows-fresh n (c .standings) (omega arith) (may .rest .standings))
-      (rows-fresh n (c .chilled .booked) (omega arith) (may .rest .booked))
+      (each-same (λ k. rowsOf n (of (c .stores) k .booked)) (λ _. replicate (suc n) 0)
+      (λ k. let long = long-booked k in rows-fresh n (of (c .stores) k .booked) (omega arith) (may .rest .booked k)))
 
   -- every task waits, and nothing is booked
   waits : (a : ℕ) → at (books c .standings) a ≡ 0
   waits = rows-zero n (c .standings) (may .rest .standings)
 
-  unbooked : (a : ℕ) → at (books c .booked) a ≡ 0
-  unbooked = rows-zero n (c .chilled .booked) (may .rest .booked)
+  unbooked : (k : Kind) (a : ℕ) → at (rowsOf n (of (c .stores) k .booked)) a ≡ 0
+  unbooked k = rows-zero n (of (c .stores) k .booked) (may .rest .booked k)
 
   module _ (needs unended : List ℕ) (partly : Partly c n needs unended) where
-    needed : (i : ℕ) → at needs i ≡ need n (at (c .parents)) (at (c .chilled .works)) (at (c .chilled .outs)) i
+    needed : (i : ℕ) → at needs i ≡ need n (at (c .parents)) (at (c .stores .chilled .works)) (at (c .stores .chilled .outs)) i
     needed = needs-are c may n needs unended partly (omega arith)
 
-    roomy : Roomy n (at (c .parents)) (at needs) (at (c .chilled .outs))
+    roomy : Roomy n (at (c .parents)) (at needs) (at (c .stores .chilled .outs))
     unfolding need
     roomy i t = let room = needed i in omega arith
+
+    -- the cold room is the one that is weighed
+    abbrev then : Contents
+    then = withFigures needs unended c
+
+    store : (k : Kind) → StoreCached n (at (c .parents)) (at (books c .standings)) (bookedIn (books then) k) (of (then .stores) k)
+    unfolding withFigures withNeeds
+    store chilled =
+        record {
+          needed = needed;
+          figured =
+              λ i t.
+              may .rest .figures chilled i
+              ∙ sym (no-figure n (books c .standings) waits (books c .booked .chilled) (unbooked chilled) (at (c .parents)) i);
+          totals = may .rest .total chilled ∙ sym (no-total n (books c .booked .chilled) (unbooked chilled));
+          uses =
+              may .rest .used chilled
+              ∙ sym
+              (no-use n (books c .standings) waits (at (c .parents)) (at (c .stores .chilled .works)) (at (c .stores .chilled .outs)));
+          booked-zero = λ a _. may .rest .booked chilled a;
+          figures-zero = λ a _. may .rest .figures chilled a;
+        }
 
     kept : Kept (withFigures needs unended c)
     unfolding withFigures withNeeds
@@ -70,13 +98,11 @@ module _ (c : Contents) (may : MayPrepare c) (long-standings : length (c .standi
           invariant =
               record {
                 small = may .small;
-                bounded = may .bounded;
+                bounded = by-kind _ (may .bounded);
                 valid = may .valid;
                 parents = may .parents;
-                roomy = roomy;
-                good =
-                    rw fresh-is
-                    (fresh-good n (at (c .parents)) (rankIn (activationOf c)) (at needs) (at (c .chilled .outs)) (c .chilled .bound));
+                roomy = by-kind _ roomy;
+                good = rw fresh-is (fresh-good n (at (c .parents)) (rankIn (activationOf c)) (termsIn (withFigures needs unended c)));
               };
           cached =
               record {
@@ -115,21 +141,7 @@ module _ (c : Contents) (may : MayPrepare c) (long-standings : length (c .standi
                     counts-are c may n needs unended partly (omega arith) a
                     ∙ count-none (λ k. eqb (at (c .parents) k) a) n
                     (λ k _. let p = may .parents k in ne-eqb (at (c .parents) k) a (λ e. omega arith));
-                store =
-                    record {
-                      needed = needed;
-                      figured =
-                          λ i t.
-                          may .rest .figures i
-                          ∙ sym (no-figure n (books c .standings) waits (books c .booked) unbooked (at (c .parents)) i);
-                      totals = may .rest .total ∙ sym (no-total n (books c .booked) unbooked);
-                      uses =
-                          may .rest .used
-                          ∙ sym
-                          (no-use n (books c .standings) waits (at (c .parents)) (at (c .chilled .works)) (at (c .chilled .outs)));
-                      booked-zero = λ a _. may .rest .booked a;
-                      figures-zero = λ a _. may .rest .figures a;
-                    };
+                stores = store;
               };
         }
 

@@ -8,6 +8,7 @@ use mathlib.Core.Logic.{⊎-elim}
 use lib.Dec.{eqb}
 use lib.ListN.{length, length-set}
 use borrow.Author.Tests.{ne-eqb}
+use Rattle.rules.specs.Kind.{chilled}
 use Rattle.rules.specs.Sums.{Task, only, sumTo, countTo}
 use Rattle.rules.specs.Lists.{at}
 use Rattle.rules.specs.Need.{children, need}
@@ -32,7 +33,7 @@ adds par work out i c = only (eqb c i) (work c + out c) + only (eqb (par c) i) (
 pub record Partly (c : Contents) (k : ℕ) (needs unended : List ℕ) : Type 0 where
   pub long : (length needs ≡ rows) × (length unended ≡ rows)
   pub within : k ≤ c .size
-  pub needed : (i : ℕ) → at needs i ≡ sumTo (adds (at (c .parents)) (at (c .chilled .works)) (at (c .chilled .outs)) i) k
+  pub needed : (i : ℕ) → at needs i ≡ sumTo (adds (at (c .parents)) (at (c .stores .chilled .works)) (at (c .stores .chilled .outs)) i) k
   pub counted : (i : ℕ) → at unended i ≡ countTo (λ j. eqb (at (c .parents) j) i) k
 
 -- what is left of a plan then
@@ -47,24 +48,24 @@ module _ (c : Contents) (may : MayPrepare c) where
   par = at (c .parents)
 
   abbrev work : ℕ → ℕ
-  work = at (c .chilled .works)
+  work = at (c .stores .chilled .works)
 
   abbrev out : ℕ → ℕ
-  out = at (c .chilled .outs)
+  out = at (c .stores .chilled .outs)
 
   -- nothing is weighed
-  pub weighed-none : length (c .chilled .needs) ≡ rows → length (c .unended) ≡ rows → WeighedTo c 0 c
+  pub weighed-none : length (c .stores .chilled .needs) ≡ rows → length (c .unended) ≡ rows → WeighedTo c 0 c
   unfolding withFigures withNeeds sumTo countTo
   weighed-none long-needs long-unended =
       record {
-        needs = c .chilled .needs;
+        needs = c .stores .chilled .needs;
         unended = c .unended;
         same = refl;
         partly =
             record {
               long = (long-needs, long-unended);
               within = omega arith;
-              needed = may .rest .needs;
+              needed = may .rest .needs chilled;
               counted = may .rest .unended;
             };
       }

@@ -4,6 +4,7 @@ use mathlib.Core.List.{List}
 use Prim.Native.Nat.{ℕ, _+_, _*_, _^_, _≤_, _<_}
 use lib.Dec.{eqb}
 use lib.ListN.{set}
+use Rattle.rules.specs.Kind.{chilled, put}
 use Rattle.rules.specs.Sums.{countTo}
 use Rattle.rules.specs.Lists.{at}
 use Rattle.rules.specs.Limits.{maxTasks, maxCount}
@@ -49,7 +50,7 @@ withFigures needs unended c =
       places = c .places;
       unended = unended;
       standings = c .standings;
-      chilled = withNeeds needs (c .chilled);
+      stores = put chilled (withNeeds needs (c .stores .chilled)) (c .stores);
       activation = c .activation;
       execution = c .execution;
       ready = c .ready;
@@ -68,20 +69,20 @@ plus l i more = set l i (at l i + more)
 
 -- task i adds its work and its out to its own need
 abbrev pub ownNeed : Contents → ℕ → List ℕ
-ownNeed c i = plus (c .chilled .needs) i (at (c .chilled .works) i + at (c .chilled .outs) i)
+ownNeed c i = plus (c .stores .chilled .needs) i (at (c .stores .chilled .works) i + at (c .stores .chilled .outs) i)
 
 -- and its out and itself to the need and the children of its parent
 unfoldable pub weighed : ℕ → Contents → Contents
 weighed i c =
-    withFigures (plus (ownNeed c i) (at (c .parents) i) (at (c .chilled .outs) i)) (plus (c .unended) (at (c .parents) i) 1) c
+    withFigures (plus (ownNeed c i) (at (c .parents) i) (at (c .stores .chilled .outs) i)) (plus (c .unended) (at (c .parents) i) 1) c
 
 -- that all this fits
 pub record MayWeigh (i : ℕ) (c : Contents) : Type 0 where
   pub long : c .extent ≡ words
   pub here : i < rows
   pub parent-in : at (c .parents) i < rows
-  pub own-fits : at (c .chilled .needs) i + (at (c .chilled .works) i + at (c .chilled .outs) i) < 2 ^ 32
-  pub parent-fits : at (ownNeed c i) (at (c .parents) i) + at (c .chilled .outs) i < 2 ^ 32
+  pub own-fits : at (c .stores .chilled .needs) i + (at (c .stores .chilled .works) i + at (c .stores .chilled .outs) i) < 2 ^ 32
+  pub parent-fits : at (ownNeed c i) (at (c .parents) i) + at (c .stores .chilled .outs) i < 2 ^ 32
   pub children-fit : at (c .unended) (at (c .parents) i) + 1 < 2 ^ 32
 
 -- a column of counts, with nothing for nobody and nothing past the tasks
@@ -94,10 +95,10 @@ pub record Counts (n : ℕ) (l : List ℕ) : Type 0 where
 pub record MayPrepare (c : Contents) : Type 0 where
   pub long : c .extent ≡ words
   pub small : c .size ≤ maxTasks
-  pub bounded : c .chilled .bound < 2 ^ 32
+  pub bounded : c .stores .chilled .bound < 2 ^ 32
   pub parents : (i : ℕ) → at (c .parents) i ≤ c .size
-  pub works : Counts (c .size) (c .chilled .works)
-  pub outs : Counts (c .size) (c .chilled .outs)
+  pub works : Counts (c .size) (c .stores .chilled .works)
+  pub outs : Counts (c .size) (c .stores .chilled .outs)
   pub valid : Valid (c .size) (at (c .parents)) (activationOf c)
   pub placed : Placed (c .size) (executionOf c) (at (c .places))
   pub rest : AtRest c
@@ -108,4 +109,4 @@ pub record Prepared (c c′ : Contents) : Type 0 where
   pub books : books c′ ≡ fresh (c .size)
   pub idle : c′ .active ≡ 0
   pub children : (i : ℕ) → at (c′ .unended) i ≡ countTo (λ k. eqb (at (c .parents) k) i) (c .size)
-  pub same : c′ ≡ withFigures (c′ .chilled .needs) (c′ .unended) c
+  pub same : c′ ≡ withFigures (c′ .stores .chilled .needs) (c′ .unended) c

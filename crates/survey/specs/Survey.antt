@@ -4,11 +4,13 @@ use mathlib.Core.List.{List}
 use Prim.Native.Nat.{ℕ}
 use lib.Dec.{eqb}
 use lib.ListN.{take}
+use Rattle.rules.specs.Kind.{chilled}
 use Rattle.rules.specs.Lists.{at}
 use Rattle.rules.specs.Peak
+use Rattle.rules.specs.Tasks
 use Rattle.rules.specs.Grounds.{demand}
 use Rattle.words.specs.Contents.{Contents}
-use Rattle.store.specs.Rows.{activationOf}
+use Rattle.store.specs.Rows.{tasksOf, activationOf}
 use Rattle.store.specs.Cached.{Placed}
 use Rattle.survey.specs.Checks.{Parented}
 
@@ -34,5 +36,5 @@ groundOf c = orderGround (c .size) (at (c .parents)) (activationOf c)
 abbrev pub peakedOf : Contents → Peak.Peaked
 peakedOf c =
     cond (eqb (groundOf c) 0)
-    (Peak.peaked (c .size) (at (c .parents)) (at (c .chilled .works)) (at (c .chilled .outs)) (activationOf c))
+    (Tasks.peaked (tasksOf c chilled) (activationOf c))
     Peak.noPeak

@@ -8,12 +8,19 @@ use native.Mathlib.Omega.{arith}
 use lib.ListN.{length, set, length-set}
 use lib.Seq.{getD-set-same, getD-set-other}
 use borrow.Author.Tests.{eq-eqb, ne-eqb}
+use Rattle.rules.specs.Kind.{Kind, of, each}
+use Rattle.rules.specs.Kind
 use Rattle.rules.specs.Lists.{at}
 use Rattle.rules.proofs.Tests.{same-or-not}
-use Rattle.words.specs.Layout.{row, rows, words, headBase, entries, activationBase, executionBase, blocks, readyBase, filledWord, chilled}
+use Rattle.rules.proofs.EachStore.{of-each}
+use Rattle.words.specs.Layout.{row, rows, words, headBase, entries, activationBase, executionBase, blocks, readyBase, filledWord, offset}
 use Rattle.words.specs.Views.{column, part}
 use Rattle.words.specs.Contents.{Contents, headWord, storeContents, contents, renewed, edited, storeWithCell, withCell, storeWithHead, withHead, withOrders, withReady}
 use Rattle.words.proofs.Views.{view-other, column-length, column-set, part-length, part-set}
+
+-- the columns of a store are in the row
+pub offset-in : (k : Kind) → offset k + 5 ≤ row
+offset-in Kind.chilled = omega arith
 
 -- a word of a row of a task is written
 module _ (w : List ℕ) (long : length w ≡ words) (j i x : ℕ) (in-row : j < row) (in-rows : i < rows) where
@@ -73,7 +80,7 @@ module _ (w : List ℕ) (long : length w ≡ words) (j i x : ℕ) (in-row : j < 
         places = column-edited 2 (omega arith) z;
         unended = column-edited 3 (omega arith) z;
         standings = column-edited 4 (omega arith) z;
-        chilled = store-cell chilled (omega arith) z;
+        stores = each (λ k. store-cell (offset k) (offset-in k) z);
         activation = beside-rows activationBase entries (omega arith) z;
         execution = beside-rows executionBase entries (omega arith) z;
         ready = beside-rows readyBase blocks (omega arith) z;
@@ -138,7 +145,7 @@ module _ (w : List ℕ) (long : length w ≡ words) (j x : ℕ) (in-row : j < ro
         places = column-beside-head 2 (omega arith) z;
         unended = column-beside-head 3 (omega arith) z;
         standings = column-beside-head 4 (omega arith) z;
-        chilled = store-head chilled (omega arith) z;
+        stores = each (λ k. store-head (offset k) (offset-in k) z);
         activation = part-beside-head activationBase entries (omega arith) z;
         execution = part-beside-head executionBase entries (omega arith) z;
         ready = part-beside-head readyBase blocks (omega arith) z;
@@ -191,7 +198,7 @@ module _ (w : List ℕ) (q x : ℕ) (behind : activationBase ≤ q) where
         places = column-before 2 (omega arith) z;
         unended = column-before 3 (omega arith) z;
         standings = column-before 4 (omega arith) z;
-        chilled = store-before chilled (omega arith) z;
+        stores = each (λ k. store-before (offset k) (offset-in k) z);
         activation = part activationBase entries (set w q x);
         execution = part executionBase entries (set w q x);
         ready = part readyBase blocks (set w q x);
@@ -266,11 +273,11 @@ pub record Lengths (c : Contents) : Type 0 where
   pub places : length (c .places) ≡ rows
   pub unended : length (c .unended) ≡ rows
   pub standings : length (c .standings) ≡ rows
-  pub works : length (c .chilled .works) ≡ rows
-  pub outs : length (c .chilled .outs) ≡ rows
-  pub needs : length (c .chilled .needs) ≡ rows
-  pub booked : length (c .chilled .booked) ≡ rows
-  pub figures : length (c .chilled .figures) ≡ rows
+  pub works : (k : Kind) → length (of (c .stores) k .works) ≡ rows
+  pub outs : (k : Kind) → length (of (c .stores) k .outs) ≡ rows
+  pub needs : (k : Kind) → length (of (c .stores) k .needs) ≡ rows
+  pub booked : (k : Kind) → length (of (c .stores) k .booked) ≡ rows
+  pub figures : (k : Kind) → length (of (c .stores) k .figures) ≡ rows
   pub activation : length (c .activation) ≡ entries
   pub execution : length (c .execution) ≡ entries
   pub ready : length (c .ready) ≡ blocks
@@ -284,11 +291,11 @@ lengths w =
       places = column-length 2 w;
       unended = column-length 3 w;
       standings = column-length 4 w;
-      works = column-length 5 w;
-      outs = column-length 6 w;
-      needs = column-length 7 w;
-      booked = column-length 8 w;
-      figures = column-length 9 w;
+      works = λ k. rw (of-each (λ d. storeContents (offset d) w) k) (column-length (offset k) w);
+      outs = λ k. rw (of-each (λ d. storeContents (offset d) w) k) (column-length (offset k + 1) w);
+      needs = λ k. rw (of-each (λ d. storeContents (offset d) w) k) (column-length (offset k + 2) w);
+      booked = λ k. rw (of-each (λ d. storeContents (offset d) w) k) (column-length (offset k + 3) w);
+      figures = λ k. rw (of-each (λ d. storeContents (offset d) w) k) (column-length (offset k + 4) w);
       activation = part-length activationBase entries w;
       execution = part-length executionBase entries w;
       ready = part-length readyBase blocks w;

@@ -4,8 +4,9 @@ use mathlib.Core.List.{List}
 use Prim.Native.Nat.{ℕ, _+_}
 use lib.Dec.{eqb}
 use lib.ListN.{length, set}
+use Rattle.rules.specs.Kind.{Each, of, each}
 use Rattle.rules.specs.Lists.{at}
-use Rattle.words.specs.Layout.{headBase, entries, activationBase, executionBase, blocks, readyBase, filledWord, chilled}
+use Rattle.words.specs.Layout.{headBase, entries, activationBase, executionBase, blocks, readyBase, filledWord, offset}
 use Rattle.words.specs.Views.{column, part}
 
 -- of a store: its bound, what is booked and what is in use of it, and its columns
@@ -40,8 +41,8 @@ pub record Contents : Type 0 where
   pub places : List ℕ
   pub unended : List ℕ
   pub standings : List ℕ
-  -- the store
-  pub chilled : StoreContents
+  -- the stores
+  pub stores : Each StoreContents
   -- the orders and the ready set
   pub activation : List ℕ
   pub execution : List ℕ
@@ -83,7 +84,7 @@ contents w =
       places = column 2 w;
       unended = column 3 w;
       standings = column 4 w;
-      chilled = storeContents chilled w;
+      stores = each (λ k. storeContents (offset k) w);
       activation = part activationBase entries w;
       execution = part executionBase entries w;
       ready = part readyBase blocks w;
@@ -129,7 +130,7 @@ withCell j i x c =
       places = edited 2 j i x (c .places);
       unended = edited 3 j i x (c .unended);
       standings = edited 4 j i x (c .standings);
-      chilled = storeWithCell chilled j i x (c .chilled);
+      stores = each (λ k. storeWithCell (offset k) j i x (of (c .stores) k));
       activation = c .activation;
       execution = c .execution;
       ready = c .ready;
@@ -168,7 +169,7 @@ withHead j x c =
       places = c .places;
       unended = c .unended;
       standings = c .standings;
-      chilled = storeWithHead chilled j x (c .chilled);
+      stores = each (λ k. storeWithHead (offset k) j x (of (c .stores) k));
       activation = c .activation;
       execution = c .execution;
       ready = c .ready;
@@ -194,7 +195,7 @@ withOrders activation execution c =
       places = c .places;
       unended = c .unended;
       standings = c .standings;
-      chilled = c .chilled;
+      stores = c .stores;
       activation = activation;
       execution = execution;
       ready = c .ready;
@@ -219,7 +220,7 @@ withReady ready filled c =
       places = c .places;
       unended = c .unended;
       standings = c .standings;
-      chilled = c .chilled;
+      stores = c .stores;
       activation = c .activation;
       execution = c .execution;
       ready = ready;

@@ -1,5 +1,7 @@
 -- Where the words of a plan lie. The names are those of the constants of the plan type.
 use Prim.Native.Nat.{ℕ}
+use Rattle.rules.specs.Kind.{Kind}
+use Rattle.rules.specs.Kind
 
 -- the words of a row
 abbrev pub row : ℕ
@@ -53,6 +55,14 @@ standing = 4
 abbrev pub next : ℕ
 next = 9
 
--- the offset of the store in a row
+-- the offset of the cold room in a row
 abbrev pub chilled : ℕ
 chilled = 5
+
+-- of the store of a kind
+abbrev pub offset : Kind → ℕ
+offset Kind.chilled = chilled
+
+-- the kind of the store at an offset
+abbrev pub kindAt : ℕ → Kind
+kindAt store = Kind.chilled

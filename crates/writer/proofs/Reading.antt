@@ -20,12 +20,12 @@ module _ {w : List ℕ} {task : ℕ} (t : WholeTask w task) where
   parent-read =
       column-at 0 w task row-in ∙ ap (λ (f : ℕ → ℕ). f task) (sym (parents-meant (contents w) (t .plan .valid .sound)))
 
-  pub work-read : at w (row * task + 5) ≡ at (planOf w .chilled .works) task
+  pub work-read : at w (row * task + 5) ≡ at (planOf w .stores .chilled .works) task
   unfolding contents storeContents
   work-read =
       column-at 5 w task row-in ∙ ap (λ (f : ℕ → ℕ). f task) (sym (works-meant (contents w) (t .plan .valid .sound)))
 
-  pub out-read : at w (row * task + 6) ≡ at (planOf w .chilled .outs) task
+  pub out-read : at w (row * task + 6) ≡ at (planOf w .stores .chilled .outs) task
   unfolding contents storeContents
   out-read =
       column-at 6 w task row-in ∙ ap (λ (f : ℕ → ℕ). f task) (sym (outs-meant (contents w) (t .plan .valid .sound)))

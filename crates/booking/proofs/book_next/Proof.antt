@@ -1,21 +1,25 @@
 -- `book_next` meets its contract: the next task is read, tested and booked.
 use mathlib.Core.Path.{_≡_, refl, sym, ap, ap₂, subst, _∙_}
-use mathlib.Core.Bool.{Bool, true, false≢true}
+use mathlib.Core.Bool.{true, false≢true}
 use Prim.Native.Nat.{ℕ, _+_, _-_, _<_}
 use native.Mathlib.Omega.{arith}
 use lib.Dec.{leb}
 use borrow.Author.Needs.{needs}
 use borrow.Author.Tests.{not-true, not-false}
+use Rattle.rules.specs.Kind.{all}
+use Rattle.rules.specs.Kind
 use Rattle.rules.specs.Lists.{at}
 use Rattle.words.specs.Layout.{next}
 use Rattle.words.specs.Contents.{Contents, contents, withHead}
 use Rattle.words.proofs.Contents.{lengths, contents-head}
 use Rattle.store.specs.Store.{granted, withStore}
+use Rattle.store.proofs.InStore.{total-within}
 use Rattle.booking.specs.Booked.{DidActivate, allowsNext}
 use Rattle.booking.proofs.Booking.{
   nextTask,
   lacking,
   grantedNext,
+  roomIn,
   next-in,
   tested,
   may-grant,
@@ -40,27 +44,29 @@ task-is c = c .entry .ensures ∙ next-read (c .before .before .args .plan .now)
 missing-requires : tie.Need-missing-requires
 missing-requires c κs =
     let s = c .before .before .before in
-    rw (task-is (c .before)) (next-in (s .pre .kept) (lengths (s .args .plan .now)) (more s))
+    rw (task-is (c .before)) (next-in (s .pre .kept) (lengths (s .args .plan .now)) (more s) Kind.chilled)
 
 abbrev start : tie.After-missing → tie.Start
 start c = c .before .before .before .before
 
-units-are : (c : tie.After-missing) → c .missing .result ≡ lacking (old (start c))
+units-are : (c : tie.After-missing) → c .missing .result ≡ lacking (old (start c)) Kind.chilled
 units-are c =
     c .missing .ensures
-    ∙ ap (λ (t : ℕ). at (old (start c) .chilled .needs) t - at (old (start c) .chilled .figures) t) (task-is (c .before .before))
+    ∙ ap (λ (t : ℕ). at (old (start c) .stores .chilled .needs) t - at (old (start c) .stores .chilled .figures) t) (task-is (c .before .before))
 
 -- whether it fits
-abbrev roomy : Contents → Bool
-roomy c = leb (c .chilled .total + lacking c) (c .chilled .bound)
+has-room-requires : tie.Need-has-room-requires
+has-room-requires c κs =
+    let s = start (c .before) in (record { offset = refl; inside = omega arith }, total-within (s .pre .kept) Kind.chilled)
 
-room-is : (c : tie.After-has-room) → c .has-room .result ≡ roomy (old (start (c .before .before)))
+room-is : (c : tie.After-has-room) → c .has-room .result ≡ roomIn (old (start (c .before .before))) Kind.chilled
 room-is c =
     let s = start (c .before .before) in
     c .has-room .ensures
-    ∙ ap (λ (u : ℕ). leb (old s .chilled .total + u) (old s .chilled .bound)) (units-are (c .before .before))
+    ∙ ap (λ (u : ℕ). leb (old s .stores .chilled .total + u) (old s .stores .chilled .bound)) (units-are (c .before .before))
 
 tested-is : (c : tie.After-has-room) → c .has-room .result ≡ allowsNext (old (start (c .before .before)))
+unfolding all
 tested-is c =
     let s = start (c .before .before) in
     room-is c ∙ tested (s .pre .kept) (lengths (s .args .plan .now)) (more s)
@@ -77,7 +83,8 @@ returns c =
 abbrev begin : tie.Else1 → tie.Start
 begin c = start (c .before .before .before)
 
-fits : (c : tie.Else1) → roomy (old (begin c)) ≡ true
+fits : (c : tie.Else1) → all (roomIn (old (begin c))) ≡ true
+unfolding all
 fits c = sym (room-is (c .before)) ∙ not-false (c .before .has-room .result) (c .if1 .left)
 
 grant-requires : tie.Need-grant-requires
@@ -90,7 +97,7 @@ granted-is : (c : tie.After-grant) → contents (c .grant .last .0) ≡ grantedN
 granted-is c =
     let s = begin (c .before .before) in
     c .grant .ensures
-    ∙ ap₂ (λ (t u : ℕ). withStore (granted (at (old s .parents) t) t u (old s .chilled)) (old s))
+    ∙ ap₂ (λ (t u : ℕ). withStore Kind.chilled (granted (at (old s .parents) t) t u (old s .stores .chilled)) (old s))
     (task-is (c .before .before .before .before .before .before .before)) (units-are (c .before .before .before .before .before))
 
 activate-requires : tie.Need-activate-requires
@@ -132,5 +139,5 @@ returns-2 c =
 pub book-next-spec : {M : Type 1} → statement M
 book-next-spec =
     tie.close
-    (tie.spec (λ c κs. search needs) (λ c. search needs) missing-requires (λ c κs. search needs) returns grant-requires
+    (tie.spec (λ c κs. search needs) (λ c. search needs) missing-requires has-room-requires returns grant-requires
     activate-requires (λ c. search needs) (λ c. search needs) (λ c κs. search needs) returns-2)

@@ -3,6 +3,7 @@ use mathlib.Core.Path.{_≡_, refl, ap, _∙_}
 use Prim.Native.Nat.{ℕ}
 use native.Mathlib.Omega.{arith}
 use borrow.Author.Needs.{needs}
+use Rattle.rules.specs.Kind
 use Rattle.rules.specs.Lists.{at}
 use Rattle.words.specs.Contents.{Contents, contents, storeContents}
 use Rattle.words.proofs.Views.{column-at}
@@ -22,20 +23,21 @@ hold-alone-requires c κs =
     record {
       long = ap (λ (d : Contents). d .extent) (e .end .ensures) ∙ s .pre .long;
       offset = refl;
+      inside = omega arith;
       task-in = s .pre .task-in;
     }
 
 -- the out that is read is the task's
 out : (c : tie.After-cell)
     → c .cell .result
-    ≡ at (contents (c .before .before .before .before .args .plan .now) .chilled .outs) (c .before .before .before .before .args .task)
+    ≡ at (contents (c .before .before .before .before .args .plan .now) .stores .chilled .outs) (c .before .before .before .before .args .task)
 unfolding contents storeContents ended withProgress
 out c =
     let e = c .before .before in
     let s = e .before .before in
     c .cell .ensures
     ∙ column-at 6 (e .end .last .0) (s .args .task) (s .pre .task-in)
-    ∙ ap (λ (d : Contents). at (d .chilled .outs) (s .args .task)) (e .end .ensures)
+    ∙ ap (λ (d : Contents). at (d .stores .chilled .outs) (s .args .task)) (e .end .ensures)
 
 returns : tie.Need-returns
 unfolding rootEnded ended withProgress
@@ -44,10 +46,10 @@ returns c =
     let e = k .before .before in
     let s = e .before .before in
     c .hold-alone .ensures
-    ∙ ap (λ (v : ℕ). withStore (heldAlone (s .args .task) v (contents (e .end .last .0) .chilled)) (contents (e .end .last .0))) (out k)
+    ∙ ap (λ (v : ℕ). withStore Kind.chilled (heldAlone (s .args .task) v (contents (e .end .last .0) .stores .chilled)) (contents (e .end .last .0))) (out k)
     ∙ ap
     (λ (d : Contents).
-    withStore (heldAlone (s .args .task) (at (contents (s .args .plan .now) .chilled .outs) (s .args .task)) (d .chilled)) d)
+    withStore Kind.chilled (heldAlone (s .args .task) (at (contents (s .args .plan .now) .stores .chilled .outs) (s .args .task)) (d .stores .chilled)) d)
     (e .end .ensures)
 
 pub end-root-spec : {M : Type 1} → statement M

@@ -3,6 +3,8 @@ use mathlib.Core.Path.{_≡_, refl, sym, ap, ap₂, _∙_}
 use Prim.Native.Nat.{ℕ, _+_, _-_}
 use native.Mathlib.Omega.{arith}
 use borrow.Author.Needs.{needs}
+use Rattle.rules.specs.Kind.{each}
+use Rattle.rules.specs.Kind
 use Rattle.rules.specs.Lists.{at}
 use Rattle.rules.specs.Why as rules
 use Rattle.words.specs.Contents.{Contents, contents}
@@ -51,29 +53,30 @@ cast-first c =
 missing-requires : tie.Need-missing-requires
 missing-requires c κs =
     let s = c .before .before in
-    rw (first-is c) (next-in (kept s) (lengths (s .args .plan .now)) (s .pre .more))
+    rw (first-is c) (next-in (kept s) (lengths (s .args .plan .now)) (s .pre .more) Kind.chilled)
 
 shortage-requires : tie.Need-shortage-requires
 shortage-requires c κs =
     let s = c .before .before .before in (
-      refl,
+      record { offset = refl; inside = omega arith },
       within-bound (plan s) (s .pre .valid .reached) (s .pre .valid .sound) (s .pre .runs) (lengths (s .args .plan .now)),
     )
 
 returns : tie.Need-returns
+unfolding rules.lacks
 returns c =
     let s = c .before .before .before .before in
     let p = plan s in
     let first = next-first p (s .pre .valid .reached) (s .pre .valid .sound) (s .pre .runs) (lengths (s .args .plan .now)) (s .pre .more) in
     let lack = next-lack p (s .pre .valid .reached) (s .pre .valid .sound) (s .pre .runs) (lengths (s .args .plan .now)) (s .pre .more) in
-    let units : c .before .missing .result ≡ lacking p =
-    c .before .missing .ensures ∙ ap (λ (t : ℕ). at (p .chilled .needs) t - at (p .chilled .figures) t) (first-is (c .before .before))
+    let units : c .before .missing .result ≡ lacking p Kind.chilled =
+    c .before .missing .ensures ∙ ap (λ (t : ℕ). at (p .stores .chilled .needs) t - at (p .stores .chilled .figures) t) (first-is (c .before .before))
     in
-    ap₂ rules.notBooked (first-is (c .before .before) ∙ sym first)
+    ap₂ (λ (x lack : ℕ). rules.notBooked x (each (λ _. lack))) (first-is (c .before .before) ∙ sym first)
     (c .shortage .ensures
-    ∙ ap (λ (u : ℕ). p .chilled .total + u - p .chilled .bound) units
+    ∙ ap (λ (u : ℕ). p .stores .chilled .total + u - p .stores .chilled .bound) units
     ∙ sym lack
-    ∙ ap (rules.lackIn (meaning p) (meaning p .chilled)) (sym first))
+    ∙ ap (rules.lackIn (meaning p) (meaning p .stores .chilled)) (sym first))
 
 pub not-booked-spec : {M : Type 1} → statement M
 not-booked-spec =

@@ -4,6 +4,7 @@ use Prim.Native.Nat.{_<_, _≤_}
 use native.Mathlib.Omega.{arith}
 use borrow.Author.Needs.{needs}
 use lib.Seq.{getD-take}
+use Rattle.rules.specs.Kind
 use Rattle.rules.specs.Lists.{at}
 use Rattle.rules.specs.Limits.{maxTasks}
 use Rattle.words.specs.Layout.{entries, executionBase}
@@ -78,7 +79,7 @@ load-requires c κs =
     let t = task-small (at-cell .before .before) in
     may-load (removed .remove .last .0) (start .pre .kept .cached .long) (omega arith) (active-is at-cell)
     (removed .remove .ensures) (c .before .before .before .set-cell .ensures) (c .before .set-cell2 .ensures)
-    (rw (task-is (at-cell .before .before)) (used-fits (start .pre)))
+    (rw (task-is (at-cell .before .before)) (used-fits (start .pre) Kind.chilled))
 
 cast-result : tie.Need-cast-result
 cast-result c =

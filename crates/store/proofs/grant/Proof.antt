@@ -5,17 +5,17 @@ use native.Mathlib.Omega.{arith}
 use lib.ListN.{set}
 use borrow.Author.Needs.{needs}
 use Rattle.rules.specs.Lists.{at}
-use Rattle.words.specs.Layout.{rows}
-use Rattle.words.specs.Contents.{Contents, contents}
-use Rattle.store.specs.Store.{withStore, withHoldings, granted}
+use Rattle.words.specs.Layout.{kindAt, rows}
+use Rattle.words.specs.Contents.{StoreContents, Contents, contents}
+use Rattle.store.specs.Store.{storeAt, withStore, withHoldings, granted}
 use Rattle.store.proofs.Writing.{
-  RowRead,
-  HeadRead,
-  Holds,
+  RowAt,
+  HeadAt,
+  Held,
   holds,
   row-read,
-  head-read,
-  holding,
+  row-at,
+  head-at,
   total-written,
   booked-written,
   figure-written,
@@ -24,28 +24,32 @@ use Rattle.store.proofs.Writing.{
 use Rattle.store.proofs.grant.Statement.{statement}
 use Rattle.store.proofs.grant.Tie as tie
 
-row : (c : tie.Start) → RowRead (c .args .plan .now) (contents (c .args .plan .now)) (c .args .store) (c .args .task)
-row c = row-read (holds _ (c .pre .at-task .long)) (c .pre .at-task .offset) (c .args .task) (c .pre .at-task .task-in)
+row : (c : tie.Start) → RowAt (c .args .plan .now) (c .args .store) (c .args .task)
+row c = row-at _ (c .pre .at-task)
 
-head : (c : tie.Start) → HeadRead (c .args .plan .now) (c .args .store)
-head c = head-read (c .args .plan .now) (c .args .store) (c .pre .at-task .offset)
+head : (c : tie.Start) → HeadAt (c .args .plan .now) (c .args .store)
+head c = head-at _ (c .pre .at-task .offset)
 
 abbrev first : tie.After-cell4 → tie.Start
 first c = c .before .before .before .before .before .before .before .before
 
--- what is read
+-- the plan and its store as they were
 abbrev old : tie.Start → Contents
 old c = contents (c .args .plan .now)
 
-figure-read : (c : tie.After-cell4) → c .cell4 .result ≡ at (old (first c) .chilled .figures) (first c .args .task)
+abbrev was : tie.Start → StoreContents
+was c = storeAt (c .args .store) (old c)
+
+-- what is read
+figure-read : (c : tie.After-cell4) → c .cell4 .result ≡ at (was (first c) .figures) (first c .args .task)
 figure-read c = c .cell4 .ensures ∙ row (first c) .figure
 
 booked-read :
     (c : tie.After-cell4)
-    → c .before .before .cell3 .result ≡ at (old (first c) .chilled .booked) (first c .args .task)
+    → c .before .before .cell3 .result ≡ at (was (first c) .booked) (first c .args .task)
 booked-read c = c .before .before .cell3 .ensures ∙ row (first c) .booked
 
-total-read : (c : tie.After-cell4) → c .before .before .before .before .cell2 .result ≡ old (first c) .chilled .total
+total-read : (c : tie.After-cell4) → c .before .before .before .before .cell2 .result ≡ was (first c) .total
 total-read c = c .before .before .before .before .cell2 .ensures ∙ head (first c) .total
 
 parent-read :
@@ -74,12 +78,10 @@ begin c = first (third c)
 
 written :
     (c : tie.After-set-cell3)
-    → Holds (c .set-cell3 .last .0)
-    (holding (old (begin c) .chilled .total + begin c .args .units) (old (begin c) .chilled .used)
-    (set (old (begin c) .chilled .booked) (begin c .args .task) (at (old (begin c) .chilled .booked) (begin c .args .task) + begin c .args .units))
-    (set (old (begin c) .chilled .figures) (begin c .args .task) (at (old (begin c) .chilled .figures) (begin c .args .task) + begin c .args .units))
-    (old (begin c)))
-unfolding withStore withHoldings
+    → Held (c .set-cell3 .last .0) (old (begin c)) (kindAt (begin c .args .store))
+    (was (begin c) .total + begin c .args .units) (was (begin c) .used)
+    (set (was (begin c) .booked) (begin c .args .task) (at (was (begin c) .booked) (begin c .args .task) + begin c .args .units))
+    (set (was (begin c) .figures) (begin c .args .task) (at (was (begin c) .figures) (begin c .args .task) + begin c .args .units))
 written c =
     let s : tie.Start = begin c in
     let x = s .args .task in
@@ -87,11 +89,11 @@ written c =
     let at-task = s .pre .at-task in
     figure-written
     (booked-written
-    (total-written (holds (s .args .plan .now) (at-task .long)) (at-task .offset) (old s .chilled .total + m)
+    (total-written (holds (s .args .plan .now) (kindAt (s .args .store)) (at-task .long)) (at-task .offset) (was s .total + m)
     (ap (λ (v : ℕ). v + m) (total-read (third c))) (c .before .before .before .before .set-cell .ensures))
-    (at-task .offset) (at (old s .chilled .booked) x + m) (ap (λ (v : ℕ). v + m) (booked-read (third c))) x
+    (at-task .offset) (at (was s .booked) x + m) (ap (λ (v : ℕ). v + m) (booked-read (third c))) x
     (at-task .task-in) (c .before .before .set-cell2 .ensures))
-    (at-task .offset) (at (old s .chilled .figures) x + m) (ap (λ (v : ℕ). v + m) (figure-read (third c))) x
+    (at-task .offset) (at (was s .figures) x + m) (ap (λ (v : ℕ). v + m) (figure-read (third c))) x
     (at-task .task-in) (c .set-cell3 .ensures)
 
 parent-small : (c : tie.After-cell4) → c .before .before .before .before .before .before .cell .result < rows
@@ -107,12 +109,12 @@ grow-requires c κs =
     let f = figure-read (third (c .before)) in
     record {
       task-in = small;
-      column-in = (let o = s .pre .at-task .offset in omega arith);
+      column-in = (let o = s .pre .at-task .inside in omega arith);
       fits =
           λ d.
           let most = s .pre .parent-fits (λ e. d (p ∙ e)) in
           let is = row-read h (s .pre .at-task .offset) _ small .figure in
-          let there = ap (at (set (old s .chilled .figures) (s .args .task) (at (old s .chilled .figures) (s .args .task) + s .args .units))) p in
+          let there = ap (at (set (was s .figures) (s .args .task) (at (was s .figures) (s .args .task) + s .args .units))) p in
           omega arith;
     }
 
@@ -122,7 +124,7 @@ returns c =
     let before = third (c .before .before) in
     let s : tie.Start = first before in
     figures-grown (written (c .before .before)) (s .pre .at-task .offset) (at (old s .parents) (s .args .task))
-    (at (old s .chilled .figures) (s .args .task) + s .args .units) (parent-read before)
+    (at (was s .figures) (s .args .task) + s .args .units) (parent-read before)
     (ap (λ (v : ℕ). v + s .args .units) (figure-read before)) (s .pre .parent-in) (c .grow .ensures) .same
 
 pub grant-spec : {M : Type 1} → statement M

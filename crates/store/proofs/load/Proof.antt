@@ -3,20 +3,25 @@ use Prim.Native.Nat.{_+_}
 use native.Mathlib.Omega.{arith}
 use borrow.Author.Needs.{needs}
 use Rattle.rules.specs.Lists.{at}
-use Rattle.words.specs.Contents.{contents}
-use Rattle.store.specs.Store.{loaded}
-use Rattle.store.proofs.Writing.{RowRead, HeadRead, row-read, head-read, holds, used-written}
+use Rattle.words.specs.Contents.{StoreContents, contents}
+use Rattle.store.specs.Store.{storeAt, loaded}
+use Rattle.words.specs.Layout.{kindAt}
+use Rattle.store.proofs.Writing.{RowAt, HeadAt, row-at, head-at, holds, used-written}
 use Rattle.store.proofs.load.Statement.{statement}
 use Rattle.store.proofs.load.Tie as tie
 
 abbrev start : tie.After-cell3 → tie.Start
 start c = c .before .before .before .before .before .before
 
-row : (c : tie.Start) → RowRead (c .args .plan .now) (contents (c .args .plan .now)) (c .args .store) (c .args .task)
-row c = row-read (holds _ (c .pre .0 .long)) (c .pre .0 .offset) (c .args .task) (c .pre .0 .task-in)
+-- the store as it was
+abbrev was : tie.Start → StoreContents
+was c = storeAt (c .args .store) (contents (c .args .plan .now))
 
-head : (c : tie.Start) → HeadRead (c .args .plan .now) (c .args .store)
-head c = head-read (c .args .plan .now) (c .args .store) (c .pre .0 .offset)
+row : (c : tie.Start) → RowAt (c .args .plan .now) (c .args .store) (c .args .task)
+row c = row-at _ (c .pre .0)
+
+head : (c : tie.Start) → HeadAt (c .args .plan .now) (c .args .store)
+head c = head-at _ (c .pre .0 .offset)
 
 add-set-cell-2 : tie.Need-add-set-cell-2
 add-set-cell-2 c =
@@ -45,10 +50,8 @@ returns c =
     let work = c .before .before .before .before .before .before .cell .ensures in
     let out = c .before .before .before .before .cell2 .ensures in
     let used = c .before .before .cell3 .ensures in
-    used-written (holds _ (s .pre .0 .long)) (s .pre .0 .offset)
-    (contents (s .args .plan .now) .chilled .used
-    + (at (contents (s .args .plan .now) .chilled .works) (s .args .task) + at (contents (s .args .plan .now) .chilled .outs) (s .args .task)))
-    (omega arith) (c .set-cell .ensures) .same
+    used-written (holds _ (kindAt (s .args .store)) (s .pre .0 .long)) (s .pre .0 .offset)
+    (was s .used + (at (was s .works) (s .args .task) + at (was s .outs) (s .args .task))) (omega arith) (c .set-cell .ensures) .same
 
 pub load-spec : {M : Type 1} → statement M
 load-spec =

@@ -1,14 +1,14 @@
 -- `missing` meets its contract: the two words are the need and the figure.
 use native.Mathlib.Omega.{arith}
 use borrow.Author.Needs.{needs}
-use Rattle.store.proofs.Writing.{holds, row-read}
+use Rattle.store.proofs.Writing.{row-at}
 use Rattle.store.proofs.missing.Statement.{statement}
 use Rattle.store.proofs.missing.Tie as tie
 
 returns : tie.Need-returns
 returns c =
     let start = c .before .before .before in
-    let r = row-read (holds _ (start .pre .long)) (start .pre .offset) (start .args .task) (start .pre .task-in) in
+    let r = row-at (start .args .plan .now) (start .pre) in
     let need = c .before .before .cell .ensures in
     let figure = c .before .cell2 .ensures in
     let rest = c .less .ensures in

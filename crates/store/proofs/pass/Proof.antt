@@ -4,17 +4,19 @@ use Prim.Native.Nat.{ℕ, _+_, _-_}
 use native.Mathlib.Omega.{arith}
 use borrow.Author.Needs.{needs}
 use Rattle.rules.specs.Lists.{at}
-use Rattle.words.specs.Contents.{Contents, contents}
-use Rattle.store.specs.Store.{withStore, withHoldings, gift, passed}
-use Rattle.store.proofs.Writing.{RowRead, holds, row-read, booked-written, figure-written}
+use Rattle.words.specs.Contents.{StoreContents, contents}
+use Rattle.store.specs.Store.{storeAt, withStore, withHoldings, gift, passed}
+use Rattle.words.specs.Layout.{kindAt}
+use Rattle.store.proofs.Writing.{RowAt, row-at, holds, booked-written, figure-written}
 use Rattle.store.proofs.pass.Statement.{statement}
 use Rattle.store.proofs.pass.Tie as tie
 
-abbrev old : tie.Start → Contents
-old c = contents (c .args .plan .now)
+-- the store as it was
+abbrev was : tie.Start → StoreContents
+was c = storeAt (c .args .store) (contents (c .args .plan .now))
 
-row : (c : tie.Start) → RowRead (c .args .plan .now) (old c) (c .args .store) (c .args .task)
-row c = row-read (holds _ (c .pre .at-task .long)) (c .pre .at-task .offset) (c .args .task) (c .pre .at-task .task-in)
+row : (c : tie.Start) → RowAt (c .args .plan .now) (c .args .store) (c .args .task)
+row c = row-at _ (c .pre .at-task)
 
 sub-figure : tie.Need-sub-figure
 sub-figure c =
@@ -29,18 +31,18 @@ start c = c .before .before .before .before .before .before .before
 
 figure-read :
     (c : tie.After-cell3)
-    → c .before .before .before .before .before .cell .result ≡ at (old (start c) .chilled .figures) (start c .args .task)
+    → c .before .before .before .before .before .cell .result ≡ at (was (start c) .figures) (start c .args .task)
 figure-read c = c .before .before .before .before .before .cell .ensures ∙ row (start c) .figure
 
 gift-read :
     (c : tie.After-cell3)
-    → c .before .before .less .result ≡ gift (start c .args .task) (start c .args .left) (old (start c) .chilled)
+    → c .before .before .less .result ≡ gift (start c .args .task) (start c .args .left) (was (start c))
 unfolding gift
 gift-read c =
     c .before .before .less .ensures
     ∙ ap₂ (λ (a b : ℕ). a - (b - start c .args .left)) (c .before .before .before .cell2 .ensures ∙ row (start c) .need) (figure-read c)
 
-booked-read : (c : tie.After-cell3) → c .cell3 .result ≡ at (old (start c) .chilled .booked) (start c .args .task)
+booked-read : (c : tie.After-cell3) → c .cell3 .result ≡ at (was (start c) .booked) (start c .args .task)
 booked-read c = c .cell3 .ensures ∙ row (start c) .booked
 
 add-set-cell-2 : tie.Need-add-set-cell-2
@@ -62,11 +64,11 @@ returns c =
     let s : tie.Start = start (last c) in
     let x = s .args .task in
     let here = s .pre .at-task in
-    let given = gift x (s .args .left) (old s .chilled) in (
+    let given = gift x (s .args .left) (was s) in (
       figure-written
-          (booked-written (holds (s .args .plan .now) (here .long)) (here .offset) (at (old s .chilled .booked) x + given)
+          (booked-written (holds (s .args .plan .now) (kindAt (s .args .store)) (here .long)) (here .offset) (at (was s .booked) x + given)
           (ap₂ (λ (a b : ℕ). a + b) (booked-read (last c)) (gift-read (last c))) x (here .task-in) (c .before .before .set-cell .ensures))
-          (here .offset) (at (old s .chilled .figures) x - s .args .left + given)
+          (here .offset) (at (was s .figures) x - s .args .left + given)
           (ap₂ (λ (a b : ℕ). a - s .args .left + b) (figure-read (last c)) (gift-read (last c))) x (here .task-in) (c .set-cell2 .ensures) .same,
       ap (λ (v : ℕ). s .args .left - v) (gift-read (last c)),
     )

@@ -5,17 +5,17 @@ use native.Mathlib.Omega.{arith}
 use lib.ListN.{set}
 use borrow.Author.Needs.{needs}
 use Rattle.rules.specs.Lists.{at}
-use Rattle.words.specs.Layout.{rows}
-use Rattle.words.specs.Contents.{Contents, contents}
-use Rattle.store.specs.Store.{withStore, withHoldings, released}
+use Rattle.words.specs.Layout.{kindAt, rows}
+use Rattle.words.specs.Contents.{StoreContents, Contents, contents}
+use Rattle.store.specs.Store.{storeAt, withStore, withHoldings, released}
 use Rattle.store.proofs.Writing.{
-  RowRead,
-  HeadRead,
-  Holds,
+  RowAt,
+  HeadAt,
+  Held,
   holds,
   row-read,
-  head-read,
-  holding,
+  row-at,
+  head-at,
   used-written,
   booked-written,
   figure-written,
@@ -24,14 +24,18 @@ use Rattle.store.proofs.Writing.{
 use Rattle.store.proofs.release.Statement.{statement}
 use Rattle.store.proofs.release.Tie as tie
 
+-- the plan and its store as they were
 abbrev old : tie.Start → Contents
 old c = contents (c .args .plan .now)
 
-row : (c : tie.Start) → RowRead (c .args .plan .now) (old c) (c .args .store) (c .args .task)
-row c = row-read (holds _ (c .pre .at-task .long)) (c .pre .at-task .offset) (c .args .task) (c .pre .at-task .task-in)
+abbrev was : tie.Start → StoreContents
+was c = storeAt (c .args .store) (old c)
 
-head : (c : tie.Start) → HeadRead (c .args .plan .now) (c .args .store)
-head c = head-read (c .args .plan .now) (c .args .store) (c .pre .at-task .offset)
+row : (c : tie.Start) → RowAt (c .args .plan .now) (c .args .store) (c .args .task)
+row c = row-at _ (c .pre .at-task)
+
+head : (c : tie.Start) → HeadAt (c .args .plan .now) (c .args .store)
+head c = head-at _ (c .pre .at-task .offset)
 
 -- what is read
 abbrev start : tie.After-cell5 → tie.Start
@@ -41,7 +45,7 @@ abbrev parent : tie.Start → ℕ
 parent c = at (old c .parents) (c .args .task)
 
 abbrev keeps : tie.Start → ℕ
-keeps c = at (old c .chilled .outs) (c .args .task)
+keeps c = at (was c .outs) (c .args .task)
 
 parent-read :
     (c : tie.After-cell5)
@@ -50,7 +54,7 @@ parent-read c = c .before .before .before .before .before .before .before .befor
 
 held-read :
     (c : tie.After-cell5)
-    → c .before .before .before .before .before .before .cell2 .result ≡ at (old (start c) .chilled .booked) (start c .args .task)
+    → c .before .before .before .before .before .before .cell2 .result ≡ at (was (start c) .booked) (start c .args .task)
 held-read c = c .before .before .before .before .before .before .cell2 .ensures ∙ row (start c) .booked
 
 out-read : (c : tie.After-cell5) → c .before .before .before .before .cell3 .result ≡ keeps (start c)
@@ -58,10 +62,10 @@ out-read c = c .before .before .before .before .cell3 .ensures ∙ row (start c)
 
 need-read :
     (c : tie.After-cell5)
-    → c .before .before .cell4 .result ≡ at (old (start c) .chilled .needs) (start c .args .task)
+    → c .before .before .cell4 .result ≡ at (was (start c) .needs) (start c .args .task)
 need-read c = c .before .before .cell4 .ensures ∙ row (start c) .need
 
-used-read : (c : tie.After-cell5) → c .cell5 .result ≡ old (start c) .chilled .used
+used-read : (c : tie.After-cell5) → c .cell5 .result ≡ was (start c) .used
 used-read c = c .cell5 .ensures ∙ head (start c) .used
 
 sub-set-cell : tie.Need-sub-set-cell
@@ -88,12 +92,9 @@ begin c = start (third c)
 
 written :
     (c : tie.After-set-cell3)
-    → Holds (c .set-cell3 .last .0)
-    (holding (old (begin c) .chilled .total)
-    (old (begin c) .chilled .used - at (old (begin c) .chilled .needs) (begin c .args .task) + keeps (begin c))
-    (set (old (begin c) .chilled .booked) (begin c .args .task) 0) (set (old (begin c) .chilled .figures) (begin c .args .task) 0)
-    (old (begin c)))
-unfolding withStore withHoldings
+    → Held (c .set-cell3 .last .0) (old (begin c)) (kindAt (begin c .args .store)) (was (begin c) .total)
+    (was (begin c) .used - at (was (begin c) .needs) (begin c .args .task) + keeps (begin c))
+    (set (was (begin c) .booked) (begin c .args .task) 0) (set (was (begin c) .figures) (begin c .args .task) 0)
 written c =
     let s : tie.Start = begin c in
     let x = s .args .task in
@@ -103,8 +104,8 @@ written c =
     let o = out-read (third c) in
     figure-written
     (booked-written
-    (used-written (holds (s .args .plan .now) (here .long)) (here .offset)
-    (old s .chilled .used - at (old s .chilled .needs) x + keeps s) (omega arith) (c .before .before .before .before .set-cell .ensures))
+    (used-written (holds (s .args .plan .now) (kindAt (s .args .store)) (here .long)) (here .offset)
+    (was s .used - at (was s .needs) x + keeps s) (omega arith) (c .before .before .before .before .set-cell .ensures))
     (here .offset) 0 refl x (here .task-in) (c .before .before .set-cell2 .ensures))
     (here .offset) 0 refl x (here .task-in) (c .set-cell3 .ensures)
 
@@ -120,12 +121,12 @@ grow-requires c κs =
     let small = parent-small (third (c .before)) in
     record {
       task-in = small;
-      column-in = (let f = s .pre .at-task .offset in omega arith);
+      column-in = (let f = s .pre .at-task .inside in omega arith);
       fits =
           λ _.
           let most = s .pre .parent-fits in
           let is = row-read (written (c .before)) (s .pre .at-task .offset) _ small .booked in
-          let there = ap (at (set (old s .chilled .booked) (s .args .task) 0)) p in
+          let there = ap (at (set (was s .booked) (s .args .task) 0)) p in
           omega arith;
     }
 

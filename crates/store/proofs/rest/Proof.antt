@@ -4,8 +4,9 @@ use native.Mathlib.Omega.{arith}
 use borrow.Author.Needs.{needs}
 use Rattle.rules.specs.Lists.{at}
 use Rattle.words.specs.Contents.{contents}
-use Rattle.store.specs.Store.{rested}
-use Rattle.store.proofs.Writing.{row-read, holds, figure-written}
+use Rattle.store.specs.Store.{storeAt, rested}
+use Rattle.words.specs.Layout.{kindAt}
+use Rattle.store.proofs.Writing.{row-at, holds, figure-written}
 use Rattle.store.proofs.rest.Statement.{statement}
 use Rattle.store.proofs.rest.Tie as tie
 
@@ -13,7 +14,7 @@ sub-set-cell : tie.Need-sub-set-cell
 sub-set-cell c =
     let start = c .before .before .before in
     let here = start .pre .0 in
-    let r = row-read (holds _ (here .long)) (here .offset) (start .args .task) (here .task-in) in
+    let r = row-at (start .args .plan .now) here in
     let enough = start .pre .1 in
     let figure = c .before .cell .ensures in
     omega arith
@@ -23,11 +24,11 @@ unfolding rested
 returns c =
     let start = c .before .before .before .before in
     let here = start .pre .0 in
-    let r = row-read (holds _ (here .long)) (here .offset) (start .args .task) (here .task-in) in
+    let r = row-at (start .args .plan .now) here in
     let figure = c .before .before .cell .ensures in
-    figure-written (holds _ (here .long)) (here .offset)
-    (at (contents (start .args .plan .now) .chilled .figures) (start .args .task) - start .args .left) (omega arith) (start .args .task)
-    (here .task-in) (c .set-cell .ensures) .same
+    figure-written (holds _ (kindAt (start .args .store)) (here .long)) (here .offset)
+    (at (storeAt (start .args .store) (contents (start .args .plan .now)) .figures) (start .args .task) - start .args .left) (omega arith)
+    (start .args .task) (here .task-in) (c .set-cell .ensures) .same
 
 pub rest-spec : {M : Type 1} → statement M
 rest-spec =

@@ -7,9 +7,11 @@ use lib.Dec.{eqb}
 use lib.ListN.{take}
 use borrow.Author.Needs.{needs}
 use borrow.Author.Tests.{eq-eqb, ne-eqb}
+use Rattle.rules.specs.Kind.{chilled}
 use Rattle.rules.specs.Lists.{at}
 use Rattle.rules.specs.Peak.{Peaked, peaked, noPeak}
 use Rattle.words.specs.Contents.{contents}
+use Rattle.store.specs.Rows.{tasksOf}
 use Rattle.survey.specs.Survey.{RankedIn, orderGround, groundOf}
 use Rattle.survey.proofs.Grounds.{no-ground}
 use Rattle.survey.proofs.survey.Statement.{statement}
@@ -65,7 +67,7 @@ returns-2 c =
     let none : groundOf k ≡ 0 = sym (ground-is (past .before)) ∙ past .if1 .left in (
       sym none,
       c .peak .ensures
-          ∙ ap (λ (n : ℕ). peaked n (at (k .parents)) (at (k .chilled .works)) (at (k .chilled .outs)) (take n (k .activation)))
+          ∙ ap (λ (n : ℕ). peaked n (at (k .parents)) (tasksOf k chilled .work) (tasksOf k chilled .out) (take n (k .activation)))
           (size-is (past .before .before))
           ∙ sym (told (eqb (groundOf k) 0) _ (eq-eqb (groundOf k) 0 none)),
     )

@@ -22,7 +22,7 @@ returns c =
     let w = read .before .before .before .before .args .plan .now in
     let n : read .before .before .cell .result ≡ contents w .size = read .before .before .cell .ensures in
     let p : read .before .cell2 .result ≡ contents w .processors = read .before .cell2 .ensures in
-    let bound : read .cell3 .result ≡ contents w .chilled .bound = read .cell3 .ensures in
+    let bound : read .cell3 .result ≡ contents w .stores .chilled .bound = read .cell3 .ensures in
     rw (← n, ← p, ← bound) (put .encode .ensures)
 
 pub write-opening-spec : {M : Type 1} → statement M

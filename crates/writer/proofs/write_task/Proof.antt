@@ -2,6 +2,7 @@
 use mathlib.Core.Path.{_∙_}
 use native.Mathlib.Omega.{arith}
 use borrow.Author.Needs.{needs}
+use Rattle.rules.specs.Kind.{chilled}
 use Rattle.rules.proofs.Reaching.{lives}
 use Rattle.writer.proofs.Reading.{parent-read, work-read, out-read}
 use Rattle.writer.proofs.write_task.Statement.{statement}
@@ -12,7 +13,7 @@ cast-parent : tie.Need-cast-parent
 cast-parent c =
     let s = c .before .before in
     let e = c .cell .ensures ∙ parent-read (s .pre) in
-    let low = lives (s .pre .plan .valid .reached) .formed .parents (s .args .task) in
+    let low = lives (s .pre .plan .valid .reached) .formed .given .parents .limited (s .args .task) in
     let small = s .pre .plan .valid .sound .small in
     omega arith
 
@@ -20,14 +21,14 @@ cast-work : tie.Need-cast-work
 cast-work c =
     let s = c .before .before .before in
     let e = c .cell2 .ensures ∙ work-read (s .pre) in
-    let light = lives (s .pre .plan .valid .reached) .formed .light (s .args .task) .0 in
+    let light = lives (s .pre .plan .valid .reached) .formed .stores chilled .works .limited (s .args .task) in
     omega arith
 
 cast-out : tie.Need-cast-out
 cast-out c =
     let s = c .before .before .before .before in
     let e = c .cell3 .ensures ∙ out-read (s .pre) in
-    let light = lives (s .pre .plan .valid .reached) .formed .light (s .args .task) .1 in
+    let light = lives (s .pre .plan .valid .reached) .formed .stores chilled .outs .limited (s .args .task) in
     omega arith
 
 returns : tie.Need-returns

@@ -38,7 +38,7 @@ hold-alone-requires c κs =
     let high = t .high in
     let small = s .pre .sound .small in
     let is = r .root .ensures in
-    record { long = s .pre .sound .long; offset = refl; task-in = omega arith }
+    record { long = s .pre .sound .long; offset = refl; inside = omega arith; task-in = omega arith }
 
 fetches-there : tie.Need-returns-2
 unfolding contents madeOver withStore

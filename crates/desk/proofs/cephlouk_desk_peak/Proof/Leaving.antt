@@ -88,7 +88,7 @@ use Rattle.words.specs.Layout.{words}
 use Rattle.desk.specs.declared.TaskRecord.{TaskRecord}
 use Rattle.desk.specs.declared.DeskAnswer.{DeskAnswer}
 use Rattle.desk.specs.Records.{stepRecords, answerOf}
-use Rattle.desk.specs.Columns.{ofTask}
+use Rattle.desk.specs.Columns.{columnTasks}
 use Rattle.desk.proofs.Columns.{filled, length-filled}
 use Rattle.desk.proofs.Answers.{answers}
 use Rattle.desk.proofs.Arrays.{wordsVal, words-whole}
@@ -179,7 +179,7 @@ module _ {M : Type 1} (𝓤 : URA M) (H : Heap 𝓤) (A : Atoms 𝓤) (W : Given
 
     abbrev Assessed : DeskAnswer → List ℕ → Type 0
     Assessed r ws =
-        (deskAnswer n (ofTask n parents) (ofTask n works) (ofTask n outs) (now order) ≡ answerOf r)
+        (deskAnswer (columnTasks n parents works outs) (now order) ≡ answerOf r)
         × (ws ≡ replicate words 0)
 
     -- what is bound of its parameters at its end: the last words, and nothing of the others

@@ -11,8 +11,8 @@ use Rattle.finding.proofs.arranging.arrange.Tie as tie
 
 abbrev Inv-loop : tie.InvT-loop
 Inv-loop plan scratch₀ n k₀ scratch k =
-    ArrangedFrom (contents plan .size) (at (contents plan .parents)) (at (contents plan .chilled .works))
-    (at (contents plan .chilled .outs)) scratch₀ scratch k
+    ArrangedFrom (contents plan .size) (at (contents plan .parents)) (at (contents plan .stores .chilled .works))
+    (at (contents plan .stores .chilled .outs)) scratch₀ scratch k
 
 abbrev μ-loop : tie.MeasureT-loop
 μ-loop plan scratch₀ n k₀ scratch k = k

@@ -17,7 +17,7 @@ use Rattle.finding.proofs.joining.subtree_peak.Tie as tie
 
 abbrev Inv-loop : tie.InvT-loop
 Inv-loop plan scratch task best₀ level₀ child₀ best level child =
-    Weighing (at (contents plan .chilled .works)) (at (contents plan .chilled .outs)) scratch task best level child
+    Weighing (at (contents plan .stores .chilled .works)) (at (contents plan .stores .chilled .outs)) scratch task best level child
 
 abbrev μ-loop : tie.MeasureT-loop
 μ-loop plan scratch task best₀ level₀ child₀ best level child = length (linkedFrom scratch child)
@@ -57,7 +57,7 @@ cast-level c = omega arith
 out :
     (c : tie.After-cell Inv-loop μ-loop)
     → c .cell .result
-    ≡ at (contents (c .before .before .before .before .before .before .args .plan .now) .chilled .outs)
+    ≡ at (contents (c .before .before .before .before .before .before .args .plan .now) .stores .chilled .outs)
     (c .before .before .before .before .loop .child)
 unfolding contents
 out c = let t = child (c .before .before .before) in c .cell .ensures ∙ out-at _ _ (omega arith) chilled
@@ -111,14 +111,14 @@ cast-out c = omega arith
 own-work :
     (c : tie.After-cell2 Inv-loop μ-loop)
     → c .cell2 .result
-    ≡ at (contents (c .before .before .before .before .args .plan .now) .chilled .works) (c .before .before .before .before .args .task)
+    ≡ at (contents (c .before .before .before .before .args .plan .now) .stores .chilled .works) (c .before .before .before .before .args .task)
 unfolding contents
 own-work c = let t = task (c .before) in c .cell2 .ensures ∙ work-at _ _ (omega arith) chilled
 
 own-out :
     (c : tie.After-cell3 Inv-loop μ-loop)
     → c .cell3 .result
-    ≡ at (contents (c .before .before .before .before .before .args .plan .now) .chilled .outs)
+    ≡ at (contents (c .before .before .before .before .before .args .plan .now) .stores .chilled .outs)
     (c .before .before .before .before .before .args .task)
 unfolding contents
 own-out c = let t = task (c .before .before) in c .cell3 .ensures ∙ out-at _ _ (omega arith) chilled

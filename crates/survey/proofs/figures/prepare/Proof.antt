@@ -2,6 +2,7 @@
 use mathlib.Core.Path.{_≡_}
 use Prim.Native.Nat.{_-_, _<_}
 use native.Mathlib.Omega.{arith}
+use Rattle.rules.specs.Kind.{chilled}
 use Rattle.words.specs.Contents.{contents}
 use Rattle.words.proofs.Contents.{lengths}
 use Rattle.survey.proofs.Weighing.{WeighedTo, weighed-none, weigh-may, weighed-next}
@@ -30,7 +31,7 @@ loop-holds : tie.Need-loop-holds Inv-loop μ-loop
 loop-holds c =
     let start = c .before .before in
     let long = lengths (start .args .plan .now) in
-    weighed-none _ (start .pre) (long .needs) (long .unended)
+    weighed-none _ (start .pre) (long .needs chilled) (long .unended)
 
 -- a task is left
 some-left :

@@ -42,7 +42,7 @@ parent c =
 
 work :
     (c : tie.After-cell3)
-    → c .before .before .cell2 .result ≡ at (contents (start c .args .plan .now) .chilled .works) (start c .args .task)
+    → c .before .before .cell2 .result ≡ at (contents (start c .args .plan .now) .stores .chilled .works) (start c .args .task)
 unfolding contents
 work c =
     c .before .before .cell2 .ensures
@@ -50,7 +50,7 @@ work c =
 
 out :
     (c : tie.After-cell3)
-    → c .cell3 .result ≡ at (contents (start c .args .plan .now) .chilled .outs) (start c .args .task)
+    → c .cell3 .result ≡ at (contents (start c .args .plan .now) .stores .chilled .outs) (start c .args .task)
 unfolding contents
 out c = c .cell3 .ensures ∙ out-at (start c .args .plan .now) (start c .args .task) (start c .pre .here) chilled
 
