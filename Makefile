@@ -1,6 +1,6 @@
 SHELL := /bin/bash
 
-.PHONY: run day printer plan-text test edits compare match width examples bench stack
+.PHONY: run day printer plan-text test edits compare match width examples bench stack guarantees
 
 # A day of plan A of document 01, printed by the day printer.
 run: printer
@@ -34,9 +34,10 @@ test:
 edits:
 	./compare/edits
 
-# The tools and the day printer beside the peer's, on many lists and streams.
+# The tools and the day printer beside the peer's, on many lists and streams; the printer on stored streams.
 compare:
 	./compare/run
+	./compare/stored
 	./compare/printer
 
 # The command function beside the peer's, on a million askings of plans that are kept.
@@ -51,10 +52,15 @@ width:
 examples:
 	./compare/examples
 
-# Commands, why a step is not starting, a plan written out, an order found and fullness, timed beside the peer's.
+# Commands, why a step is not starting, a plan written out, an order found and fullness, timed beside the peer's, to
+# docs/generated/performance.md.
 bench:
 	@./compare/bench
 
 # How much stack each exported function takes.
 stack:
 	./compare/stack
+
+# What the crates promise, written to docs/generated/: statements, functions with their contracts, and wrong edits.
+guarantees:
+	@./compare/guarantees

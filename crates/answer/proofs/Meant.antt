@@ -9,17 +9,18 @@ use lib.Dec.{leb}
 use lib.ListN.{length, take, set, length-take, List·getD-eq-default}
 use lib.Seq.{length-take-le, getD-take, take-suc-set}
 use borrow.Author.Tests.{le-leb}
-use Rattle.rules.specs.Kind.{Kind, chilled}
-use Rattle.rules.specs.Lists.{at}
-use Rattle.rules.specs.Need.{need}
+use Rattle.books.specs.Kind.{Kind, chilled}
+use Rattle.numbers.specs.Lists.{at}
+use Rattle.tree.specs.Need.{need}
 use Rattle.rules.specs.Phase
 use Rattle.rules.specs.State.{needs}
-use Rattle.rules.specs.Booking.{Terms}
+use Rattle.books.specs.Booking.{Terms}
 use Rattle.rules.specs.Obey.{booksOf, termsOf}
 use Rattle.rules.specs.Reachable.{Reachable}
-use Rattle.rules.specs.Invariant.{Valid, rankIn, Roomy, Good}
-use Rattle.rules.proofs.Tests.{le-or-lt}
-use Rattle.rules.proofs.Sums.{only-true}
+use Rattle.tree.specs.Tree.{Valid, rankIn}
+use Rattle.books.specs.Invariant.{Roomy, Good}
+use Rattle.numbers.proofs.Tests.{le-or-lt}
+use Rattle.numbers.proofs.Sums.{only-true}
 use Rattle.rules.proofs.InDay.{Going, still-going, needs-roomy}
 use Rattle.rules.proofs.Reaching.{lives}
 use Rattle.words.specs.Contents.{Contents}

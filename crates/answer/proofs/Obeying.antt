@@ -2,7 +2,7 @@
 use mathlib.Core.Path.{_≡_, refl, sym, ap, subst, _∙_}
 use mathlib.Core.List.{List}
 use Prim.Native.Nat.{ℕ}
-use Rattle.rules.specs.Command as rules
+use Rattle.format.specs.Command as rules
 use Rattle.rules.specs.Grounds.{ground}
 use Rattle.rules.specs.Obey.{Outcome, plain, obey}
 use Rattle.rules.specs.Answer as answers

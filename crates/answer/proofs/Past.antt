@@ -6,14 +6,15 @@ use Prim.Native.Nat.{ℕ, suc, _≤_, _<_}
 use native.Mathlib.Omega.{arith}
 use lib.Dec.{eqb}
 use borrow.Author.Tests.{ne-eqb}
-use Rattle.rules.specs.Kind.{chilled}
-use Rattle.rules.specs.Sums.{only}
-use Rattle.rules.specs.Lists.{at}
-use Rattle.rules.specs.Need.{need, children}
+use Rattle.books.specs.Kind.{chilled}
+use Rattle.numbers.specs.Sums.{only}
+use Rattle.numbers.specs.Lists.{at}
+use Rattle.tree.specs.Need.{need}
+use Rattle.tree.specs.Tree.{children}
 use Rattle.rules.specs.Phase
 use Rattle.rules.specs.Reachable.{Reachable}
-use Rattle.rules.proofs.Tests.{le-or-lt}
-use Rattle.rules.proofs.Sums.{sum-zero}
+use Rattle.numbers.proofs.Tests.{le-or-lt}
+use Rattle.numbers.proofs.Sums.{sum-zero}
 use Rattle.words.specs.Contents.{Contents}
 use Rattle.store.specs.Rows.{ZeroPast}
 use Rattle.answer.specs.Meaning.{meaning}

@@ -2,7 +2,7 @@
 use mathlib.Core.Path.{_≡_, ap}
 use mathlib.Core.List.{List}
 use Prim.Native.Nat.{ℕ}
-use Rattle.rules.specs.Write as writing
+use Rattle.streams.specs.Write as writing
 use Rattle.answer.specs.declared.Wrote.{Wrote}
 use Rattle.answer.specs.Meaning.{wroteOf}
 

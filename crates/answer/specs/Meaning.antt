@@ -3,12 +3,12 @@ use mathlib.Core.List.{List}
 use Prim.Native.Nat.{ℕ, suc}
 use lib.Dec.{leb}
 use lib.ListN.{take}
-use Rattle.rules.specs.Kind.{of, each}
-use Rattle.rules.specs.Sums.{only}
+use Rattle.books.specs.Kind.{of, each}
+use Rattle.numbers.specs.Sums.{only}
 use Rattle.rules.specs.Phase
 use Rattle.rules.specs.State.{State}
 use Rattle.rules.specs.Answer as rules
-use Rattle.rules.specs.Write as writing
+use Rattle.streams.specs.Write as writing
 use Rattle.words.specs.Contents.{Contents, contents}
 use Rattle.answer.specs.declared.Answer.{Answer}
 use Rattle.answer.specs.declared.Wrote.{Wrote}

@@ -2,10 +2,10 @@
 use mathlib.Core.Path.{_≡_}
 use mathlib.Core.List.{List}
 use Prim.Native.Nat.{ℕ, suc, _^_, _≤_, _<_}
-use Rattle.rules.specs.Limits.{maxTasks, maxProcessors, maxCount}
-use Rattle.rules.specs.Lists.{at}
+use Rattle.numbers.specs.Limits.{maxTasks, maxProcessors, maxCount}
+use Rattle.numbers.specs.Lists.{at}
 use Rattle.rules.specs.Phase
-use Rattle.rules.specs.Booking.{total}
+use Rattle.books.specs.Booking.{total}
 use Rattle.words.specs.Layout.{words}
 use Rattle.words.specs.Contents.{Contents}
 use Rattle.store.specs.Rows.{ZeroPast, books}

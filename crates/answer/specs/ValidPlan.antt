@@ -3,7 +3,7 @@ use mathlib.Core.Path.{_≡_}
 use mathlib.Core.List.{List}
 use Prim.Native.Nat.{ℕ}
 use lib.ListN.{replicate}
-use Rattle.rules.specs.Command as rules
+use Rattle.format.specs.Command as rules
 use Rattle.rules.specs.Reachable.{Reachable}
 use Rattle.rules.specs.Answer as answers
 use Rattle.words.specs.Layout.{words}

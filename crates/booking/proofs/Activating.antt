@@ -8,9 +8,9 @@ use native.Mathlib.Omega.{arith}
 use lib.ListN.{set}
 use lib.Seq.{getD-set-other}
 use borrow.Author.Tests.{eq-eqb, ne-eqb}
-use Rattle.rules.specs.Lists.{at}
-use Rattle.rules.specs.Standing.{activated}
-use Rattle.rules.proofs.Tests.{same-or-not}
+use Rattle.numbers.specs.Lists.{at}
+use Rattle.books.specs.Standing.{activated}
+use Rattle.numbers.proofs.Tests.{same-or-not}
 use Rattle.words.specs.Layout.{row, place, unended, standing}
 use Rattle.words.specs.Contents.{Contents, contents, withCell, withReady}
 use Rattle.words.specs.Marks.{Marks, changed, MayChange, Changed}

@@ -7,10 +7,10 @@ use native.Mathlib.Omega.{arith}
 use lib.ListN.{length, take, drop}
 use lib.Seq.{drop-length}
 use borrow.Author.Tests.{eq-eqb}
-use Rattle.rules.specs.Lists.{at}
-use Rattle.rules.specs.Standing.{waiting}
-use Rattle.rules.specs.Booking.{Books, activate}
-use Rattle.rules.proofs.Branches.{activate-book, activate-stop, passes-all}
+use Rattle.numbers.specs.Lists.{at}
+use Rattle.books.specs.Standing.{waiting}
+use Rattle.books.specs.Booking.{Books, activate}
+use Rattle.books.proofs.Branches.{activate-book, activate-stop, passes-all}
 use Rattle.words.specs.Contents.{Contents}
 use Rattle.words.proofs.Contents.{Lengths}
 use Rattle.store.specs.Rows.{books, termsIn, activationOf}

@@ -7,10 +7,10 @@ use native.Mathlib.Omega.{arith}
 use lib.ListN.{set}
 use lib.Dec.{eqb, leb}
 use lib.Seq.{getD-take}
-use Rattle.rules.specs.Kind.{Kind, of, all}
-use Rattle.rules.specs.Kind
-use Rattle.rules.specs.Lists.{at}
-use Rattle.rules.specs.Standing.{activated, running, finished, count}
+use Rattle.books.specs.Kind.{Kind, of, all}
+use Rattle.books.specs.Kind
+use Rattle.numbers.specs.Lists.{at}
+use Rattle.books.specs.Standing.{activated, running, finished, count}
 use Rattle.words.specs.Layout.{words, chilled, offset, standing, next, activationBase, entries}
 use Rattle.words.specs.Contents.{StoreContents, Contents, contents, withCell, storeWithCell, withHead, storeWithHead, withReady}
 use Rattle.words.specs.Marks.{Marks, changed}
@@ -20,7 +20,7 @@ use Rattle.store.specs.Rows.{rowsOf, books, termsIn, activationOf, executionOf}
 use Rattle.store.specs.Cached.{isReadyAt, StoreCached}
 use Rattle.store.specs.Store.{withStore, withHoldings, granted, AtTask, MayGrant}
 use Rattle.store.specs.Kept.{DayInvariant, Kept, SamePlan}
-use Rattle.rules.specs.Booking.{Terms, bookedIn}
+use Rattle.books.specs.Booking.{Terms, bookedIn}
 use Rattle.store.proofs.Rows.{zero-set}
 use Rattle.store.proofs.Same.{terms-same}
 use Rattle.store.proofs.InStore.{by-kind, cached-in}
@@ -28,27 +28,7 @@ use Rattle.store.proofs.Entries.{grown-zero}
 use Rattle.store.proofs.Ready.{place-in, ready-at, ready-changed}
 use Rattle.store.proofs.Idle.{count-same, used-same}
 use Rattle.booking.specs.Booked.{MayActivate, DidActivate, SomeWait, allowsNext, NextBooked}
-use Rattle.booking.proofs.Turn.{
-  Turn,
-  task,
-  task-in,
-  parent-in,
-  allowed-is,
-  books-are,
-  invariant-then,
-  idle,
-  counted-then,
-  not-ready,
-  ready-then,
-  ready-others,
-  totals-then,
-  figured-then,
-  reached-then,
-  total-fits,
-  booked-fits,
-  figure-fits,
-  parent-fits,
-}
+use Rattle.booking.proofs.Turn.{Turn, task, task-in, parent-in, allowed-is, books-are, invariant-then, idle, counted-then, not-ready, ready-then, ready-others, totals-then, figured-then, reached-then, total-fits, booked-fits, figure-fits, parent-fits}
 
 -- the next task, what it misses, and the plan once it got that
 abbrev pub nextTask : Contents → ℕ

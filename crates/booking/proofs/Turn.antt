@@ -9,23 +9,23 @@ use lib.Dec.{eqb, leb}
 use lib.ListN.{length, take, drop, set, length-set, take-append-drop}
 use lib.Seq.{getD-set-same, drop-cons, getD-take, length-take-le}
 use borrow.Author.Tests.{eq-eqb, ne-eqb}
-use Rattle.rules.specs.Sums.{Task, only}
-use Rattle.rules.specs.Kind.{Kind, each, all}
-use Rattle.rules.specs.Lists.{at}
-use Rattle.rules.specs.Grounds.{within}
-use Rattle.rules.specs.Standing.{waiting, activated, finished}
-use Rattle.rules.specs.Booking.{Terms, Books, bookedIn, total, missing, misses, allowsIn, allows, book, ready, fed}
-use Rattle.rules.specs.Invariant.{rankIn, Tree, FirstWaiting, StockedBy, Good}
-use Rattle.rules.proofs.Tests.{same-or-not}
-use Rattle.rules.proofs.EachStore.{of-each, all-same, each-same}
-use Rattle.rules.proofs.Sums.{term-le, sum-change, only-true}
-use Rattle.rules.proofs.Orders.{within-task, every-mem, mem-at, place-lt, place-at, place-of}
-use Rattle.rules.proofs.Ranks.{tree-of, in-front}
-use Rattle.rules.proofs.Tree.{parent-task}
-use Rattle.rules.proofs.Shape.{Moved, child-before, same-ended}
-use Rattle.rules.proofs.Balance.{missing-is}
-use Rattle.rules.proofs.Entries.{moved-by-set}
-use Rattle.rules.proofs.Ahead.{book-good}
+use Rattle.numbers.specs.Sums.{Task, only, within}
+use Rattle.books.specs.Kind.{Kind, each, all}
+use Rattle.numbers.specs.Lists.{at}
+use Rattle.books.specs.Standing.{waiting, activated, finished}
+use Rattle.books.specs.Booking.{Terms, Books, bookedIn, total, missing, misses, allowsIn, allows, book, ready, fed}
+use Rattle.tree.specs.Tree.{rankIn, Tree}
+use Rattle.books.specs.Invariant.{FirstWaiting, StockedBy, Good}
+use Rattle.numbers.proofs.Tests.{same-or-not}
+use Rattle.books.proofs.EachStore.{of-each, all-same, each-same}
+use Rattle.numbers.proofs.Sums.{term-le, sum-change, only-true}
+use Rattle.tree.proofs.Orders.{within-task, every-mem, mem-at, place-lt, place-at, place-of}
+use Rattle.tree.proofs.Ranks.{tree-of, in-front}
+use Rattle.tree.proofs.Tree.{parent-task}
+use Rattle.books.proofs.Shape.{Moved, child-before, same-ended}
+use Rattle.books.proofs.Balance.{missing-is}
+use Rattle.books.proofs.Entries.{moved-by-set}
+use Rattle.books.proofs.Ahead.{book-good}
 use Rattle.words.specs.Layout.{rows}
 use Rattle.store.specs.Rows.{rowsOf, booksIn}
 use Rattle.store.specs.Cached.{Figured, Counted, Reached}

@@ -4,9 +4,9 @@ use mathlib.Core.Bool.{Bool, true, false}
 use mathlib.Core.List.{List}
 use Prim.Native.Nat.{ℕ, _+_, _<_}
 use lib.Dec.{eqb}
-use Rattle.rules.specs.Lists.{at}
-use Rattle.rules.specs.Standing.{activated}
-use Rattle.rules.specs.Booking.{allows, book, activate}
+use Rattle.numbers.specs.Lists.{at}
+use Rattle.books.specs.Standing.{activated}
+use Rattle.books.specs.Booking.{allows, book, activate}
 use Rattle.words.specs.Layout.{rows, standing}
 use Rattle.words.specs.Contents.{Contents, withCell, withReady}
 use Rattle.words.specs.Marks.{Marks, changed, MayChange}

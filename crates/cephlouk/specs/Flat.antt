@@ -1,5 +1,5 @@
 -- A reason as plain numbers, case by case.
-use Rattle.rules.specs.Why.{Reason, refused, ended, running, notBooked, unfed, noProcessor}
+use Rattle.whys.specs.Why.{Reason, refused, ended, running, notBooked, unfed, noProcessor}
 use Rattle.cephlouk.specs.ReasonKind
 use Rattle.cephlouk.specs.declared.FlatReason.{FlatReason}
 

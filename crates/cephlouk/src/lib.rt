@@ -1,10 +1,10 @@
 // The library for programs in C, C++ and Rust: a plan that the caller keeps as an array of words.
 ghost use mathlib.Core.Path.{_≡_};
 ghost use lib.ListN.{replicate};
-ghost use Rattle.rules.specs.Find as orders;
+ghost use Rattle.postorders.specs.Find as orders;
 ghost use Rattle.rules.specs.Question as questions;
-ghost use Rattle.rules.specs.Why as reasons;
-ghost use Rattle.rules.specs.Write as writing;
+ghost use Rattle.whys.specs.Why as reasons;
+ghost use Rattle.streams.specs.Write as writing;
 ghost use Rattle.words.specs.Layout.{words};
 ghost use Rattle.answer.specs.Meaning.{planOf, wroteOf};
 ghost use Rattle.answer.specs.ValidPlan.{ValidPlan, Commanded};

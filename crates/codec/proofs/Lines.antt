@@ -5,25 +5,7 @@ use mathlib.Core.Option.{none}
 use Prim.Native.Nat.{ℕ}
 use lib.ListN.{drop}
 use lib.Seq.{drop-drop}
-use Rattle.rules.specs.Command.{
-  plan,
-  task,
-  activation,
-  execution,
-  begin,
-  done,
-  fetch,
-  places,
-  forms,
-  find,
-  number,
-  numbers,
-  room,
-  refused,
-  whole,
-  readBy,
-  table,
-}
+use Rattle.format.specs.Command.{plan, task, activation, execution, begin, done, fetch, places, forms, find, number, numbers, room, refused, whole, readBy, table}
 
 module _ (given : List ℕ) where
   pub plan-line :

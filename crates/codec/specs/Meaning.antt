@@ -1,5 +1,5 @@
 -- What the code's commands and answers mean in the rules, case by case.
-use Rattle.rules.specs.Command as rules
+use Rattle.format.specs.Command as rules
 use Rattle.codec.specs.declared.Command.{Command}
 use Rattle.codec.specs.declared.Command.the-variants.{Plan, Task, Activation, Execution, Begin, Done, Fetch, Places}
 use Rattle.codec.specs.declared.Decoded.{Decoded}

@@ -3,7 +3,7 @@ ghost use mathlib.Core.Path.{_≡_};
 ghost use mathlib.Core.List.{_∷_};
 ghost use Prim.Native.Nat.{_+_, _*_};
 ghost use lib.ListN.{drop};
-ghost use Rattle.rules.specs.Command as rules;
+ghost use Rattle.format.specs.Command as rules;
 ghost use Rattle.put.specs.Put.{Put};
 ghost use Rattle.codec.specs.Meaning.{commandOf, decoded};
 

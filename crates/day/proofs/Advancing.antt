@@ -4,11 +4,12 @@ use mathlib.Core.List.{List}
 use Prim.Native.Nat.{ℕ, _-_}
 use native.Mathlib.Omega.{arith}
 use lib.ListN.{length, take}
-use Rattle.rules.specs.Lists.{at}
-use Rattle.rules.specs.Standing.{running, count}
-use Rattle.rules.specs.Booking.{Books, starts, start, free}
+use Rattle.numbers.specs.Lists.{at}
+use Rattle.books.specs.Standing.{running, count}
+use Rattle.rules.specs.Obey.{free}
+use Rattle.books.specs.Booking.{Books, starts, start}
 use Rattle.rules.specs.Answer.{front}
-use Rattle.rules.proofs.Ranks.{tree-of}
+use Rattle.tree.proofs.Ranks.{tree-of}
 use Rattle.rules.proofs.Settling as settling
 use Rattle.words.specs.Contents.{Contents}
 use Rattle.store.specs.Rows.{books, termsIn, activationOf, executionOf}

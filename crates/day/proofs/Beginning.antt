@@ -8,18 +8,20 @@ use native.Mathlib.Omega.{arith}
 use lib.Dec.{eqb, leb}
 use lib.ListN.{length, take}
 use borrow.Author.Tests.{eq-eqb, le-leb, lt-leb}
-use Rattle.rules.specs.Kind.{each, all}
-use Rattle.rules.specs.Lists.{at, every, distinct}
-use Rattle.rules.specs.Limits.{leastStarts}
-use Rattle.rules.specs.Peak.{roots, ordered, peak, Peaked}
+use Rattle.numbers.specs.Sums.{within}
+use Rattle.books.specs.Kind.{each, all}
+use Rattle.numbers.specs.Lists.{at, every, distinct}
+use Rattle.numbers.specs.Limits.{leastStarts}
+use Rattle.tree.specs.Tree.{roots, ordered}
+use Rattle.tree.specs.Peak.{peak, Peaked}
 use Rattle.rules.specs.Phase
 use Rattle.rules.specs.State.{State}
-use Rattle.rules.specs.Command.{begin}
+use Rattle.format.specs.Command.{begin}
 use Rattle.rules.specs.Grounds as grounds
 use Rattle.rules.specs.Reachable.{Reachable}
 use Rattle.rules.specs.Obey.{withOrders, completed, fresh, proceed, obey}
 use Rattle.rules.specs.Answer.{accept}
-use Rattle.rules.proofs.Tests.{decide}
+use Rattle.numbers.proofs.Tests.{decide}
 use Rattle.rules.proofs.Completing.{BeginTurn, begin-turn, begin-ground}
 use Rattle.rules.proofs.Formed.{Formed}
 use Rattle.rules.proofs.Reaching.{lives}
@@ -181,7 +183,7 @@ module _ (c : Contents) {d : Contents} (sound : Sound d) (long : Lengths d) (rea
   is-placed : Placed (d .size) (executionOf d) (at (d .places))
   is-placed =
       record {
-        inside = subst (λ (l : List ℕ). every (λ i. grounds.within i (d .size)) l ≡ true) execution-is (formed-then .execution-inside);
+        inside = subst (λ (l : List ℕ). every (λ i. within i (d .size)) l ≡ true) execution-is (formed-then .execution-inside);
         once = subst (λ (l : List ℕ). distinct l ≡ true) execution-is (formed-then .execution-once);
         whole = ap length (sym execution-is) ∙ placed-length d sound long ∙ whole .placed-all;
         placed = noted-in (d .size) (d .placed) (d .execution) (d .places) (whole .placed-all) (sound .execution);

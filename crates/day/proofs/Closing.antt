@@ -8,22 +8,21 @@ use native.Mathlib.Omega.{arith}
 use lib.Dec.{eqb}
 use lib.ListN.{set}
 use borrow.Author.Tests.{eq-eqb, ne-eqb}
-use Rattle.rules.specs.Kind.{chilled, each}
-use Rattle.rules.specs.Sums.{Task}
-use Rattle.rules.specs.Lists.{at}
+use Rattle.books.specs.Kind.{chilled, each}
+use Rattle.numbers.specs.Sums.{Task, within}
+use Rattle.numbers.specs.Lists.{at}
 use Rattle.rules.specs.Phase
-use Rattle.rules.specs.Standing.{waiting, running, finished, count}
+use Rattle.books.specs.Standing.{waiting, running, finished, count}
 use Rattle.rules.specs.State.{State}
-use Rattle.rules.specs.Command.{done}
-use Rattle.rules.specs.Grounds.{within}
+use Rattle.format.specs.Command.{done}
 use Rattle.rules.specs.Reachable.{Reachable}
-use Rattle.rules.specs.Booking.{total}
+use Rattle.books.specs.Booking.{total}
 use Rattle.rules.specs.Obey.{withBooks, endedStandings, plain, obey}
-use Rattle.rules.proofs.Tests.{same-or-not}
-use Rattle.rules.proofs.Sums.{sum-cong, count-none, count-all}
-use Rattle.rules.proofs.Orders.{within-task, mem-at, every-mem}
-use Rattle.rules.proofs.Entries.{at-other}
-use Rattle.rules.proofs.Trolley.{remains, root-remains}
+use Rattle.numbers.proofs.Tests.{same-or-not}
+use Rattle.numbers.proofs.Sums.{sum-cong, count-none, count-all}
+use Rattle.tree.proofs.Orders.{within-task, mem-at, every-mem}
+use Rattle.books.proofs.Entries.{at-other}
+use Rattle.tree.proofs.Trolley.{remains, root-remains}
 use Rattle.rules.proofs.InDay.{Planned, Going}
 use Rattle.rules.proofs.Closing.{readyAfter, all-ended, closes, closing}
 use Rattle.rules.proofs.Reporting.{one-fewer, one-more-ended}
@@ -37,18 +36,7 @@ use Rattle.dispatch.specs.Ended as dispatching
 use Rattle.dispatch.proofs.Ending as ending
 use Rattle.answer.specs.Meaning.{meaning}
 use Rattle.answer.specs.Sound.{Closed, Sound}
-use Rattle.answer.proofs.Meant.{
-  in-running,
-  cached-now,
-  parents-meant,
-  outs-meant,
-  standings-rows,
-  booked-rows,
-  standings-meant,
-  order-valid,
-  going,
-  still-kept,
-}
+use Rattle.answer.proofs.Meant.{in-running, cached-now, parents-meant, outs-meant, standings-rows, booked-rows, standings-meant, order-valid, going, still-kept}
 use Rattle.answer.proofs.Past.{running-past}
 use Rattle.day.specs.Day.{madeReady}
 use Rattle.day.proofs.Staying.{in-its-day, phase-same, alone-same, day-sound}

@@ -4,10 +4,10 @@ use mathlib.Core.List.{List}
 use Prim.Native.Nat.{ℕ, _≤_}
 use native.Mathlib.Omega.{arith}
 use lib.ListN.{set}
-use Rattle.rules.specs.Kind.{chilled}
-use Rattle.rules.specs.Lists.{at}
+use Rattle.books.specs.Kind.{chilled}
+use Rattle.numbers.specs.Lists.{at}
 use Rattle.rules.specs.Phase
-use Rattle.rules.specs.Standing.{running, finished, count}
+use Rattle.books.specs.Standing.{running, finished, count}
 use Rattle.rules.proofs.Reporting.{one-fewer}
 use Rattle.words.specs.Contents.{Contents, withHead, storeWithHead}
 use Rattle.store.specs.Rows.{books}

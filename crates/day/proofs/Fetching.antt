@@ -6,17 +6,17 @@ use native.Mathlib.Omega.{arith}
 use lib.ListN.{set}
 use lib.Seq.{getD-take}
 use borrow.Author.Tests.{eq-eqb, ne-eqb}
-use Rattle.rules.specs.Kind.{chilled, each}
-use Rattle.rules.specs.Sums.{Task}
-use Rattle.rules.specs.Lists.{at}
+use Rattle.books.specs.Kind.{chilled, each}
+use Rattle.numbers.specs.Sums.{Task}
+use Rattle.numbers.specs.Lists.{at}
 use Rattle.rules.specs.Phase
 use Rattle.rules.specs.State.{State, rootOf}
-use Rattle.rules.specs.Command.{fetch}
+use Rattle.format.specs.Command.{fetch}
 use Rattle.rules.specs.Grounds.{inTurn, inLimits, ownGround, ground}
 use Rattle.rules.specs.Reachable.{Reachable}
-use Rattle.rules.specs.Booking.{total}
+use Rattle.books.specs.Booking.{total}
 use Rattle.rules.specs.Obey.{withBooks, unloaded, plain, obey}
-use Rattle.rules.proofs.Sums.{sum-zero}
+use Rattle.numbers.proofs.Sums.{sum-zero}
 use Rattle.rules.proofs.Judging.{ground-turn, ground-own}
 use Rattle.rules.proofs.Formed.{no-ground}
 use Rattle.rules.proofs.InDay.{Planned}

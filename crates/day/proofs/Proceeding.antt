@@ -5,15 +5,15 @@ use mathlib.Core.List.{List}
 use Prim.Native.Nat.{ℕ}
 use native.Mathlib.Omega.{arith}
 use lib.ListN.{length, take}
-use Rattle.rules.specs.Kind.{Each, each}
-use Rattle.rules.specs.Kind
-use Rattle.rules.specs.Lists.{at}
-use Rattle.rules.specs.Need.{need}
-use Rattle.rules.specs.Peak.{Peaked}
+use Rattle.books.specs.Kind.{Each, each}
+use Rattle.books.specs.Kind
+use Rattle.numbers.specs.Lists.{at}
+use Rattle.tree.specs.Need.{need}
+use Rattle.tree.specs.Peak.{Peaked}
 use Rattle.rules.specs.Phase
 use Rattle.rules.specs.State.{needs}
-use Rattle.rules.specs.Booking.{Books, activate, starts, start, free}
-use Rattle.rules.specs.Obey.{termsOf, withBooks, ahead, begun, proceed}
+use Rattle.books.specs.Booking.{Books, activate, starts, start}
+use Rattle.rules.specs.Obey.{termsOf, withBooks, ahead, begun, proceed, free}
 use Rattle.rules.specs.Answer as rules
 use Rattle.words.specs.Contents.{Contents, withHead, storeWithHead}
 use Rattle.store.specs.Rows.{books, termsIn, activationOf, executionOf}

@@ -7,20 +7,20 @@ use native.Mathlib.Omega.{arith}
 use lib.Dec.{eqb}
 use lib.ListN.{length, set}
 use borrow.Author.Tests.{eqb-true, eq-eqb, ne-eqb}
-use Rattle.rules.specs.Kind.{of, each}
-use Rattle.rules.specs.Sums.{Task}
-use Rattle.rules.specs.Lists.{at}
-use Rattle.rules.specs.Limits.{leastStarts}
-use Rattle.rules.specs.Peak.{noPeak}
+use Rattle.books.specs.Kind.{of, each}
+use Rattle.numbers.specs.Sums.{Task, within}
+use Rattle.numbers.specs.Lists.{at}
+use Rattle.numbers.specs.Limits.{leastStarts}
+use Rattle.tree.specs.Peak.{noPeak}
 use Rattle.rules.specs.Phase
-use Rattle.rules.specs.Standing.{running, finished}
-use Rattle.rules.specs.Command.{done}
+use Rattle.books.specs.Standing.{running, finished}
+use Rattle.format.specs.Command.{done}
 use Rattle.rules.specs.Reachable.{Reachable}
-use Rattle.rules.specs.Grounds.{within, demand, inTurn, inLimits, noPeaks, ownGround, ground}
-use Rattle.rules.specs.Booking.{Climbed, dispatch}
+use Rattle.rules.specs.Grounds.{demand, inTurn, inLimits, noPeaks, ownGround, ground}
+use Rattle.books.specs.Booking.{Climbed, dispatch}
 use Rattle.rules.specs.Obey.{endedStandings, shared, ended, phaseAfter, proceed, obey}
 use Rattle.rules.specs.Answer.{accept}
-use Rattle.rules.proofs.Orders.{within-task}
+use Rattle.tree.proofs.Orders.{within-task}
 use Rattle.rules.proofs.Formed.{demand-none}
 use Rattle.rules.proofs.Judging.{ground-turn, ground-limits, ground-own}
 use Rattle.words.specs.Contents.{Contents}
@@ -29,16 +29,7 @@ use Rattle.dispatch.specs.Finished.{dispatchedFrom}
 use Rattle.answer.specs.Meaning.{meaning}
 use Rattle.answer.specs.Sound.{Sound}
 use Rattle.day.specs.Day.{MayGoOn, WentOn}
-use Rattle.answer.proofs.Meant.{
-  in-running,
-  parents-meant,
-  standings-rows,
-  books-rows,
-  standings-meant,
-  terms-meant,
-  still-kept,
-  staffed,
-}
+use Rattle.answer.proofs.Meant.{in-running, parents-meant, standings-rows, books-rows, standings-meant, terms-meant, still-kept, staffed}
 use Rattle.day.proofs.Staying.{Whole, in-its-day}
 use Rattle.day.proofs.Proceeding.{same, sound-then}
 

@@ -7,15 +7,16 @@ use native.Mathlib.Omega.{arith}
 use lib.Dec.{leb}
 use lib.ListN.{length}
 use borrow.Author.Tests.{eqb-true, eq-eqb, ne-eqb, le-leb, lt-leb}
-use Rattle.rules.specs.Kind.{chilled}
-use Rattle.rules.specs.Lists.{at}
-use Rattle.rules.specs.Limits.{maxBound, leastStarts}
-use Rattle.rules.specs.Peak.{Peaked, noPeak, roots}
+use Rattle.books.specs.Kind.{chilled}
+use Rattle.numbers.specs.Lists.{at}
+use Rattle.numbers.specs.Limits.{maxBound, leastStarts}
+use Rattle.tree.specs.Peak.{Peaked, noPeak}
+use Rattle.tree.specs.Tree.{roots}
 use Rattle.rules.specs.Phase
-use Rattle.rules.specs.Command.{places}
+use Rattle.format.specs.Command.{places}
 use Rattle.rules.specs.Reachable.{Reachable}
 use Rattle.rules.specs.Grounds.{demand, inTurn, inLimits, noPeaks, ownGround, ground}
-use Rattle.rules.specs.Booking.{total}
+use Rattle.books.specs.Booking.{total}
 use Rattle.rules.specs.Obey as obeying
 use Rattle.rules.specs.Obey.{proceed, obey}
 use Rattle.rules.specs.Answer.{accept}

@@ -1,6 +1,6 @@
 -- What the parts of a command leave of what is given of a plan.
 use mathlib.Core.Path.{ap, _∙_}
-use Rattle.rules.specs.Kind.{chilled}
+use Rattle.books.specs.Kind.{chilled}
 use Rattle.words.specs.Contents.{Contents}
 use Rattle.store.specs.Kept.{SamePlan}
 use Rattle.survey.specs.Prepare.{withNeeds, withFigures, Prepared}

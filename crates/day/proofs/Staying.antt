@@ -3,8 +3,8 @@ use mathlib.Core.Path.{_≡_, refl, sym, ap, _∙_}
 use mathlib.Core.List.{List}
 use Prim.Native.Nat.{ℕ, suc, _≤_, _<_}
 use native.Mathlib.Omega.{arith}
-use Rattle.rules.specs.Kind
-use Rattle.rules.specs.Lists.{at}
+use Rattle.books.specs.Kind
+use Rattle.numbers.specs.Lists.{at}
 use Rattle.rules.specs.Phase
 use Rattle.words.specs.Layout.{words, chilled}
 use Rattle.words.specs.Contents.{Contents, withHead, storeWithHead}

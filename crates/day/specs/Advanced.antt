@@ -3,8 +3,9 @@ use mathlib.Core.Path.{_≡_}
 use mathlib.Core.List.{List}
 use Prim.Native.Nat.{ℕ}
 use lib.ListN.{length}
-use Rattle.rules.specs.Lists.{at}
-use Rattle.rules.specs.Booking.{Books, activate, starts, start, free}
+use Rattle.numbers.specs.Lists.{at}
+use Rattle.rules.specs.Obey.{free}
+use Rattle.books.specs.Booking.{Books, activate, starts, start}
 use Rattle.rules.specs.Answer.{front}
 use Rattle.words.specs.Contents.{Contents}
 use Rattle.store.specs.Rows.{books, termsIn, activationOf, executionOf}

@@ -5,11 +5,11 @@ use mathlib.Core.List.{List}
 use Prim.Native.Nat.{ℕ, _^_, _≤_, _<_}
 use lib.Dec.{eqb}
 use lib.ListN.{length}
-use Rattle.rules.specs.Kind
-use Rattle.rules.specs.Limits.{maxProcessors, leastStarts}
+use Rattle.books.specs.Kind
+use Rattle.numbers.specs.Limits.{maxProcessors, leastStarts}
 use Rattle.rules.specs.Phase
 use Rattle.rules.specs.Obey.{fresh}
-use Rattle.rules.specs.Booking.{Books}
+use Rattle.books.specs.Booking.{Books}
 use Rattle.words.specs.Layout.{chilled}
 use Rattle.words.specs.Contents.{Contents, withHead}
 use Rattle.store.specs.Rows.{books}

@@ -1,6 +1,6 @@
 // FETCH: the trolley is fetched.
 ghost use mathlib.Core.Path.{_≡_};
-ghost use Rattle.rules.specs.Command as rules;
+ghost use Rattle.format.specs.Command as rules;
 ghost use Rattle.rules.specs.Phase;
 ghost use Rattle.rules.specs.State.{rootOf};
 ghost use Rattle.words.specs.Contents.{contents};

@@ -2,8 +2,8 @@
 ghost use mathlib.Core.Path.{_≡_};
 ghost use Prim.Native.Nat.{_≤_};
 ghost use lib.ListN.{length};
-ghost use Rattle.rules.specs.Command as rules;
-ghost use Rattle.rules.specs.Limits.{leastStarts};
+ghost use Rattle.format.specs.Command as rules;
+ghost use Rattle.numbers.specs.Limits.{leastStarts};
 ghost use Rattle.words.specs.Contents.{contents};
 ghost use Rattle.answer.specs.ValidPlan.{ValidPlan, Judged};
 ghost use Rattle.rules.specs.Grounds.{ground};

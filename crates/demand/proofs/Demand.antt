@@ -5,49 +5,34 @@ use mathlib.Core.Logic.{_↔_}
 use mathlib.Core.List.{List, [], _∷_, _++_}
 use Prim.Native.Nat.{ℕ, _≤_, _<_}
 use lib.ListN.{length}
-use Rattle.rules.specs.Kind.{Kind, chilled}
-use Rattle.rules.specs.Lists.{at}
+use Rattle.books.specs.Kind.{Kind, chilled}
+use Rattle.numbers.specs.Lists.{at}
 use Rattle.rules.specs.Phase
-use Rattle.rules.specs.Standing
-use Rattle.rules.specs.State.{State, none, storeOf}
-use Rattle.rules.specs.Command.{plan, read, decode}
+use Rattle.books.specs.Standing
+use Rattle.rules.specs.State.{State, none, storeOf, OrdersHold}
+use Rattle.format.specs.Command.{plan, read, decode}
 use Rattle.rules.specs.Grounds.{peakIn}
 use Rattle.rules.specs.Answer as rules
 use Rattle.rules.specs.Question as questions
-use Rattle.rules.specs.Why.{Reason, why}
-use Rattle.rules.specs.Reasons.{ReasonHolds}
-use Rattle.rules.specs.Write.{Wrote, write}
-use Rattle.rules.specs.Restored.{WriteHolds}
-use Rattle.rules.specs.Find.{findOrder}
-use Rattle.rules.specs.FoundOrder.{FindHolds}
-use Rattle.rules.specs.PeakTask.{PeakHolds}
+use Rattle.whys.specs.Why.{Reason, why}
+use Rattle.whys.specs.WhyHolds.{ReasonHolds}
+use Rattle.streams.specs.Write.{Wrote, write}
+use Rattle.streams.specs.WriteHolds.{WriteHolds}
+use Rattle.postorders.specs.Find.{findOrder}
+use Rattle.postorders.specs.FindHolds.{FindHolds}
+use Rattle.peaks.specs.PeakHolds.{PeakHolds}
 use Rattle.rules.specs.Reachable.{Reachable}
 use Rattle.rules.specs.Day as days
 use Rattle.rules.specs.Obey.{completed}
-use Rattle.rules.specs.Theorem.{DayHolds, OrdersHold, SamePlan}
-use Rattle.rules.proofs.Reasons.{every-reason-holds}
-use Rattle.rules.proofs.Written.{every-write-holds}
-use Rattle.rules.proofs.Find.{every-find-holds}
-use Rattle.rules.proofs.PeakTask.{every-peak-holds}
-use Rattle.rules.proofs.Theorem.{after-append, theorem}
+use Rattle.theorem.specs.Theorem.{DayHolds, SamePlan}
+use Rattle.whys.proofs.WhyHolds.{every-reason-holds}
+use Rattle.streams.proofs.Written.{every-write-holds}
+use Rattle.postorders.proofs.Find.{every-find-holds}
+use Rattle.peaks.proofs.PeakHolds.{every-peak-holds}
+use Rattle.theorem.proofs.Theorem.{after-append, theorem}
 use Rattle.answer.specs.Meaning.{planOf}
 use Rattle.answer.specs.ValidPlan.{ValidPlan, NewPlan}
-use Rattle.demand.specs.Calls.{
-  Call,
-  CallContract,
-  Calls,
-  Entries,
-  Answers,
-  leftBy,
-  received,
-  asked,
-  allReceived,
-  accepted,
-  opensDay,
-  opensPlan,
-  nextPlan,
-  history,
-}
+use Rattle.demand.specs.Calls.{Call, CallContract, Calls, Entries, Answers, leftBy, received, asked, allReceived, accepted, opensDay, opensPlan, nextPlan, history}
 use Rattle.demand.specs.Demand.{AnswersHold, DayOfCalls, OpenedWith, EveryCallHolds}
 use Rattle.plan.proofs.NewPlan.{new-empty, new-valid}
 use Rattle.demand.proofs.Opened.{opened-first, opened-stays}

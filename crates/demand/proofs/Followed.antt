@@ -6,15 +6,15 @@ use mathlib.Core.List.{List}
 use Prim.Native.Nat.{ℕ}
 use lib.ListN.{length}
 use borrow.Author.Tests.{eqb-true, eq-eqb, le-ltb}
-use Rattle.rules.specs.Limits.{leastStarts}
-use Rattle.rules.specs.Command.{Command}
+use Rattle.numbers.specs.Limits.{leastStarts}
+use Rattle.format.specs.Command.{Command}
 use Rattle.rules.specs.Grounds.{ground}
 use Rattle.rules.specs.Obey.{obey}
 use Rattle.rules.specs.Answer as rules
-use Rattle.rules.proofs.Tests.{same-or-not}
+use Rattle.numbers.proofs.Tests.{same-or-not}
 use Rattle.rules.proofs.Judging.{judge-refused}
 use Rattle.rules.proofs.Reaching.{is-read}
-use Rattle.rules.proofs.Stream.{granted-answer}
+use Rattle.streams.proofs.Stream.{granted-answer}
 use Rattle.answer.specs.Meaning.{planOf}
 use Rattle.demand.specs.Calls.{Call, CallContract, accepted, Asks}
 

@@ -8,13 +8,13 @@ use lib.ListN.{take}
 use borrow.Author.Tests.{eqb-true}
 use Rattle.rules.specs.Phase
 use Rattle.rules.specs.State.{State}
-use Rattle.rules.specs.Command.{Command, activation, begin}
+use Rattle.format.specs.Command.{Command, activation, begin}
 use Rattle.rules.specs.Grounds.{inTurn, ground}
 use Rattle.rules.specs.Obey.{withOrders}
-use Rattle.rules.specs.Stream.{obeyAll, acceptsAll}
-use Rattle.rules.specs.Write.{Wrote}
-use Rattle.rules.specs.FoundOrder.{SameTasks, BeginsUnlessNoneFits, FoundHolds, FindHolds}
-use Rattle.rules.proofs.Tests.{and-true, and-both}
+use Rattle.streams.specs.Stream.{obeyAll, acceptsAll}
+use Rattle.streams.specs.Write.{Wrote}
+use Rattle.postorders.specs.FindHolds.{SameTasks, BeginsUnlessNoneFits, FoundHolds, FindHolds}
+use Rattle.numbers.proofs.Tests.{and-true, and-both}
 use Rattle.answer.specs.Meaning.{planOf}
 use Rattle.demand.specs.Calls.{Call, CallContract, Calls, leftBy, accepted, allAccepted, Asks, AskEach}
 use Rattle.demand.proofs.Followed.{number-is, followed}

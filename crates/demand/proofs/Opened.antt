@@ -4,14 +4,14 @@ use mathlib.Core.Bool.{Bool, true, false, _&&_}
 use mathlib.Core.List.{List, [], _∷_, _++_, map}
 use Prim.Native.Nat.{ℕ}
 use Rattle.rules.specs.State.{State}
-use Rattle.rules.specs.Command.{Command, Decoded, plan, task, activation, execution, begin, done, fetch, places, byteOf, operandsOf, refused, read, decode}
+use Rattle.format.specs.Command.{Command, Decoded, plan, task, activation, execution, begin, done, fetch, places, byteOf, operandsOf, refused, read, decode}
 use Rattle.rules.specs.Obey.{opened, withTask, withOrders, completed, unloaded, withBooks, withBound, proceed, obey}
 use Rattle.rules.specs.Answer.{Asking, command}
 use Rattle.rules.specs.Day.{Event, started, reported, events, log, inForce, accepted, isPlan, opensPlan, nextPlan, after}
-use Rattle.rules.proofs.Tests.{clash, or-false}
+use Rattle.numbers.proofs.Tests.{clash, or-false}
 use Rattle.rules.proofs.InForce.{in-force-append, starts-in-force}
 use Rattle.rules.proofs.Steps.{Step, is-refused, is-obeyed, step}
-use Rattle.rules.proofs.Refusals.{nothing-happens}
+use Rattle.theorem.proofs.Refusals.{nothing-happens}
 use Rattle.demand.specs.Demand.{OpenedWith}
 
 -- what obeying a decoded command leaves

@@ -10,18 +10,18 @@ use lib.ListN.{length, take, drop, length-append, take-append-drop}
 use borrow.Author.Tests.{eqb-true}
 use Rattle.rules.specs.Phase
 use Rattle.rules.specs.State.{State, none}
-use Rattle.rules.specs.Command.{Command, bytes, read, decode}
+use Rattle.format.specs.Command.{Command, bytes, read, decode}
 use Rattle.rules.specs.Grounds.{ground}
-use Rattle.rules.specs.Stream.{obeyAll, acceptsAll}
-use Rattle.rules.specs.Instance.{instanceOf, unbegun, commands, written}
-use Rattle.rules.specs.Write.{Wrote, write}
+use Rattle.streams.specs.Stream.{obeyAll, acceptsAll}
+use Rattle.streams.specs.Instance.{instanceOf, unbegun, commands, written}
+use Rattle.streams.specs.Write.{Wrote, write}
 use Rattle.rules.specs.Reachable.{Reachable}
-use Rattle.rules.specs.Restored.{WriteHolds}
-use Rattle.rules.proofs.Tests.{and-true, and-both}
-use Rattle.rules.proofs.Bytes.{decode-bytes-at}
-use Rattle.rules.proofs.Stream.{FitAll}
-use Rattle.rules.proofs.Instance.{commands-lead, proper}
-use Rattle.rules.proofs.Written.{every-write-holds, granted-whole}
+use Rattle.streams.specs.WriteHolds.{WriteHolds}
+use Rattle.numbers.proofs.Tests.{and-true, and-both}
+use Rattle.format.proofs.Bytes.{decode-bytes-at}
+use Rattle.streams.proofs.Stream.{FitAll}
+use Rattle.streams.proofs.Instance.{commands-lead, proper}
+use Rattle.streams.proofs.Written.{every-write-holds, granted-whole}
 use Rattle.answer.specs.Meaning.{planOf}
 use Rattle.answer.specs.ValidPlan.{NewPlan}
 use Rattle.plan.proofs.NewPlan.{new-empty}

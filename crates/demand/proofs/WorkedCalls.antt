@@ -6,12 +6,12 @@ use native.Mathlib.Omega.{arith}
 use lib.ListN.{set, replicate}
 use Rattle.rules.specs.Phase
 use Rattle.rules.specs.State.{State}
-use Rattle.rules.specs.Command.{plan, bytes, decode}
+use Rattle.format.specs.Command.{plan, bytes, decode}
 use Rattle.rules.specs.Reachable.{Reachable, next}
 use Rattle.rules.specs.Answer as rules
 use Rattle.rules.specs.Day.{inForce}
-use Rattle.rules.specs.Marked.{ask, reading}
-use Rattle.rules.proofs.Computing.{computing}
+use Rattle.worked.specs.Marked.{ask, reading}
+use Rattle.worked.proofs.Computing.{computing}
 use Rattle.words.specs.Layout.{words, headBase}
 use Rattle.words.specs.Contents.{contents}
 use Rattle.answer.specs.Meaning.{planOf}

@@ -4,14 +4,14 @@ use mathlib.Core.Bool.{Bool, true, false, _&&_, _||_}
 use mathlib.Core.List.{List, [], _∷_, _++_, map}
 use Prim.Native.Nat.{ℕ, _+_, _^_, _≤_, _<_}
 use lib.ListN.{length}
-use Rattle.rules.specs.Command.{Command, read, decode}
+use Rattle.format.specs.Command.{Command, read, decode}
 use Rattle.rules.specs.Answer as rules
 use Rattle.rules.specs.Question as questions
-use Rattle.rules.specs.Limits.{leastStarts}
-use Rattle.rules.specs.Lists.{at}
-use Rattle.rules.specs.Why.{Reason, why}
-use Rattle.rules.specs.Write.{Wrote, write}
-use Rattle.rules.specs.Find.{findOrder}
+use Rattle.numbers.specs.Limits.{leastStarts}
+use Rattle.numbers.specs.Lists.{at}
+use Rattle.whys.specs.Why.{Reason, why}
+use Rattle.streams.specs.Write.{Wrote, write}
+use Rattle.postorders.specs.Find.{findOrder}
 use Rattle.rules.specs.Day as days
 use Rattle.words.specs.Contents.{contents}
 use Rattle.answer.specs.declared.Answer.{Answer}

@@ -5,48 +5,29 @@ use mathlib.Core.Logic.{_↔_}
 use mathlib.Core.List.{List, [], _∷_, _++_, map}
 use Prim.Native.Nat.{ℕ, _^_, _≤_, _<_}
 use lib.ListN.{length, take}
-use Rattle.rules.specs.Kind.{Kind}
-use Rattle.rules.specs.Sums.{Task, countTo}
-use Rattle.rules.specs.Lists.{at}
+use Rattle.books.specs.Kind.{Kind}
+use Rattle.numbers.specs.Sums.{Task, countTo}
+use Rattle.numbers.specs.Lists.{at}
 use Rattle.rules.specs.Phase
-use Rattle.rules.specs.Standing
-use Rattle.rules.specs.State.{State, none, storeOf}
-use Rattle.rules.specs.Command as rules
+use Rattle.books.specs.Standing
+use Rattle.rules.specs.State.{State, none, storeOf, OrdersHold}
+use Rattle.format.specs.Command as rules
 use Rattle.rules.specs.Grounds.{inTurn, peakIn}
 use Rattle.rules.specs.Question as questions
-use Rattle.rules.specs.Why.{why}
-use Rattle.rules.specs.Reasons.{ReasonHolds}
-use Rattle.rules.specs.Instance.{instanceOf, unbegun}
-use Rattle.rules.specs.Write.{write}
-use Rattle.rules.specs.Restored.{WriteHolds}
-use Rattle.rules.specs.Find.{findOrder}
-use Rattle.rules.specs.FoundOrder.{SameTasks, BeginsUnlessNoneFits, FindHolds}
-use Rattle.rules.specs.PeakTask.{PeakHolds}
-use Rattle.rules.specs.Day.{Event, ends, isFetched, inForce, after, answers}
+use Rattle.whys.specs.Why.{why}
+use Rattle.whys.specs.WhyHolds.{ReasonHolds}
+use Rattle.streams.specs.Instance.{instanceOf, unbegun}
+use Rattle.streams.specs.Write.{write}
+use Rattle.streams.specs.WriteHolds.{WriteHolds}
+use Rattle.postorders.specs.Find.{findOrder}
+use Rattle.postorders.specs.FindHolds.{SameTasks, BeginsUnlessNoneFits, FindHolds}
+use Rattle.peaks.specs.PeakHolds.{PeakHolds}
+use Rattle.rules.specs.Day.{Event, ends, isFetched, inForce, after, answers, runs}
 use Rattle.rules.specs.Obey.{withOrders, completed}
-use Rattle.rules.specs.Theorem.{DayHolds, OrdersHold, SamePlan, runs, usedBy}
+use Rattle.theorem.specs.Theorem.{DayHolds, SamePlan, usedBy}
 use Rattle.answer.specs.Meaning.{planOf}
 use Rattle.answer.specs.ValidPlan.{ValidPlan, NewPlan}
-use Rattle.demand.specs.Calls.{
-  Call,
-  CallContract,
-  Calls,
-  Bytes,
-  Entries,
-  Answers,
-  leftBy,
-  received,
-  asked,
-  allReceived,
-  accepted,
-  opensDay,
-  nextPlan,
-  allAccepted,
-  Reads,
-  Asks,
-  AskEach,
-  history,
-}
+use Rattle.demand.specs.Calls.{Call, CallContract, Calls, Bytes, Entries, Answers, leftBy, received, asked, allReceived, accepted, opensDay, nextPlan, allAccepted, Reads, Asks, AskEach, history}
 
 -- what the questions answer in a day: w are the words of the plan as it stands, and `happened` the day's starts, ends, fetch and new
 -- bounds so far

@@ -6,12 +6,12 @@ use mathlib.Core.List.{List, map}
 use Prim.Native.Nat.{ℕ, zero, suc, _≤_, _<_, min}
 use native.Mathlib.Omega.{arith}
 use lib.ListN.{length, length-map, List·getD-eq-default}
-use Rattle.rules.specs.Lists.{at}
-use Rattle.rules.specs.Limits.{maxTasks}
-use Rattle.rules.specs.Grounds.{within}
-use Rattle.rules.specs.Desk.{StepRecord, deskAnswer, column, desk}
-use Rattle.rules.proofs.Tests.{decide, clash, le-or-lt}
-use Rattle.rules.proofs.Orders.{within-task, task-within}
+use Rattle.numbers.specs.Lists.{at}
+use Rattle.numbers.specs.Limits.{maxTasks}
+use Rattle.numbers.specs.Sums.{within}
+use Rattle.peaks.specs.Desk.{StepRecord, deskAnswer, column, desk}
+use Rattle.numbers.proofs.Tests.{decide, clash, le-or-lt}
+use Rattle.tree.proofs.Orders.{within-task, task-within}
 use Rattle.desk.specs.declared.TaskRecord.{TaskRecord}
 use Rattle.desk.specs.Records.{stepRecord, stepRecords}
 use Rattle.desk.specs.Columns.{ofTask, columnTasks}

@@ -5,8 +5,8 @@ use Prim.Native.Nat.{ℕ, suc, _+_, _<_, min}
 use native.Mathlib.Numerals.{add-one}
 use native.Mathlib.Omega.{arith}
 use lib.ListN.{length, getD, take, set, replicate, length-map, List·getD-map}
-use Rattle.rules.specs.Limits.{maxTasks}
-use Rattle.rules.specs.Desk.{StepRecord, column}
+use Rattle.numbers.specs.Limits.{maxTasks}
+use Rattle.peaks.specs.Desk.{StepRecord, column}
 use Rattle.desk.specs.declared.TaskRecord.{TaskRecord}
 use Rattle.desk.specs.Records.{stepRecord, stepRecords}
 use Rattle.desk.proofs.Padding.{padded, length-padded, padded-nothing, padded-next, padded-front}

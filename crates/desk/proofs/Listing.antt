@@ -7,10 +7,10 @@ use native.Mathlib.Omega.{arith}
 use native.Mathlib.Numerals.{add-one}
 use lib.ListN.{length, take}
 use lib.Seq.{take-suc, take-all}
-use Rattle.rules.specs.Lists.{at, every}
-use Rattle.rules.proofs.Tests.{clash, fails}
-use Rattle.rules.proofs.Sums.{Task}
-use Rattle.rules.proofs.Orders.{within-task, mem-at, every-mem, every-append}
+use Rattle.numbers.specs.Lists.{at, every}
+use Rattle.numbers.proofs.Tests.{clash, fails}
+use Rattle.numbers.proofs.Sums.{Task}
+use Rattle.tree.proofs.Orders.{within-task, mem-at, every-mem, every-append}
 use Rattle.desk.specs.Room.{Listed}
 
 -- one entry more

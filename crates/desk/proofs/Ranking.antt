@@ -8,11 +8,11 @@ use native.Mathlib.Omega.{arith}
 use native.Mathlib.Numerals.{add-one}
 use lib.ListN.{length, take, set, length-set}
 use lib.Seq.{take-all, take-suc-set, getD-set-same, getD-set-other}
-use Rattle.rules.specs.Lists.{at, mem, distinct, place}
-use Rattle.rules.specs.Limits.{maxTasks}
-use Rattle.rules.proofs.Sums.{Task}
-use Rattle.rules.proofs.Tests.{fails, same-or-not}
-use Rattle.rules.proofs.Orders.{place-lt, place-at, place-of}
+use Rattle.numbers.specs.Lists.{at, mem, distinct, place}
+use Rattle.numbers.specs.Limits.{maxTasks}
+use Rattle.numbers.proofs.Sums.{Task}
+use Rattle.numbers.proofs.Tests.{fails, same-or-not}
+use Rattle.tree.proofs.Orders.{place-lt, place-at, place-of}
 use Rattle.words.specs.Layout.{row, words, activationBase}
 use Rattle.words.specs.Contents.{Contents, contents, withCell, withOrders, storeWithCell}
 use Rattle.words.proofs.Contents.{contents-activation, lengths, wrote-cell}

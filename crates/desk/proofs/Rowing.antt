@@ -8,14 +8,13 @@ use native.Mathlib.Omega.{arith}
 use lib.Dec.{leb}
 use lib.ListN.{length, set, replicate, length-replicate, getD-replicate, List·getD-eq-default}
 use lib.Seq.{getD-set-same, getD-set-other}
-use Rattle.rules.specs.Kind.{chilled}
-use Rattle.rules.specs.Sums.{everyTo}
-use Rattle.rules.specs.Lists.{at}
-use Rattle.rules.specs.Limits.{maxTasks}
-use Rattle.rules.specs.Grounds.{within}
-use Rattle.rules.proofs.Tests.{decide, clash, fails, same-or-not, le-or-lt}
-use Rattle.rules.proofs.Sums.{Task, only-true, only-false, every-to, every-one}
-use Rattle.rules.proofs.Orders.{within-task, task-within}
+use Rattle.books.specs.Kind.{chilled}
+use Rattle.numbers.specs.Sums.{everyTo, within}
+use Rattle.numbers.specs.Lists.{at}
+use Rattle.numbers.specs.Limits.{maxTasks}
+use Rattle.numbers.proofs.Tests.{decide, clash, fails, same-or-not, le-or-lt}
+use Rattle.numbers.proofs.Sums.{Task, only-true, only-false, every-to, every-one}
+use Rattle.tree.proofs.Orders.{within-task, task-within}
 use Rattle.words.specs.Layout.{row, rows, words}
 use Rattle.words.specs.Views.{column}
 use Rattle.words.specs.Contents.{Contents, contents, storeContents, withCell, storeWithCell}

@@ -7,14 +7,13 @@ use native.Mathlib.Omega.{arith}
 use lib.Dec.{eqb, leb}
 use lib.ListN.{length, take, set}
 use borrow.Author.Tests.{leb-true, eq-eqb, ne-eqb}
-use Rattle.rules.specs.Sums.{everyTo}
-use Rattle.rules.specs.Lists.{at, every, distinct}
-use Rattle.rules.specs.Limits.{maxTasks}
-use Rattle.rules.specs.Peak
-use Rattle.rules.specs.Grounds.{within}
-use Rattle.rules.specs.Desk.{deskGround, deskAnswer}
-use Rattle.rules.proofs.Sums.{every-one}
-use Rattle.rules.proofs.Orders.{within-task}
+use Rattle.numbers.specs.Sums.{everyTo, within}
+use Rattle.numbers.specs.Lists.{at, every, distinct}
+use Rattle.numbers.specs.Limits.{maxTasks}
+use Rattle.tree.specs.Peak
+use Rattle.peaks.specs.Desk.{deskGround, deskAnswer}
+use Rattle.numbers.proofs.Sums.{every-one}
+use Rattle.tree.proofs.Orders.{within-task}
 use Rattle.words.specs.Layout.{words, headBase}
 use Rattle.words.specs.Contents.{Contents, contents, withHead, storeWithHead}
 use Rattle.words.proofs.Contents.{wrote-head}

@@ -1,7 +1,7 @@
 -- The caller's records, and what the desk is answered, as those of the rules.
 use mathlib.Core.List.{List, map}
-use Rattle.rules.specs.Desk as rules
-use Rattle.rules.specs.Desk.{StepRecord}
+use Rattle.peaks.specs.Desk as rules
+use Rattle.peaks.specs.Desk.{StepRecord}
 use Rattle.desk.specs.declared.TaskRecord.{TaskRecord}
 use Rattle.desk.specs.declared.DeskAnswer.{DeskAnswer}
 

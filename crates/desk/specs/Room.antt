@@ -4,9 +4,9 @@ use mathlib.Core.Bool.{true}
 use mathlib.Core.List.{List}
 use Prim.Native.Nat.{ℕ, _+_, _≤_, _<_}
 use lib.ListN.{length, take}
-use Rattle.rules.specs.Lists.{at, every, distinct}
-use Rattle.rules.specs.Limits.{maxTasks}
-use Rattle.rules.specs.Grounds.{within}
+use Rattle.numbers.specs.Lists.{at, every, distinct}
+use Rattle.numbers.specs.Limits.{maxTasks}
+use Rattle.numbers.specs.Sums.{within}
 use Rattle.words.specs.Layout.{rows, words, chilled}
 use Rattle.words.specs.Contents.{Contents, withCell}
 use Rattle.desk.specs.Columns.{ofTask}

@@ -3,7 +3,7 @@ use mathlib.Core.Path.{_≡_, refl, ap, _∙_}
 use mathlib.Core.List.{List}
 use Prim.Native.Nat.{ℕ, _+_, _*_, _<_}
 use lib.ListN.{length, set}
-use Rattle.rules.specs.Lists.{at}
+use Rattle.numbers.specs.Lists.{at}
 use Rattle.words.specs.Layout.{row, rows, words, standing}
 use Rattle.words.specs.Contents.{Contents, contents, withCell, withHead}
 use Rattle.words.proofs.Views.{column-at}

@@ -9,25 +9,26 @@ use lib.Dec.{eqb}
 use lib.ListN.{length, set, length-set}
 use lib.Seq.{getD-set-same, getD-set-other}
 use borrow.Author.Tests.{eq-eqb, ne-eqb}
-use Rattle.rules.specs.Kind.{Kind, Each, of, each}
-use Rattle.rules.specs.Kind
-use Rattle.rules.specs.Sums.{Task, only, sumTo}
-use Rattle.rules.specs.Lists.{at}
-use Rattle.rules.specs.Need.{need}
-use Rattle.rules.specs.Standing.{activated, running, finished, count}
-use Rattle.rules.specs.Booking.{Books, Share, Climbed, chain, figure, total, release, climb, dispatch, ready, fed}
-use Rattle.rules.specs.Invariant.{Tree, up, rankIn, Shape, Balance, Balanced, Good}
-use Rattle.rules.proofs.Tests.{clash, same-or-not, le-or-lt, and-none}
-use Rattle.rules.proofs.Sums.{count-le, term-le, only-true, only-false}
-use Rattle.rules.proofs.Tree.{not-above-itself}
-use Rattle.rules.proofs.Ranks.{tree-of}
-use Rattle.rules.proofs.Shape.{Moved, not-begun-above}
-use Rattle.rules.proofs.Balance.{finished-figure}
-use Rattle.rules.proofs.Usage.{in-process-within}
-use Rattle.rules.proofs.Finishing.{Taken, finishing-shape, finishing-balance, finishing-total, figure-taken, figure-kept, out-within}
-use Rattle.rules.proofs.Branches.{release-child}
-use Rattle.rules.proofs.Sharing.{Owing, climbs, sharing-good}
-use Rattle.rules.proofs.Entries.{at-other, moved-by-set}
+use Rattle.books.specs.Kind.{Kind, Each, of, each}
+use Rattle.books.specs.Kind
+use Rattle.numbers.specs.Sums.{Task, only, sumTo}
+use Rattle.numbers.specs.Lists.{at}
+use Rattle.tree.specs.Need.{need}
+use Rattle.books.specs.Standing.{activated, running, finished, count}
+use Rattle.books.specs.Booking.{Books, Share, Climbed, total, release, climb, dispatch, ready, fed}
+use Rattle.tree.specs.Tree.{chain, figure, Tree, up, rankIn}
+use Rattle.books.specs.Invariant.{Shape, Balance, Balanced, Good}
+use Rattle.numbers.proofs.Tests.{clash, same-or-not, le-or-lt, and-none}
+use Rattle.numbers.proofs.Sums.{count-le, term-le, only-true, only-false}
+use Rattle.tree.proofs.Tree.{not-above-itself}
+use Rattle.tree.proofs.Ranks.{tree-of}
+use Rattle.books.proofs.Shape.{Moved, not-begun-above}
+use Rattle.books.proofs.Balance.{finished-figure}
+use Rattle.books.proofs.Usage.{in-process-within}
+use Rattle.books.proofs.Finishing.{Taken, finishing-shape, finishing-balance, finishing-total, figure-taken, figure-kept, out-within}
+use Rattle.books.proofs.Branches.{release-child}
+use Rattle.books.proofs.Sharing.{Owing, climbs, sharing-good}
+use Rattle.books.proofs.Entries.{at-other, moved-by-set}
 use Rattle.rules.proofs.Reporting.{one-fewer, one-more-ended}
 use Rattle.words.specs.Layout.{rows}
 use Rattle.words.specs.Contents.{Contents}

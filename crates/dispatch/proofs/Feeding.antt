@@ -8,9 +8,9 @@ use native.Mathlib.Omega.{arith}
 use lib.Dec.{eqb}
 use lib.ListN.{set}
 use borrow.Author.Tests.{eq-eqb, ne-eqb}
-use Rattle.rules.specs.Lists.{at}
-use Rattle.rules.specs.Standing.{activated, finished}
-use Rattle.rules.proofs.Tests.{same-or-not, and-none}
+use Rattle.numbers.specs.Lists.{at}
+use Rattle.books.specs.Standing.{activated, finished}
+use Rattle.numbers.proofs.Tests.{same-or-not, and-none}
 use Rattle.words.specs.Layout.{row, rows, standing}
 use Rattle.words.specs.Contents.{Contents, contents, storeWithCell, withCell, storeWithHead, withHead, withReady}
 use Rattle.words.specs.Marks.{Marks, changed, MayChange, Changed}

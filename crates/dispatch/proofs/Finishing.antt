@@ -3,11 +3,12 @@ use mathlib.Core.Path.{_≡_, refl, sym, ap, subst, fun-ext, _∙_}
 use Prim.Native.Nat.{ℕ, _+_, _-_, _≤_}
 use native.Mathlib.Omega.{arith}
 use lib.ListN.{set}
-use Rattle.rules.specs.Kind.{Kind, of}
-use Rattle.rules.specs.Kind
-use Rattle.rules.specs.Lists.{at}
-use Rattle.rules.specs.Standing.{finished}
-use Rattle.rules.specs.Booking.{Terms, bookedIn, chain, climb}
+use Rattle.books.specs.Kind.{Kind, of}
+use Rattle.books.specs.Kind
+use Rattle.numbers.specs.Lists.{at}
+use Rattle.books.specs.Standing.{finished}
+use Rattle.books.specs.Booking.{Terms, bookedIn, climb}
+use Rattle.tree.specs.Tree.{chain}
 use Rattle.words.specs.Layout.{words, chilled}
 use Rattle.words.specs.Contents.{Contents, withReady}
 use Rattle.words.proofs.Contents.{Lengths}
@@ -22,31 +23,7 @@ use Rattle.dispatch.specs.Climb.{MayClimb, shareOf, Carried, DidClimb}
 use Rattle.dispatch.specs.Ended.{withProgress, ended, Fed}
 use Rattle.dispatch.specs.Finished.{MayFinish, Finished}
 use Rattle.dispatch.proofs.Feeding.{waitsForFewer}
-use Rattle.dispatch.proofs.Ending.{
-  sharedWith,
-  restOf,
-  task-in,
-  parent-in,
-  out-held,
-  parent-fits,
-  used-has,
-  used-fits,
-  carrying,
-  then-zero,
-  counted-then,
-  marks-then,
-  used-then,
-  runs-then,
-  ends-then,
-  reached-then,
-  booked-zero,
-  left-fits,
-  totals-then,
-  figured-then,
-  books-then,
-  offers-then,
-  good-then,
-}
+use Rattle.dispatch.proofs.Ending.{sharedWith, restOf, task-in, parent-in, out-held, parent-fits, used-has, used-fits, carrying, then-zero, counted-then, marks-then, used-then, runs-then, ends-then, reached-then, booked-zero, left-fits, totals-then, figured-then, books-then, offers-then, good-then}
 
 module _ {c : Contents} {j : ℕ} (may : MayFinish c j) (long : Lengths c) {c₂ : Contents} (fed : Fed (at (c .parents) j) (ended j c) c₂) where
   -- j is an ended task, and its parent waits for one child fewer

@@ -4,29 +4,17 @@ use Prim.Native.Nat.{ℕ, _+_, _-_, _≤_, _<_}
 use native.Mathlib.Omega.{arith}
 use lib.ListN.{length, set}
 use lib.Seq.{getD-set-other}
-use Rattle.rules.specs.Kind
-use Rattle.rules.specs.Lists.{at}
-use Rattle.rules.specs.Standing.{waiting}
-use Rattle.rules.specs.Booking.{chain}
+use Rattle.books.specs.Kind
+use Rattle.numbers.specs.Lists.{at}
+use Rattle.books.specs.Standing.{waiting}
+use Rattle.tree.specs.Tree.{chain}
 use Rattle.words.specs.Layout.{rows}
 use Rattle.words.specs.Contents.{Contents}
 use Rattle.words.proofs.Contents.{Lengths}
 use Rattle.store.specs.Rows.{termsIn}
 use Rattle.store.specs.Store.{withStore, withHoldings, AtTask, gift, passed, MayPass, rested}
 use Rattle.dispatch.specs.Climb.{MayClimb, climbFrom, withCarried, DidClimb}
-use Rattle.dispatch.proofs.Way.{
-  Way,
-  way-first,
-  way-root,
-  way-nothing,
-  way-shorter,
-  waiting-room,
-  way-waiting,
-  figure-room,
-  gift-fits,
-  booked-fits,
-  way-next,
-}
+use Rattle.dispatch.proofs.Way.{Way, way-first, way-root, way-nothing, way-shorter, waiting-room, way-waiting, figure-room, gift-fits, booked-fits, way-next}
 
 -- between two turns: i is the next task, `left` goes up, and nothing else has changed
 pub record Climbing (x r : ℕ) (c₀ c : Contents) (i left offers : ℕ) : Type 0 where

@@ -9,32 +9,26 @@ use lib.Dec.{eqb}
 use lib.ListN.{length, set, length-set}
 use lib.Seq.{getD-set-same, getD-set-other}
 use borrow.Author.Tests.{eq-eqb, ne-eqb}
-use Rattle.rules.specs.Kind.{Kind, all}
-use Rattle.rules.specs.Kind
-use Rattle.rules.specs.Sums.{Task, only}
-use Rattle.rules.specs.Lists.{at}
-use Rattle.rules.specs.Standing.{waiting}
-use Rattle.rules.specs.Booking.{Terms, Climbed, chain, figure, total, spent, gift, pass, passEach, offer, climb}
-use Rattle.rules.specs.Invariant.{up, Active, Balance}
-use Rattle.rules.proofs.Tests.{same-or-not, or-left, or-right}
-use Rattle.rules.proofs.Sums.{term-le, only-le, only-true, only-false}
-use Rattle.rules.proofs.Tree.{up-self, up-step, chain-none, chain-more, chain-step}
-use Rattle.rules.proofs.Shape.{child-not-waiting}
-use Rattle.rules.proofs.Giving.{Given}
-use Rattle.rules.proofs.Climbing.{gift-within, offer-balance, offer-total}
-use Rattle.rules.proofs.Branches.{climb-stop, climb-offer}
+use Rattle.books.specs.Kind.{Kind, all}
+use Rattle.books.specs.Kind
+use Rattle.numbers.specs.Sums.{Task, only}
+use Rattle.numbers.specs.Lists.{at}
+use Rattle.books.specs.Standing.{waiting}
+use Rattle.books.specs.Booking.{Terms, Climbed, total, spent, gift, pass, passEach, offer, climb}
+use Rattle.tree.specs.Tree.{chain, figure, up}
+use Rattle.books.specs.Invariant.{Active, Balance}
+use Rattle.numbers.proofs.Tests.{same-or-not, or-left, or-right}
+use Rattle.numbers.proofs.Sums.{term-le, only-le, only-true, only-false}
+use Rattle.tree.proofs.Tree.{up-self, up-step, chain-none, chain-more, chain-step}
+use Rattle.books.proofs.Shape.{child-not-waiting}
+use Rattle.books.proofs.Giving.{Given}
+use Rattle.books.proofs.Climbing.{gift-within, offer-balance, offer-total}
+use Rattle.books.proofs.Branches.{climb-stop, climb-offer}
 use Rattle.words.specs.Layout.{rows}
 use Rattle.store.specs.Rows.{rowsOf}
 use Rattle.store.specs.Cached.{partialFigure, partialFigureWith}
 use Rattle.store.proofs.Rows.{at-rows, rows-set, figure-rows}
-use Rattle.store.proofs.Figures.{
-  partial-figure,
-  partial-with-nothing,
-  partial-with-own,
-  partial-offered,
-  partial-past-root,
-  partial-at-waiting,
-}
+use Rattle.store.proofs.Figures.{partial-figure, partial-with-nothing, partial-with-own, partial-offered, partial-past-root, partial-at-waiting}
 use Rattle.dispatch.specs.Climb.{Carrying, shareOf, Carried}
 
 -- between two turns: i is the next task, `left` goes up from x below it, and what is still to come is the climb from i on

@@ -4,14 +4,15 @@ use mathlib.Core.Bool.{true}
 use mathlib.Core.List.{List}
 use Prim.Native.Nat.{ℕ, _+_, _^_, _≤_, _<_}
 use lib.ListN.{length}
-use Rattle.rules.specs.Kind.{Each}
-use Rattle.rules.specs.Kind
-use Rattle.rules.specs.Sums.{Task}
-use Rattle.rules.specs.Lists.{at}
-use Rattle.rules.specs.Limits.{maxTasks}
-use Rattle.rules.specs.Standing.{waiting, activated}
-use Rattle.rules.specs.Booking.{Share, Climbed, chain, total, climb}
-use Rattle.rules.specs.Invariant.{Tree, up, Shape, Balance, Roomy}
+use Rattle.books.specs.Kind.{Each}
+use Rattle.books.specs.Kind
+use Rattle.numbers.specs.Sums.{Task}
+use Rattle.numbers.specs.Lists.{at}
+use Rattle.numbers.specs.Limits.{maxTasks}
+use Rattle.books.specs.Standing.{waiting, activated}
+use Rattle.books.specs.Booking.{Share, Climbed, total, climb}
+use Rattle.tree.specs.Tree.{chain, Tree, up}
+use Rattle.books.specs.Invariant.{Shape, Balance, Roomy}
 use Rattle.words.specs.Layout.{words, chilled}
 use Rattle.words.specs.Contents.{Contents}
 use Rattle.store.specs.Rows.{rowsOf, termsIn}

@@ -5,9 +5,9 @@ use mathlib.Core.List.{List}
 use Prim.Native.Nat.{ℕ, _+_, _-_, _^_, _≤_, _<_}
 use lib.Dec.{eqb}
 use lib.ListN.{set}
-use Rattle.rules.specs.Kind
-use Rattle.rules.specs.Lists.{at}
-use Rattle.rules.specs.Standing.{activated, finished}
+use Rattle.books.specs.Kind
+use Rattle.numbers.specs.Lists.{at}
+use Rattle.books.specs.Standing.{activated, finished}
 use Rattle.words.specs.Layout.{words, rows, entries}
 use Rattle.words.specs.Contents.{Contents, withReady}
 use Rattle.words.specs.Marks.{Marks, changed}

@@ -2,11 +2,11 @@
 use mathlib.Core.Path.{_≡_}
 use Prim.Native.Nat.{ℕ}
 use lib.ListN.{length, set}
-use Rattle.rules.specs.Kind.{of, each}
-use Rattle.rules.specs.Sums.{Task}
-use Rattle.rules.specs.Lists.{at}
-use Rattle.rules.specs.Standing.{running, finished}
-use Rattle.rules.specs.Booking.{Climbed, dispatch}
+use Rattle.books.specs.Kind.{of, each}
+use Rattle.numbers.specs.Sums.{Task}
+use Rattle.numbers.specs.Lists.{at}
+use Rattle.books.specs.Standing.{running, finished}
+use Rattle.books.specs.Booking.{Climbed, dispatch}
 use Rattle.words.specs.Contents.{Contents}
 use Rattle.store.specs.Rows.{books, termsIn}
 use Rattle.store.specs.Kept.{Kept, SamePlan}

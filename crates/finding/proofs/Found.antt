@@ -4,19 +4,19 @@ use mathlib.Core.Bool.{true}
 use mathlib.Core.List.{List, [], _∷_, flatMap}
 use Prim.Native.Nat.{ℕ, _+_, _≤_, max}
 use native.Mathlib.Omega.{arith}
-use Rattle.rules.specs.Sums.{Task}
-use Rattle.rules.specs.Lists.{mem, distinct}
-use Rattle.rules.specs.Peak.{peak}
-use Rattle.rules.specs.Invariant.{Tree}
-use Rattle.rules.specs.Postorder.{bestPostorder}
-use Rattle.rules.proofs.Tests.{fails}
-use Rattle.rules.proofs.Orders.{mem-left, Apart, distinct-more, distinct-append, sumOver}
-use Rattle.rules.proofs.Siblings.{children-along}
-use Rattle.rules.proofs.Exchange.{cost}
-use Rattle.rules.proofs.Levels.{foundChildren, found-permuted, found-finishes, found-node}
-use Rattle.rules.proofs.BestOrder.{peak-costs}
-use Rattle.rules.proofs.BestOrder as best
-use Rattle.rules.proofs.Taking.{found-subtree}
+use Rattle.numbers.specs.Sums.{Task}
+use Rattle.numbers.specs.Lists.{mem, distinct}
+use Rattle.tree.specs.Peak.{peak}
+use Rattle.tree.specs.Tree.{Tree}
+use Rattle.postorders.specs.Postorder.{bestPostorder}
+use Rattle.numbers.proofs.Tests.{fails}
+use Rattle.tree.proofs.Orders.{mem-left, Apart, distinct-more, distinct-append, sumOver}
+use Rattle.postorders.proofs.Siblings.{children-along}
+use Rattle.postorders.proofs.Exchange.{cost}
+use Rattle.postorders.proofs.Levels.{foundChildren, found-permuted, found-finishes, found-node}
+use Rattle.postorders.proofs.BestOrder.{peak-costs}
+use Rattle.postorders.proofs.BestOrder as best
+use Rattle.postorders.proofs.Taking.{found-subtree}
 
 module _ (n : ℕ) (par work out rank : ℕ → ℕ) (tree : Tree n par rank) where
   -- the order that is found of each task, and the children in the sequence in which they are taken

@@ -6,19 +6,20 @@ use mathlib.Core.Logic.{_⊎_, ⊎-elim}
 use Prim.Native.Nat.{ℕ, _+_, _≤_, _<_}
 use native.Mathlib.Omega.{arith}
 use lib.ListN.{length, set}
-use Rattle.rules.specs.Sums.{Task}
-use Rattle.rules.specs.Lists.{at, mem, distinct}
-use Rattle.rules.specs.Limits.{maxTasks}
-use Rattle.rules.proofs.Tests.{clash}
-use Rattle.rules.proofs.Orders.{mem-here, mem-more, mem-left, mem-right, Apart, distinct-append}
-use Rattle.rules.proofs.Concatenated.{flatMap-append, mem-flatMap}
-use Rattle.finding.specs.Scratch.{first, sibling, head, after, cells, field}
-use Rattle.finding.specs.Links.{Passes}
-use Rattle.finding.specs.Joining.{linkedFrom, linkedIn, Linked, OrderAt, Joined}
-use Rattle.finding.proofs.Following.{lastOf, passes-same, passes-append, last-snoc}
-use Rattle.finding.proofs.Storing.{stored, stored-other, stored-length}
-use Rattle.finding.proofs.Tails.{none-or-last, last-passes, last-only}
-use Rattle.finding.proofs.Walking.{Walking, Step, walking-none, walking-end, walking-step, walking-less, walking-same}
+use Rattle.numbers.specs.Sums.{Task}
+use Rattle.numbers.specs.Lists.{at, mem, distinct}
+use Rattle.numbers.specs.Limits.{maxTasks}
+use Rattle.numbers.proofs.Tests.{clash}
+use Rattle.tree.proofs.Orders.{mem-here, mem-more, mem-left, mem-right, Apart, distinct-append}
+use Rattle.tree.proofs.Concatenated.{flatMap-append, mem-flatMap}
+use Rattle.children.specs.Scratch.{first, sibling, head, after, cells, field}
+use Rattle.children.specs.Links.{Passes}
+use Rattle.children.specs.Linked.{linkedFrom, linkedIn, Linked}
+use Rattle.children.proofs.Following.{lastOf, passes-same, passes-append, last-snoc}
+use Rattle.children.proofs.Storing.{stored, stored-other, stored-length}
+use Rattle.children.proofs.Tails.{none-or-last, last-passes, last-only}
+use Rattle.children.proofs.Walking.{Walking, Step, walking-none, walking-end, walking-step, walking-less, walking-same}
+use Rattle.finding.specs.Joining.{OrderAt, Joined}
 
 -- a task ends its order
 order-self : (w : List ℕ) (c : ℕ) (l : List ℕ) → OrderAt w c l → mem c l ≡ true

@@ -4,15 +4,15 @@ use mathlib.Core.List.{List, [], _∷_, _++_, append-nil, append-assoc}
 use Prim.Native.Nat.{ℕ, _+_, _<_}
 use native.Mathlib.Omega.{arith}
 use lib.ListN.{length, set, length-append}
-use Rattle.rules.specs.Sums.{Task}
-use Rattle.rules.specs.Lists.{at}
-use Rattle.rules.specs.Limits.{maxTasks}
+use Rattle.numbers.specs.Sums.{Task}
+use Rattle.numbers.specs.Lists.{at}
+use Rattle.numbers.specs.Limits.{maxTasks}
 use Rattle.words.proofs.Views.{view-same, part-more}
-use Rattle.finding.specs.Scratch.{tall, first, sibling, queue, cells, field}
-use Rattle.finding.specs.Joining.{linkedFrom, linkedIn}
+use Rattle.children.specs.Scratch.{tall, first, sibling, queue, cells, field}
+use Rattle.children.specs.Linked.{linkedFrom, linkedIn}
+use Rattle.children.proofs.Storing.{stored, stored-other, stored-length}
+use Rattle.children.proofs.Walking.{Walking, Step, walking-none, walking-end, walking-step, walking-less, walking-same}
 use Rattle.finding.specs.Reaching.{reachedIn, MayAppend, Appended}
-use Rattle.finding.proofs.Storing.{stored, stored-other, stored-length}
-use Rattle.finding.proofs.Walking.{Walking, Step, walking-none, walking-end, walking-step, walking-less, walking-same}
 
 -- the children passed stand in the queue
 pub record Queueing (w₀ : List ℕ) (i count : ℕ) (w : List ℕ) (next child : ℕ) : Type 0 where

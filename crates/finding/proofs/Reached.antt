@@ -8,23 +8,22 @@ use native.Mathlib.Numerals.{add-one}
 use native.Mathlib.Omega.{arith}
 use lib.ListN.{length, take, drop, set, length-append, take-append-drop, List·getD-append}
 use lib.Seq.{take-suc, take-all, split-at, take-append-le}
-use Rattle.rules.specs.Sums.{Task}
-use Rattle.rules.specs.Lists.{at, mem, distinct, place}
-use Rattle.rules.specs.Limits.{maxTasks}
-use Rattle.rules.proofs.Siblings.{Child, child-there}
-use Rattle.rules.proofs.Tests.{clash, fails, same-or-not}
-use Rattle.rules.proofs.Orders.{nobody, mem-none, mem-one, mem-here, mem-at, mem-both, mem-left, mem-right, new-behind, place-of}
-use Rattle.rules.proofs.Orders.{place-first, place-second, length-within, distinct-more, every-within, distinct-join}
+use Rattle.numbers.specs.Sums.{Task}
+use Rattle.numbers.specs.Lists.{at, mem, distinct, place}
+use Rattle.numbers.specs.Limits.{maxTasks}
+use Rattle.postorders.proofs.Siblings.{Child, child-there}
+use Rattle.numbers.proofs.Tests.{clash, fails, same-or-not}
+use Rattle.tree.proofs.Orders.{nobody, mem-none, mem-one, mem-here, mem-at, mem-both, mem-left, mem-right, new-behind, place-of, place-first, place-second, length-within, distinct-more, every-within, distinct-join}
 use Rattle.words.specs.Views.{tabulate, view}
 use Rattle.words.proofs.Views.{part-length, part-at}
-use Rattle.finding.specs.Scratch.{first, sibling, queue, cells, field}
-use Rattle.finding.specs.Listing.{lastFirst, Listed}
-use Rattle.finding.specs.Joining.{linkedIn, Linked}
+use Rattle.children.specs.Scratch.{first, sibling, queue, cells, field}
+use Rattle.children.specs.Listing.{lastFirst, Listed}
+use Rattle.children.specs.Linked.{linkedIn, Linked}
+use Rattle.children.proofs.Following.{passes-same}
+use Rattle.children.proofs.Storing.{stored, stored-other, stored-length}
+use Rattle.children.proofs.Walking.{walking-linked}
+use Rattle.children.proofs.Listed.{last-permuted, last-in, last-walk}
 use Rattle.finding.specs.Reaching.{reachedIn, MayAppend, Appended, MayReach, ReachedFrom, Reached}
-use Rattle.finding.proofs.Following.{passes-same}
-use Rattle.finding.proofs.Storing.{stored, stored-other, stored-length}
-use Rattle.finding.proofs.Walking.{walking-linked}
-use Rattle.finding.proofs.Listing.{last-permuted, last-in, last-walk}
 
 -- tasks from the root on, with the children of the first k
 pub record ReachedTo (n : ℕ) (par : ℕ → ℕ) (root : ℕ) (l : List ℕ) (k : ℕ) : Type 0 where

@@ -6,26 +6,26 @@ use Prim.Native.Nat.{ℕ, _≤_, _<_}
 use native.Mathlib.Omega.{arith}
 use lib.ListN.{length, drop}
 use borrow.Author.Tests.{le-leb, lt-leb}
-use Rattle.rules.specs.Sums.{Task, everyTo}
-use Rattle.rules.specs.Lists.{mem, distinct}
-use Rattle.rules.specs.Peak
-use Rattle.rules.specs.Invariant.{up}
-use Rattle.rules.specs.Postorder.{bestPostorder}
-use Rattle.rules.specs.Find.{allReach}
-use Rattle.rules.proofs.Tests.{clash, fails}
-use Rattle.rules.proofs.Sums.{every-to, every-one}
-use Rattle.rules.proofs.Orders.{nobody, mem-here, mem-more, distinct-cons}
-use Rattle.rules.proofs.Siblings.{child-there}
-use Rattle.rules.proofs.Nested.{root-above}
-use Rattle.rules.proofs.Roots.{one-root}
-use Rattle.rules.proofs.Roots
+use Rattle.numbers.specs.Sums.{Task, everyTo}
+use Rattle.numbers.specs.Lists.{mem, distinct}
+use Rattle.tree.specs.Tree.{up}
+use Rattle.tree.specs.Tree
+use Rattle.postorders.specs.Postorder.{bestPostorder}
+use Rattle.postorders.specs.Find.{allReach}
+use Rattle.numbers.proofs.Tests.{clash, fails}
+use Rattle.numbers.proofs.Sums.{every-to, every-one}
+use Rattle.tree.proofs.Orders.{nobody, mem-here, mem-more, distinct-cons}
+use Rattle.postorders.proofs.Siblings.{child-there}
+use Rattle.postorders.proofs.Nested.{root-above}
+use Rattle.tree.proofs.Roots.{one-root}
+use Rattle.tree.proofs.Roots
 use Rattle.words.proofs.Views.{part-length, part-at}
-use Rattle.finding.specs.Scratch.{first, sibling, queue, field}
-use Rattle.finding.specs.Links.{Passes}
-use Rattle.finding.specs.Listing.{lastFirst, Listed}
+use Rattle.children.specs.Scratch.{first, sibling, queue, field}
+use Rattle.children.specs.Links.{Passes}
+use Rattle.children.specs.Listing.{lastFirst, Listed}
+use Rattle.children.proofs.Listed.{last-permuted, last-in}
 use Rattle.finding.specs.Reaching.{reachedIn, MayReach, ReachedFrom, Reached}
 use Rattle.finding.specs.Finding.{AllReached, MayFind, findNumber, Finds}
-use Rattle.finding.proofs.Listing.{last-permuted, last-in}
 use Rattle.finding.proofs.Reached.{listed-same}
 use Rattle.finding.proofs.Rooted.{all-reached, rank, reached-tree}
 
@@ -41,7 +41,7 @@ just-one x (y ∷ z ∷ l) m once same =
 
 module _ (n : ℕ) (par work out : ℕ → ℕ) (may : MayFind n par work out) where
   abbrev root : ℕ
-  root = Peak.root n par
+  root = Tree.root n par
 
   root-task : Task n root
   root-task = Roots.root-task n par (may .one)

@@ -7,17 +7,15 @@ use mathlib.Core.Logic.{⊎-elim}
 use Prim.Native.Nat.{ℕ, zero, suc, _-_, _<_}
 use native.Mathlib.Omega.{arith}
 use lib.ListN.{length}
-use Rattle.rules.specs.Sums.{Task}
-use Rattle.rules.specs.Lists.{at, mem, every, place}
-use Rattle.rules.specs.Booking.{chain}
-use Rattle.rules.specs.Grounds.{within}
-use Rattle.rules.specs.Invariant.{Tree, up}
-use Rattle.rules.proofs.Tests.{same-or-not}
-use Rattle.rules.proofs.Orders.{nobody, mem-rest, mem-at, every-within, place-lt, place-at, place-of, length-all, all-in}
-use Rattle.rules.proofs.Tree.{chain-none, chain-more}
+use Rattle.numbers.specs.Sums.{Task, within}
+use Rattle.numbers.specs.Lists.{at, mem, every, place}
+use Rattle.tree.specs.Tree.{chain, Tree, up}
+use Rattle.numbers.proofs.Tests.{same-or-not}
+use Rattle.tree.proofs.Orders.{nobody, mem-rest, mem-at, every-within, place-lt, place-at, place-of, length-all, all-in}
+use Rattle.tree.proofs.Tree.{chain-none, chain-more}
 use Rattle.survey.specs.Checks.{Parented}
 use Rattle.words.proofs.Views.{part-at}
-use Rattle.finding.specs.Scratch.{queue, field}
+use Rattle.children.specs.Scratch.{queue, field}
 use Rattle.finding.specs.Reaching.{reachedIn, ReachedFrom}
 use Rattle.finding.specs.Arranging.{Queued}
 

@@ -6,14 +6,14 @@ use Prim.Native.Nat.{ℕ, _≤_, _<_}
 use lib.Dec.{eqb}
 use lib.ListN.{length, drop}
 use borrow.Author.Tests.{eq-eqb, ne-eqb, le-leb}
-use Rattle.rules.specs.Lists.{at}
+use Rattle.numbers.specs.Lists.{at}
 use Rattle.rules.specs.Phase
-use Rattle.rules.specs.Peak.{roots, root}
+use Rattle.tree.specs.Tree.{roots, root}
 use Rattle.rules.specs.Answer.{front}
-use Rattle.rules.specs.Write.{Wrote, untouched, atFront}
-use Rattle.rules.specs.Postorder.{bestPostorder}
-use Rattle.rules.specs.Find.{foundBelow, found, findGround, findOrder}
-use Rattle.rules.proofs.Find.{find-early, find-several, every-find-holds}
+use Rattle.streams.specs.Write.{Wrote, untouched, atFront}
+use Rattle.postorders.specs.Postorder.{bestPostorder}
+use Rattle.postorders.specs.Find.{foundBelow, found, findGround, findOrder}
+use Rattle.postorders.proofs.Find.{find-early, find-several, every-find-holds}
 use Rattle.words.specs.Contents.{contents}
 use Rattle.answer.specs.Meaning.{planOf}
 use Rattle.answer.specs.ValidPlan.{ValidPlan}

@@ -5,25 +5,26 @@ use mathlib.Core.List.{List, [], _∷_}
 use Prim.Native.Nat.{ℕ, _+_, _-_, _≤_, _<_, max}
 use native.Mathlib.Omega.{arith}
 use lib.ListN.{length, set}
-use Rattle.rules.specs.Sums.{Task}
-use Rattle.rules.specs.Lists.{at, mem}
-use Rattle.rules.specs.Limits.{maxTasks}
-use Rattle.rules.specs.Peak.{peak}
-use Rattle.rules.specs.Postorder.{childrenOf, byFalling, peakLessOut, bestPostorder}
-use Rattle.rules.proofs.Siblings.{Child, child-in, child-of}
-use Rattle.rules.proofs.Orders.{mem-here, mem-more, every-within, length-within, sumOver}
-use Rattle.rules.proofs.Peaks.{peak-most}
-use Rattle.rules.proofs.Exchange.{cost}
-use Rattle.rules.proofs.Sorting.{sorted-cong}
-use Rattle.rules.proofs.Levels.{foundKey, foundChildren, found-permuted, found-node}
-use Rattle.finding.specs.Scratch.{tall, first, sibling, subtreePeak, head, after, field}
-use Rattle.finding.specs.Links.{Passes}
-use Rattle.finding.specs.Sorting.{keyIn, MaySort, Sorted}
-use Rattle.finding.specs.Joining.{linkedIn, Linked, highest, peakAlong, MayWeigh, OrderAt, Joined}
+use Rattle.numbers.specs.Sums.{Task}
+use Rattle.numbers.specs.Lists.{at, mem}
+use Rattle.numbers.specs.Limits.{maxTasks}
+use Rattle.tree.specs.Peak.{peak}
+use Rattle.postorders.specs.Postorder.{childrenOf, byFalling, peakLessOut, bestPostorder}
+use Rattle.postorders.proofs.Siblings.{Child, child-in, child-of}
+use Rattle.tree.proofs.Orders.{mem-here, mem-more, every-within, length-within, sumOver}
+use Rattle.tree.proofs.Peaks.{peak-most}
+use Rattle.postorders.proofs.Exchange.{cost}
+use Rattle.postorders.proofs.Sorting.{sorted-cong}
+use Rattle.postorders.proofs.Levels.{foundKey, foundChildren, found-permuted, found-node}
+use Rattle.children.specs.Scratch.{tall, first, sibling, subtreePeak, head, after, field}
+use Rattle.children.specs.Links.{Passes}
+use Rattle.children.specs.Sorting.{keyIn, MaySort, Sorted}
+use Rattle.children.specs.Linked.{linkedIn, Linked}
+use Rattle.children.proofs.Following.{passes-same}
+use Rattle.children.proofs.Storing.{stored, stored-other, stored-length}
+use Rattle.children.proofs.Walking.{walking-linked}
+use Rattle.finding.specs.Joining.{highest, peakAlong, MayWeigh, OrderAt, Joined}
 use Rattle.finding.specs.Arranging.{MayJoin, HasJoined}
-use Rattle.finding.proofs.Following.{passes-same}
-use Rattle.finding.proofs.Storing.{stored, stored-other, stored-length}
-use Rattle.finding.proofs.Walking.{walking-linked}
 use Rattle.finding.proofs.Found.{found-enough, found-peak, found-once}
 
 -- the peak of a sequence of orders, and of the task behind them, by their cost

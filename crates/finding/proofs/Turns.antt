@@ -8,21 +8,21 @@ use native.Mathlib.Omega.{arith}
 use lib.Dec.{eqb}
 use lib.ListN.{length}
 use borrow.Author.Tests.{eqb-false}
-use Rattle.rules.specs.Sums.{Task}
-use Rattle.rules.specs.Lists.{mem, distinct}
-use Rattle.rules.specs.Limits.{maxTasks}
-use Rattle.rules.specs.Invariant.{up}
-use Rattle.rules.specs.Postorder.{bestPostorder}
-use Rattle.rules.proofs.Tests.{clash, same-or-not, le-or-lt}
-use Rattle.rules.proofs.Orders.{mem-here, mem-left, distinct-append}
-use Rattle.rules.proofs.Tree.{up-rank, up-parent}
-use Rattle.rules.proofs.Taking.{found-subtree}
-use Rattle.finding.specs.Scratch.{tall, first, sibling, queue, subtreePeak, head, after, cells, field}
-use Rattle.finding.specs.Links.{Passes}
-use Rattle.finding.specs.Listing.{lastFirst}
+use Rattle.numbers.specs.Sums.{Task}
+use Rattle.numbers.specs.Lists.{mem, distinct}
+use Rattle.numbers.specs.Limits.{maxTasks}
+use Rattle.tree.specs.Tree.{up}
+use Rattle.postorders.specs.Postorder.{bestPostorder}
+use Rattle.numbers.proofs.Tests.{clash, same-or-not, le-or-lt}
+use Rattle.tree.proofs.Orders.{mem-here, mem-left, distinct-append}
+use Rattle.tree.proofs.Tree.{up-rank, up-parent}
+use Rattle.postorders.proofs.Taking.{found-subtree}
+use Rattle.children.specs.Scratch.{tall, first, sibling, queue, subtreePeak, head, after, cells, field}
+use Rattle.children.specs.Links.{Passes}
+use Rattle.children.specs.Listing.{lastFirst}
+use Rattle.children.proofs.Following.{passes-same}
+use Rattle.children.proofs.Listed.{last-in}
 use Rattle.finding.specs.Arranging.{Arranged, MayJoin, NotWritten, HasJoined, MayArrange, AllArranged}
-use Rattle.finding.proofs.Following.{passes-same}
-use Rattle.finding.proofs.Listing.{last-in}
 use Rattle.finding.proofs.Turn.{order-same}
 
 -- the columns by their number

@@ -3,9 +3,10 @@ use mathlib.Core.Path.{_≡_}
 use mathlib.Core.List.{List, [], _∷_}
 use Prim.Native.Nat.{ℕ, _+_, _^_, _<_, max}
 use native.Mathlib.Omega.{arith}
-use Rattle.finding.specs.Scratch.{first, sibling, subtreePeak, field}
-use Rattle.finding.specs.Joining.{linkedIn, highest, peakAlong, MayWeigh}
-use Rattle.finding.proofs.Walking.{Walking, Step, walking-none, walking-end, walking-step}
+use Rattle.children.specs.Scratch.{first, sibling, subtreePeak, field}
+use Rattle.children.specs.Linked.{linkedIn}
+use Rattle.children.proofs.Walking.{Walking, Step, walking-none, walking-end, walking-step}
+use Rattle.finding.specs.Joining.{highest, peakAlong, MayWeigh}
 
 -- the largest sum and the level so far
 pub record Weighing (work out : ℕ → ℕ) (w : List ℕ) (i best level child : ℕ) : Type 0 where

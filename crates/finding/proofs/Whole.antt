@@ -4,20 +4,20 @@ use mathlib.Core.List.{List, [], _∷_, _++_}
 use Prim.Native.Nat.{ℕ, _≤_, _<_}
 use native.Mathlib.Omega.{arith}
 use lib.ListN.{length, drop}
-use Rattle.rules.specs.Sums.{Task}
-use Rattle.rules.specs.Lists.{mem}
-use Rattle.rules.specs.Limits.{maxTasks}
-use Rattle.rules.specs.Postorder.{bestPostorder}
-use Rattle.rules.proofs.FinishedOrders.{Subtree, subtree-valid}
-use Rattle.rules.proofs.Taking.{found-subtree}
+use Rattle.numbers.specs.Sums.{Task}
+use Rattle.numbers.specs.Lists.{mem}
+use Rattle.numbers.specs.Limits.{maxTasks}
+use Rattle.postorders.specs.Postorder.{bestPostorder}
+use Rattle.postorders.proofs.FinishedOrders.{Subtree, subtree-valid}
+use Rattle.postorders.proofs.Taking.{found-subtree}
 use Rattle.words.proofs.Views.{part-length}
-use Rattle.finding.specs.Scratch.{queue, head, after, field}
-use Rattle.finding.specs.Links.{Passes}
+use Rattle.children.specs.Scratch.{queue, head, after, field}
+use Rattle.children.specs.Links.{Passes}
+use Rattle.children.proofs.Following.{passes-append}
 use Rattle.finding.specs.Reaching.{reachedIn}
 use Rattle.finding.specs.Arranging.{TreeOf, MayArrange, AllArranged}
 use Rattle.finding.specs.Writing.{met, orderFrom, MayWrite}
 use Rattle.finding.specs.Finding.{AllReached}
-use Rattle.finding.proofs.Following.{passes-append}
 use Rattle.finding.proofs.Rooted.{root-in, rank, reached-tree, queued}
 use Rattle.finding.proofs.Written.{passes-met}
 

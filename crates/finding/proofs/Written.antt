@@ -7,11 +7,11 @@ use native.Mathlib.Numerals.{add-one}
 use native.Mathlib.Omega.{arith}
 use lib.ListN.{length, take, drop, set, getD}
 use lib.Seq.{take-all, drop-cons, paste, paste-zero, paste-suc, length-paste}
-use Rattle.rules.specs.Lists.{mem}
-use Rattle.rules.specs.Limits.{maxTasks}
-use Rattle.rules.proofs.Orders.{mem-at}
-use Rattle.finding.specs.Scratch.{head, after, field}
-use Rattle.finding.specs.Links.{Passes}
+use Rattle.numbers.specs.Lists.{mem}
+use Rattle.numbers.specs.Limits.{maxTasks}
+use Rattle.tree.proofs.Orders.{mem-at}
+use Rattle.children.specs.Scratch.{head, after, field}
+use Rattle.children.specs.Links.{Passes}
 use Rattle.finding.specs.Writing.{met, orderFrom, MayWrite}
 
 met-length : (count : ℕ) (link : ℕ → ℕ) (from : ℕ) → length (met count link from) ≡ count

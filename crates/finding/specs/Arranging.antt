@@ -3,15 +3,15 @@ use mathlib.Core.Path.{_≡_}
 use mathlib.Core.List.{List}
 use Prim.Native.Nat.{ℕ, _+_, _≤_, _<_}
 use lib.ListN.{length}
-use Rattle.rules.specs.Sums.{Task}
-use Rattle.rules.specs.Lists.{at}
-use Rattle.rules.specs.Limits.{maxTasks, maxCount}
-use Rattle.rules.specs.Peak.{peak}
-use Rattle.rules.specs.Invariant.{Tree}
-use Rattle.rules.specs.Postorder.{bestPostorder}
-use Rattle.finding.specs.Scratch.{first, sibling, queue, subtreePeak, head, after, cells, field}
-use Rattle.finding.specs.Links.{Passes}
-use Rattle.finding.specs.Listing.{lastFirst}
+use Rattle.numbers.specs.Sums.{Task}
+use Rattle.numbers.specs.Lists.{at}
+use Rattle.numbers.specs.Limits.{maxTasks, maxCount}
+use Rattle.tree.specs.Peak.{peak}
+use Rattle.tree.specs.Tree.{Tree}
+use Rattle.postorders.specs.Postorder.{bestPostorder}
+use Rattle.children.specs.Scratch.{first, sibling, queue, subtreePeak, head, after, cells, field}
+use Rattle.children.specs.Links.{Passes}
+use Rattle.children.specs.Listing.{lastFirst}
 use Rattle.finding.specs.Joining.{OrderAt}
 
 -- tasks that form a tree, with their counts

@@ -5,14 +5,14 @@ use mathlib.Core.List.{List, _++_}
 use Prim.Native.Nat.{ℕ, _≤_}
 use lib.Dec.{eqb, leb}
 use lib.ListN.{length, drop}
-use Rattle.rules.specs.Limits.{maxCount}
-use Rattle.rules.specs.Peak.{roots, root}
+use Rattle.numbers.specs.Limits.{maxCount}
+use Rattle.tree.specs.Tree.{roots, root}
 use Rattle.rules.specs.Grounds.{demand}
-use Rattle.rules.specs.Postorder.{bestPostorder}
-use Rattle.rules.specs.Find.{allReach}
+use Rattle.postorders.specs.Postorder.{bestPostorder}
+use Rattle.postorders.specs.Find.{allReach}
 use Rattle.survey.specs.Checks.{Parented}
-use Rattle.finding.specs.Scratch.{queue, field}
-use Rattle.finding.specs.Listing.{Listed}
+use Rattle.children.specs.Scratch.{queue, field}
+use Rattle.children.specs.Listing.{Listed}
 use Rattle.finding.specs.Reaching.{reachedIn, ReachedFrom}
 
 -- tasks with their counts

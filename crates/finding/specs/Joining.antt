@@ -4,24 +4,10 @@ use mathlib.Core.Bool.{true}
 use mathlib.Core.List.{List, [], _∷_, _++_, flatMap}
 use Prim.Native.Nat.{ℕ, _+_, _^_, _<_, max}
 use lib.ListN.{length}
-use Rattle.rules.specs.Sums.{Task}
-use Rattle.rules.specs.Lists.{at, mem, distinct}
-use Rattle.rules.specs.Limits.{maxTasks}
-use Rattle.finding.specs.Scratch.{tall, first, sibling, subtreePeak, head, after, cells, field}
-use Rattle.finding.specs.Links.{Passes, follows}
-
--- the tasks linked from one on, and the children of a task as they are linked
-abbrev pub linkedFrom : List ℕ → ℕ → List ℕ
-linkedFrom w x = follows tall (field sibling w) x
-
-abbrev pub linkedIn : List ℕ → ℕ → List ℕ
-linkedIn w i = linkedFrom w (field first w i)
-
--- they are tasks, and the links end
-pub record Linked (w : List ℕ) (i : ℕ) : Type 0 where
-  pub task : Task maxTasks i
-  pub list : Passes (field sibling w) (field first w i) (linkedIn w i) 0
-  pub each : (c : ℕ) → mem c (linkedIn w i) ≡ true → Task maxTasks c
+use Rattle.numbers.specs.Lists.{at, mem, distinct}
+use Rattle.children.specs.Scratch.{subtreePeak, head, after, cells, field}
+use Rattle.children.specs.Links.{Passes}
+use Rattle.children.specs.Linked.{linkedIn, Linked}
 
 -- what some tasks and then another take at most, one after another: p is the peak of each, o what it leaves, and `own` what the last takes
 unfoldable pub highest : (p o : ℕ → ℕ) (own : ℕ) → List ℕ → ℕ

@@ -4,13 +4,13 @@ use mathlib.Core.Bool.{true}
 use mathlib.Core.List.{List, [], _∷_, _++_}
 use Prim.Native.Nat.{ℕ, _+_, _≤_, _<_}
 use lib.ListN.{length}
-use Rattle.rules.specs.Sums.{Task}
-use Rattle.rules.specs.Lists.{at, mem, distinct, place}
+use Rattle.numbers.specs.Sums.{Task}
+use Rattle.numbers.specs.Lists.{at, mem, distinct, place}
 use Rattle.words.specs.Views.{part}
 use Rattle.survey.specs.Checks.{Parented}
-use Rattle.finding.specs.Scratch.{tall, first, queue, cells, field}
-use Rattle.finding.specs.Listing.{lastFirst, Listed}
-use Rattle.finding.specs.Joining.{linkedIn, Linked}
+use Rattle.children.specs.Scratch.{tall, first, queue, cells, field}
+use Rattle.children.specs.Listing.{lastFirst, Listed}
+use Rattle.children.specs.Linked.{linkedIn, Linked}
 
 -- the first k entries of the queue
 abbrev pub reachedIn : List ℕ → ℕ → List ℕ

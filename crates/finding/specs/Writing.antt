@@ -4,9 +4,9 @@ use mathlib.Core.Bool.{true}
 use mathlib.Core.List.{List, [], _∷_}
 use Prim.Native.Nat.{ℕ, zero, suc, _≤_}
 use lib.ListN.{length}
-use Rattle.rules.specs.Lists.{mem}
-use Rattle.rules.specs.Limits.{maxTasks}
-use Rattle.finding.specs.Scratch.{head, after, field}
+use Rattle.numbers.specs.Lists.{mem}
+use Rattle.numbers.specs.Limits.{maxTasks}
+use Rattle.children.specs.Scratch.{head, after, field}
 
 -- so many tasks, from one on
 unfoldable pub met : ℕ → (link : ℕ → ℕ) → ℕ → List ℕ

@@ -2,16 +2,16 @@
 ghost use mathlib.Core.Path.{_≡_};
 ghost use mathlib.Core.List.{_++_};
 ghost use lib.ListN.{drop};
-ghost use Rattle.rules.specs.Lists.{at};
+ghost use Rattle.numbers.specs.Lists.{at};
 ghost use Rattle.words.specs.Contents.{contents};
 ghost use Rattle.finding.specs.Arranging.{MayArrange, AllArranged};
 ghost use Rattle.finding.specs.Writing.{orderFrom, MayWrite};
 use crate::joining::join;
-use crate::scratch::AFTER;
-use crate::scratch::CELLS;
-use crate::scratch::HEAD;
-use crate::scratch::QUEUE;
-use crate::scratch::get;
+use children::scratch::AFTER;
+use children::scratch::CELLS;
+use children::scratch::HEAD;
+use children::scratch::QUEUE;
+use children::scratch::get;
 use words::plan::Plan;
 
 // From the last task reached to the root.

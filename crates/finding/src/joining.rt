@@ -2,21 +2,22 @@
 ghost use mathlib.Core.Path.{_≡_};
 ghost use Prim.Native.Nat.{max};
 ghost use lib.ListN.{length};
-ghost use Rattle.rules.specs.Lists.{at};
+ghost use Rattle.numbers.specs.Lists.{at};
 ghost use Rattle.words.specs.Contents.{contents};
-ghost use Rattle.finding.specs.Scratch.{cells};
-ghost use Rattle.finding.specs.Joining.{Linked, peakAlong, MayWeigh, Joined};
+ghost use Rattle.children.specs.Scratch.{cells};
+ghost use Rattle.children.specs.Linked.{Linked};
+ghost use Rattle.finding.specs.Joining.{peakAlong, MayWeigh, Joined};
 ghost use Rattle.finding.specs.Arranging.{MayJoin, HasJoined};
-use crate::scratch::AFTER;
-use crate::scratch::CELLS;
-use crate::scratch::FIRST;
-use crate::scratch::HEAD;
-use crate::scratch::SIBLING;
-use crate::scratch::SUBTREE_PEAK;
-use crate::scratch::get;
-use crate::scratch::put;
-use crate::sorting::sort_children;
 use cells::cell;
+use children::scratch::AFTER;
+use children::scratch::CELLS;
+use children::scratch::FIRST;
+use children::scratch::HEAD;
+use children::scratch::SIBLING;
+use children::scratch::SUBTREE_PEAK;
+use children::scratch::get;
+use children::scratch::put;
+use children::sort_children;
 use words::plan::Plan;
 
 // The larger of two numbers.

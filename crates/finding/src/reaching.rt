@@ -1,13 +1,13 @@
 // The tasks whose chain of parents reaches the root, parents before their children.
-ghost use Rattle.rules.specs.Lists.{at};
+ghost use Rattle.numbers.specs.Lists.{at};
 ghost use Rattle.words.specs.Contents.{contents};
 ghost use Rattle.finding.specs.Reaching.{MayAppend, Appended, MayReach, Reached};
-use crate::scratch::CELLS;
-use crate::scratch::FIRST;
-use crate::scratch::QUEUE;
-use crate::scratch::SIBLING;
-use crate::scratch::get;
-use crate::scratch::put;
+use children::scratch::CELLS;
+use children::scratch::FIRST;
+use children::scratch::QUEUE;
+use children::scratch::SIBLING;
+use children::scratch::get;
+use children::scratch::put;
 use words::plan::Plan;
 
 // The children of a task go behind those that are reached.

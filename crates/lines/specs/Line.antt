@@ -2,8 +2,8 @@
 use mathlib.Core.List.{List}
 use Prim.Native.Nat.{ℕ, _≤_}
 use lib.ListN.{length}
-use Rattle.rules.specs.Limits.{maxProcessors}
-use Rattle.rules.specs.Text.{longestLine}
+use Rattle.numbers.specs.Limits.{maxProcessors}
+use Rattle.texts.specs.Text.{longestLine}
 use Rattle.put.specs.Written.{Written}
 
 -- a line that tells so many tasks: no more of them start at once than there are processors, and then it is no longer than the longest

@@ -3,7 +3,7 @@
 mod tail;
 
 ghost use lib.ListN.{take};
-ghost use Rattle.rules.specs.Text.{beginLine, doneLine, fetchLine, placesLine, refusedLine};
+ghost use Rattle.texts.specs.Text.{beginLine, doneLine, fetchLine, placesLine, refusedLine};
 ghost use Rattle.lines.specs.Line.{Line};
 
 // No line has more bytes.

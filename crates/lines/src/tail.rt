@@ -2,7 +2,7 @@
 ghost use mathlib.Core.Path.{_≡_};
 ghost use mathlib.Core.List.{[], _∷_};
 ghost use lib.ListN.{take};
-ghost use Rattle.rules.specs.Text.{spaced, listed, figures};
+ghost use Rattle.texts.specs.Text.{spaced, listed, figures};
 ghost use Rattle.put.specs.Put.{Put};
 
 // The front of the list, all of it where the count is larger.

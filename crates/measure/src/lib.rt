@@ -4,7 +4,7 @@ mod thousandths;
 pub use thousandths::fullness;
 ghost use mathlib.Core.Path.{_≡_};
 ghost use Prim.Native.Nat.{min};
-ghost use Rattle.rules.specs.Grounds.{within};
+ghost use Rattle.numbers.specs.Sums.{within};
 
 // Whether x is a number from 1 to a limit.
 pub fn is_within(x: usize, limit: usize) -> bool

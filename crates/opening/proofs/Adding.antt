@@ -9,15 +9,15 @@ use lib.Dec.{eqb, leb}
 use lib.ListN.{length, take, set}
 use lib.Seq.{getD-set-same, getD-set-other, length-take-le}
 use borrow.Author.Tests.{eq-eqb, ne-eqb, le-leb, lt-leb}
-use Rattle.rules.specs.Limits.{maxTasks, maxCount}
-use Rattle.rules.specs.Sums.{only}
-use Rattle.rules.specs.Kind.{chilled, each}
-use Rattle.rules.specs.Lists.{at}
+use Rattle.numbers.specs.Limits.{maxTasks, maxCount}
+use Rattle.numbers.specs.Sums.{only}
+use Rattle.books.specs.Kind.{chilled, each}
+use Rattle.numbers.specs.Lists.{at}
 use Rattle.rules.specs.Phase
-use Rattle.rules.specs.Command as rules
+use Rattle.format.specs.Command as rules
 use Rattle.rules.specs.Grounds.{inTurn, inLimits, ownGround, ground}
 use Rattle.rules.specs.Obey.{plain, withTask, obey}
-use Rattle.rules.proofs.Tests.{same-or-not}
+use Rattle.numbers.proofs.Tests.{same-or-not}
 use Rattle.rules.proofs.Judging.{ground-turn, ground-limits, ground-own}
 use Rattle.words.specs.Layout.{row, rows, words, headBase}
 use Rattle.words.specs.Contents.{Contents, contents, withCell, storeWithCell, withHead, storeWithHead}

@@ -6,8 +6,8 @@ use Prim.Native.Nat.{ℕ, _+_, _*_, _≤_, _<_}
 use native.Mathlib.Omega.{arith}
 use lib.ListN.{set, length-set}
 use lib.Seq.{getD-set-same, getD-set-other}
-use Rattle.rules.specs.Lists.{at}
-use Rattle.rules.proofs.Tests.{same-or-not}
+use Rattle.numbers.specs.Lists.{at}
+use Rattle.numbers.proofs.Tests.{same-or-not}
 use Rattle.words.specs.Layout.{row, words, headBase, activationBase, readyBase}
 use Rattle.opening.specs.Cleared.{MayClear, Cleared, MayEmpty, Emptied}
 

@@ -8,14 +8,15 @@ use native.Mathlib.Omega.{arith}
 use lib.Dec.{leb}
 use lib.ListN.{length, take, set, List·getD-eq-default}
 use borrow.Author.Tests.{leb-true, le-leb}
-use Rattle.rules.specs.Limits.{maxTasks, maxProcessors, maxBound}
-use Rattle.rules.specs.Kind.{chilled, each}
-use Rattle.rules.specs.Lists.{at}
+use Rattle.numbers.specs.Limits.{maxTasks, maxProcessors, maxBound}
+use Rattle.books.specs.Kind.{chilled, each}
+use Rattle.numbers.specs.Lists.{at}
 use Rattle.rules.specs.Phase
-use Rattle.rules.specs.Command as rules
-use Rattle.rules.specs.Grounds.{inTurn, inLimits, within, ownGround, ground}
+use Rattle.format.specs.Command as rules
+use Rattle.rules.specs.Grounds.{inTurn, inLimits, ownGround, ground}
+use Rattle.numbers.specs.Sums.{within}
 use Rattle.rules.specs.Obey.{plain, opened, obey}
-use Rattle.rules.proofs.Tests.{and-true, and-both, and-none, le-or-lt}
+use Rattle.numbers.proofs.Tests.{and-true, and-both, and-none, le-or-lt}
 use Rattle.rules.proofs.Judging.{ground-turn, ground-limits, ground-own}
 use Rattle.words.specs.Layout.{row, rows, words, headBase, readyBase, blocks, filledWord}
 use Rattle.words.specs.Views.{column, part}

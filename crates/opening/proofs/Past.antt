@@ -2,10 +2,10 @@
 use mathlib.Core.Logic.{⊎-elim}
 use Prim.Native.Nat.{_≤_, _<_}
 use native.Mathlib.Omega.{arith}
-use Rattle.rules.specs.Kind.{chilled}
+use Rattle.books.specs.Kind.{chilled}
 use Rattle.rules.specs.Phase
 use Rattle.rules.specs.Reachable.{Reachable}
-use Rattle.rules.proofs.Tests.{le-or-lt}
+use Rattle.numbers.proofs.Tests.{le-or-lt}
 use Rattle.words.specs.Contents.{Contents}
 use Rattle.answer.specs.Meaning.{meaning}
 use Rattle.answer.specs.Sound.{DayPast, Sound}

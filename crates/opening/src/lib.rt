@@ -3,7 +3,7 @@ ghost use mathlib.Core.Path.{_≡_};
 ghost use mathlib.Core.Bool.{cond};
 ghost use lib.Dec.{eqb};
 ghost use Rattle.rules.specs.Phase;
-ghost use Rattle.rules.specs.Command as rules;
+ghost use Rattle.format.specs.Command as rules;
 ghost use Rattle.opening.specs.Cleared.{MayClear, Cleared, MayEmpty, Emptied};
 ghost use Rattle.answer.specs.ValidPlan.{ValidPlan, Obeyed};
 use answer::Answer;

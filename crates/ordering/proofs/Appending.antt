@@ -8,14 +8,15 @@ use native.Mathlib.Omega.{arith}
 use lib.Dec.{eqb, ltb}
 use lib.ListN.{length, take, set, length-set}
 use lib.Seq.{length-take-le}
-use Rattle.rules.specs.Kind.{chilled}
-use Rattle.rules.specs.Lists.{mem}
-use Rattle.rules.specs.Limits.{maxTasks}
+use Rattle.books.specs.Kind.{chilled}
+use Rattle.numbers.specs.Lists.{mem}
+use Rattle.numbers.specs.Limits.{maxTasks}
 use Rattle.rules.specs.Phase
-use Rattle.rules.specs.Command as rules
-use Rattle.rules.specs.Grounds.{inTurn, inLimits, within, demand, ownGround, ground}
+use Rattle.format.specs.Command as rules
+use Rattle.rules.specs.Grounds.{inTurn, inLimits, demand, ownGround, ground}
+use Rattle.numbers.specs.Sums.{within}
 use Rattle.rules.specs.Obey.{plain, withOrders, obey}
-use Rattle.rules.proofs.Tests.{same-or-not}
+use Rattle.numbers.proofs.Tests.{same-or-not}
 use Rattle.words.specs.Layout.{row, rows, words, headBase, entries, activationBase, executionBase}
 use Rattle.words.specs.Contents as held
 use Rattle.words.specs.Contents.{Contents, contents, withCell, storeWithCell, withHead, storeWithHead}

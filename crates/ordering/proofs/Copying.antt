@@ -6,18 +6,18 @@ use Prim.Native.Nat.{ℕ, suc, _+_, _<_}
 use native.Mathlib.Omega.{arith}
 use lib.ListN.{length, take, drop, take-append-drop}
 use lib.Seq.{take-all, take-suc, drop-cons, getD-take, length-take-le}
-use Rattle.rules.specs.Sums.{Task}
-use Rattle.rules.specs.Lists.{at, mem}
+use Rattle.numbers.specs.Sums.{Task, within}
+use Rattle.numbers.specs.Lists.{at, mem}
 use Rattle.rules.specs.State.{State}
-use Rattle.rules.specs.Command as rules
-use Rattle.rules.specs.Grounds.{within, ground}
+use Rattle.format.specs.Command as rules
+use Rattle.rules.specs.Grounds.{ground}
 use Rattle.rules.specs.Obey.{Outcome, withOrders, obey}
-use Rattle.rules.specs.OneOrder.{oneOrder}
+use Rattle.streams.specs.OneOrder.{oneOrder}
 use Rattle.rules.specs.Reachable.{Reachable}
-use Rattle.rules.proofs.Orders.{within-task, mem-at, every-mem, new-behind}
+use Rattle.tree.proofs.Orders.{within-task, mem-at, every-mem, new-behind}
 use Rattle.rules.proofs.Reaching.{obeyed-reachable, lives}
-use Rattle.rules.proofs.Leading.{execution-granted}
-use Rattle.rules.proofs.OneOrder.{Found, found, found-alone, found-completed, completed-given}
+use Rattle.streams.proofs.Leading.{execution-granted}
+use Rattle.streams.proofs.OneOrder.{Found, found, found-alone, found-completed, completed-given}
 use Rattle.words.specs.Layout.{executionBase}
 use Rattle.words.specs.Contents.{contents}
 use Rattle.words.proofs.Contents.{lengths}

@@ -7,10 +7,11 @@ use native.Mathlib.Omega.{arith}
 use lib.Dec.{eqb, leb, ltb}
 use lib.ListN.{take, set}
 use borrow.Author.Tests.{eqb-true, leb-true, ltb-true, not-true, eq-eqb, ne-eqb, lt-ltb, le-ltb}
-use Rattle.rules.specs.Lists.{at, mem}
+use Rattle.numbers.specs.Lists.{at, mem}
 use Rattle.rules.specs.Phase
-use Rattle.rules.specs.Grounds.{within, demand}
-use Rattle.rules.proofs.Tests.{and-true}
+use Rattle.numbers.specs.Sums.{within}
+use Rattle.rules.specs.Grounds.{demand}
+use Rattle.numbers.proofs.Tests.{and-true}
 use Rattle.rules.proofs.Formed.{demand-none}
 use Rattle.words.specs.Layout.{row, headBase, entries}
 use Rattle.words.specs.Views.{column, part}

@@ -9,11 +9,11 @@ use lib.Dec.{eqb}
 use lib.ListN.{length, take, set, length-take, List·getD-eq-default}
 use lib.Seq.{getD-take, getD-set-same, getD-set-other}
 use borrow.Author.Tests.{eq-eqb, ne-eqb}
-use Rattle.rules.specs.Lists.{at, mem, place}
-use Rattle.rules.proofs.Tests.{clash, fails, same-or-not, le-or-lt}
-use Rattle.rules.proofs.Orders.{mem-at, place-lt, place-at}
-use Rattle.rules.specs.Limits.{maxTasks}
-use Rattle.rules.specs.Sums.{Task}
+use Rattle.numbers.specs.Lists.{at, mem, place}
+use Rattle.numbers.proofs.Tests.{clash, fails, same-or-not, le-or-lt}
+use Rattle.tree.proofs.Orders.{mem-at, place-lt, place-at}
+use Rattle.numbers.specs.Limits.{maxTasks}
+use Rattle.numbers.specs.Sums.{Task}
 
 -- a task is looked for in an order that has `count` entries so far, each with its place noted
 pub record Listed (order places : List ℕ) (count task : ℕ) : Type 0 where

@@ -5,11 +5,11 @@ use mathlib.Core.List.{List}
 use Prim.Native.Nat.{ℕ, _+_, _*_, _≤_, _<_}
 use lib.Dec.{eqb, ltb}
 use lib.ListN.{take, set}
-use Rattle.rules.specs.Lists.{at, mem}
-use Rattle.rules.specs.Sums.{Task}
-use Rattle.rules.specs.Limits.{maxTasks}
+use Rattle.numbers.specs.Lists.{at, mem}
+use Rattle.numbers.specs.Sums.{Task, within}
+use Rattle.numbers.specs.Limits.{maxTasks}
 use Rattle.rules.specs.Phase
-use Rattle.rules.specs.Grounds.{within, demand}
+use Rattle.rules.specs.Grounds.{demand}
 use Rattle.words.specs.Layout.{row, rows, words, headBase, entries}
 use Rattle.words.specs.Views.{column, part}
 use Rattle.words.specs.Contents.{headWord}

@@ -3,12 +3,12 @@
 ghost use mathlib.Core.Path.{_≡_};
 ghost use mathlib.Core.Bool.{true};
 ghost use lib.ListN.{take};
-ghost use Rattle.rules.specs.Lists.{mem};
+ghost use Rattle.numbers.specs.Lists.{mem};
 ghost use Rattle.words.specs.Layout.{entries};
 ghost use Rattle.words.specs.Views.{column, part};
-ghost use Rattle.rules.specs.Command as rules;
+ghost use Rattle.format.specs.Command as rules;
 ghost use Rattle.rules.specs.Grounds.{inTurn};
-ghost use Rattle.rules.specs.OneOrder.{oneOrder};
+ghost use Rattle.streams.specs.OneOrder.{oneOrder};
 ghost use Rattle.answer.specs.Meaning.{planOf};
 ghost use Rattle.answer.specs.ValidPlan.{ValidPlan, Obeyed};
 ghost use Rattle.ordering.specs.Order.{Sought, OrderAt, groundAt, MayAppend, appendedTo, Appended};

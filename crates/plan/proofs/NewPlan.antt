@@ -6,14 +6,14 @@ use Prim.Native.Nat.{ℕ, suc, _+_, _≤_, _<_}
 use native.Mathlib.Omega.{arith}
 use lib.Dec.{leb}
 use lib.ListN.{length, take, replicate, length-replicate, getD-replicate, List·getD-eq-default}
-use Rattle.rules.specs.Kind.{each}
-use Rattle.rules.specs.Sums.{only}
-use Rattle.rules.specs.Limits.{maxTasks}
-use Rattle.rules.specs.Lists.{at}
+use Rattle.books.specs.Kind.{each}
+use Rattle.numbers.specs.Sums.{only}
+use Rattle.numbers.specs.Limits.{maxTasks}
+use Rattle.numbers.specs.Lists.{at}
 use Rattle.rules.specs.Phase
 use Rattle.rules.specs.State.{State, none}
 use Rattle.rules.specs.Reachable.{Reachable, start}
-use Rattle.rules.proofs.Tests.{le-or-lt}
+use Rattle.numbers.proofs.Tests.{le-or-lt}
 use Rattle.words.specs.Layout.{words, headBase}
 use Rattle.words.specs.Views.{column}
 use Rattle.words.specs.Contents.{storeContents, contents}
@@ -21,8 +21,7 @@ use Rattle.words.proofs.Views.{column-length}
 use Rattle.store.specs.Rows.{ZeroPast}
 use Rattle.answer.specs.Meaning.{planOf}
 use Rattle.answer.specs.Sound.{Unused, Sound}
-use Rattle.answer.specs.ValidPlan.{ValidPlan}
-use Rattle.answer.specs.ValidPlan.{NewPlan}
+use Rattle.answer.specs.ValidPlan.{ValidPlan, NewPlan}
 use Rattle.opening.proofs.Opening.{Blank, blank}
 
 pub new-long : {w : List ℕ} → NewPlan w → length w ≡ words

@@ -5,9 +5,9 @@ use mathlib.Core.List.{List}
 use Prim.Native.Nat.{ℕ, _≤_, _<_}
 use lib.ListN.{length}
 use borrow.Author.Tests.{lt-ltb, le-ltb}
-use Rattle.rules.specs.Limits.{leastStarts}
+use Rattle.numbers.specs.Limits.{leastStarts}
 use Rattle.rules.specs.State.{State}
-use Rattle.rules.specs.Command.{Command, Decoded, refused, read, decode}
+use Rattle.format.specs.Command.{Command, Decoded, refused, read, decode}
 use Rattle.rules.specs.Reachable.{Reachable, next}
 use Rattle.rules.specs.Answer as rules
 use Rattle.rules.proofs.Reaching.{is-read}

@@ -1,7 +1,7 @@
 // One command, asked in bytes.
 ghost use Prim.Native.Nat.{_≤_};
 ghost use lib.ListN.{length};
-ghost use Rattle.rules.specs.Limits.{leastStarts};
+ghost use Rattle.numbers.specs.Limits.{leastStarts};
 ghost use Rattle.codec.specs.Meaning.{decoded};
 ghost use Rattle.answer.specs.ValidPlan.{ValidPlan, Responded, Commanded};
 use answer::Answer;

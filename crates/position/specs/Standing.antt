@@ -1,6 +1,6 @@
 -- Where the code stands in the input, in the rules.
 use Prim.Native.Nat.{ℕ, _+_, _-_, _≤_}
-use Rattle.rules.specs.Printer as rules
+use Rattle.texts.specs.Printer as rules
 use Rattle.position.specs.declared.Position.{Position}
 
 abbrev pub positionOf : Position → rules.Position

@@ -4,7 +4,7 @@ ghost use mathlib.Core.Path.{_≡_};
 ghost use Prim.Native.Nat.{_+_, _^_, _<_};
 ghost use lib.ListN.{length, drop};
 ghost use lib.Seq.{paste};
-ghost use Rattle.rules.specs.Printer as rules;
+ghost use Rattle.texts.specs.Printer as rules;
 ghost use Rattle.position.specs.Standing.{positionOf, Stands};
 
 // The bytes at hand are the first `filled` of a buffer. The next command is at `place` among them,

@@ -8,9 +8,9 @@ use native.Mathlib.Omega.{arith}
 use lib.Dec.{leb}
 use lib.ListN.{length}
 use borrow.Author.Tests.{ne-eqb}
-use Rattle.rules.specs.Command.{decode}
+use Rattle.format.specs.Command.{decode}
 use Rattle.rules.specs.Answer as answers
-use Rattle.rules.specs.Printer as rules
+use Rattle.texts.specs.Printer as rules
 use Rattle.answer.specs.Meaning.{planOf}
 use Rattle.answer.specs.declared.Answer.{Answer}
 use Rattle.answer.specs.ValidPlan.{Commanded}

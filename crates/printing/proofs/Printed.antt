@@ -5,7 +5,7 @@ use Prim.Native.Nat.{ℕ}
 use native.Mathlib.Omega.{arith}
 use lib.ListN.{take}
 use Rattle.rules.specs.Answer as rules
-use Rattle.rules.specs.Text.{beginLine, doneLine, fetchLine, placesLine, line, acceptedLine}
+use Rattle.texts.specs.Text.{beginLine, doneLine, fetchLine, placesLine, line, acceptedLine}
 use Rattle.rules.specs.Question.{booked, inUse, fullness}
 use Rattle.codec.specs.Meaning.{commandOf, decoded}
 use Rattle.codec.specs.declared.Command.{Command}

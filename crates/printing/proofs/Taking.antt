@@ -6,12 +6,12 @@ use Prim.Native.Nat.{ℕ, _≤_, _<_}
 use native.Mathlib.Omega.{arith}
 use lib.ListN.{length}
 use borrow.Author.Tests.{le-leb, lt-leb, eq-eqb, ne-eqb}
-use Rattle.rules.specs.Limits.{maxProcessors}
-use Rattle.rules.specs.Command.{Decoded, decode}
+use Rattle.numbers.specs.Limits.{maxProcessors}
+use Rattle.format.specs.Command.{Decoded, decode}
 use Rattle.rules.specs.Answer as rules
-use Rattle.rules.specs.Text.{acceptedLine, refusedLine}
-use Rattle.rules.specs.Printer.{goesOn, waits, stops, idle, said, answered, isAwaited, turn}
-use Rattle.rules.proofs.Askings.{asking-holds}
+use Rattle.texts.specs.Text.{acceptedLine, refusedLine}
+use Rattle.texts.specs.Printer.{goesOn, waits, stops, idle, said, answered, isAwaited, turn}
+use Rattle.theorem.proofs.Askings.{asking-holds}
 use Rattle.rules.proofs.Reaching.{lives}
 use Rattle.words.specs.Contents.{contents}
 use Rattle.answer.specs.declared.Answer.{Answer}

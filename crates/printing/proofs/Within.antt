@@ -6,15 +6,15 @@ use Prim.Native.Nat.{ℕ, _+_, _≤_, _<_}
 use native.Mathlib.Omega.{arith}
 use lib.Dec.{eqb, leb, ltb}
 use lib.ListN.{length}
-use Rattle.rules.specs.Lists.{at}
-use Rattle.rules.specs.Limits.{leastStarts}
+use Rattle.numbers.specs.Lists.{at}
+use Rattle.numbers.specs.Limits.{leastStarts}
 use Rattle.rules.specs.State.{State}
-use Rattle.rules.specs.Command.{Command, Form, forms, room, Decoded, refused, read, decode}
+use Rattle.format.specs.Command.{Command, Form, forms, room, Decoded, refused, read, decode}
 use Rattle.rules.specs.Grounds.{ground}
 use Rattle.rules.specs.Obey.{obey}
 use Rattle.rules.specs.Answer.{Asking, refuse, accept, judge, respond, command}
-use Rattle.rules.specs.Printer.{goesOn, waits, stops, idle, answered, isAwaited, turn}
-use Rattle.rules.proofs.Bytes.{Reading, nothing-left, no-line, cut-short, in-full, reading, read-by, All, found}
+use Rattle.texts.specs.Printer.{goesOn, waits, stops, idle, answered, isAwaited, turn}
+use Rattle.format.proofs.Bytes.{Reading, nothing-left, no-line, cut-short, in-full, reading, read-by, All, found}
 use Rattle.answer.specs.Meaning.{planOf}
 use Rattle.printing.specs.declared.Turned.{Turned}
 use Rattle.printing.specs.Taken.{Taken}

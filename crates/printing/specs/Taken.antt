@@ -3,8 +3,8 @@ use mathlib.Core.Path.{_≡_}
 use mathlib.Core.List.{List}
 use Prim.Native.Nat.{ℕ, _≤_}
 use lib.ListN.{length}
-use Rattle.rules.specs.Text.{longestLine}
-use Rattle.rules.specs.Printer as rules
+use Rattle.texts.specs.Text.{longestLine}
+use Rattle.texts.specs.Printer as rules
 use Rattle.answer.specs.Meaning.{planOf}
 use Rattle.answer.specs.ValidPlan.{ValidPlan}
 use Rattle.put.specs.Written.{Written}

@@ -1,5 +1,5 @@
 // The line of an accepted command.
-ghost use Rattle.rules.specs.Text.{acceptedLine};
+ghost use Rattle.texts.specs.Text.{acceptedLine};
 ghost use Rattle.codec.specs.Meaning.{decoded};
 ghost use Rattle.words.specs.Contents.{contents};
 ghost use Rattle.answer.specs.Meaning.{answeredOf};

@@ -2,7 +2,7 @@
 mod accepted;
 
 ghost use mathlib.Core.Path.{_≡_};
-ghost use Rattle.rules.specs.Printer as rules;
+ghost use Rattle.texts.specs.Printer as rules;
 ghost use Rattle.codec.specs.Meaning.{decoded};
 ghost use Rattle.answer.specs.Meaning.{planOf};
 ghost use Rattle.answer.specs.ValidPlan.{ValidPlan};

@@ -8,8 +8,8 @@ use borrow.Author.Tests.{leb-true, ne-eqb}
 use lib.IntN.{ℤ, pos, negsuc}
 use lib.ListN.{length, take, drop, length-append}
 use lib.Seq.{length-take-le}
-use Rattle.rules.specs.Printer as rules
-use Rattle.rules.specs.Printer.{waits, stops, moved, fronted, fed, isCounted, maxOffset, step}
+use Rattle.texts.specs.Printer as rules
+use Rattle.texts.specs.Printer.{waits, stops, moved, fronted, fed, isCounted, maxOffset, step}
 use Rattle.answer.specs.Meaning.{planOf}
 use Rattle.answer.specs.ValidPlan.{ValidPlan}
 use Rattle.io.specs.Counts.{clamped}

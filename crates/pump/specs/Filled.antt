@@ -3,7 +3,7 @@ use mathlib.Core.Path.{_≡_}
 use mathlib.Core.List.{List}
 use Prim.Native.Nat.{ℕ, _-_}
 use lib.ListN.{length, take, drop}
-use Rattle.rules.specs.Printer as rules
+use Rattle.texts.specs.Printer as rules
 use Rattle.io.specs.Counts.{clamped}
 use Rattle.position.specs.declared.Position.{Position}
 use Rattle.pump.specs.declared.room.Refilled.{Refilled}

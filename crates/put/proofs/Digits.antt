@@ -5,7 +5,7 @@ use Prim.Native.Nat.{ℕ, zero, suc, _+_, _/_, _%_, _≤_, _<_}
 use native.Mathlib.Decide.{decLt}
 use native.Mathlib.Omega.{arith}
 use borrow.Author.Tests.{lt-ltb, le-ltb}
-use Rattle.rules.specs.Text.{digits, decimal}
+use Rattle.texts.specs.Text.{digits, decimal}
 
 short : (more x : ℕ) → x < 10 → digits more x ≡ (48 + x % 10) ∷ []
 unfolding digits

@@ -1,8 +1,8 @@
 // Pieces of a list of bytes. Each is put into a lent buffer from a place on, as much of it as there
 // is room for, and answers the place behind it.
 ghost use mathlib.Core.List.{[], _∷_};
-ghost use Rattle.rules.specs.Command.{little};
-ghost use Rattle.rules.specs.Text.{decimal};
+ghost use Rattle.format.specs.Command.{little};
+ghost use Rattle.texts.specs.Text.{decimal};
 ghost use Rattle.put.specs.Put.{Put};
 
 pub fn byte(buffer: &mut [u8], place: usize, value: u8) -> usize

@@ -6,13 +6,13 @@ use native.Mathlib.Omega.{arith}
 use lib.Dec.{eqb}
 use lib.ListN.{length}
 use borrow.Author.Tests.{eq-eqb, ne-eqb}
-use Rattle.rules.specs.Sums.{Task, only, sumTo, countTo}
-use Rattle.rules.specs.Lists.{at}
-use Rattle.rules.specs.Standing.{waiting, activated, running, finished, count}
-use Rattle.rules.specs.Booking.{Books}
-use Rattle.rules.specs.Invariant.{Valid}
-use Rattle.rules.proofs.Sums.{only-true, only-false}
-use Rattle.rules.proofs.Orders.{sumOver, sum-along}
+use Rattle.numbers.specs.Sums.{Task, only, sumTo, countTo}
+use Rattle.numbers.specs.Lists.{at}
+use Rattle.books.specs.Standing.{waiting, activated, running, finished, count}
+use Rattle.books.specs.Booking.{Books}
+use Rattle.tree.specs.Tree.{Valid}
+use Rattle.numbers.proofs.Sums.{only-true, only-false}
+use Rattle.tree.proofs.Orders.{sumOver, sum-along}
 use Rattle.store.specs.Cached.{Reached}
 
 -- a sum along a list whose first k entries give nothing, and whose others give one

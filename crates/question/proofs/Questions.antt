@@ -7,36 +7,26 @@ use Prim.Native.Nat.{ℕ, _+_, _-_, _≤_, _<_}
 use native.Mathlib.Omega.{arith}
 use lib.Dec.{eqb}
 use borrow.Author.Tests.{eqb-true, eq-eqb, ne-eqb}
-use Rattle.rules.specs.Kind.{chilled}
-use Rattle.rules.specs.Sums.{only}
-use Rattle.rules.specs.Lists.{at}
+use Rattle.books.specs.Kind.{chilled}
+use Rattle.numbers.specs.Sums.{only}
+use Rattle.numbers.specs.Lists.{at}
 use Rattle.rules.specs.Phase
-use Rattle.rules.specs.Standing.{waiting, activated, running, finished, count, counts}
+use Rattle.books.specs.Standing.{waiting, activated, running, finished, count, counts}
 use Rattle.rules.specs.Reachable.{Reachable}
 use Rattle.rules.specs.Question.{bookedIn, booked, inUseIn, inUse, standing}
-use Rattle.rules.specs.Booking.{total}
-use Rattle.rules.proofs.Sums.{only-true, only-cong, count-none, count-all}
-use Rattle.rules.proofs.Tests.{decide, same-or-not, or-cases}
-use Rattle.rules.proofs.Roots.{some-root}
+use Rattle.books.specs.Booking.{total}
+use Rattle.numbers.proofs.Sums.{only-true, only-cong, count-none, count-all}
+use Rattle.numbers.proofs.Tests.{decide, same-or-not, or-cases}
+use Rattle.tree.proofs.Roots.{some-root}
 use Rattle.rules.proofs.InDay.{all-ended}
-use Rattle.rules.proofs.Stores.{in-use-going}
-use Rattle.rules.proofs.Holds.{day-holds}
+use Rattle.theorem.proofs.Stores.{in-use-going}
+use Rattle.theorem.proofs.Holds.{day-holds}
 use Rattle.rules.proofs.Reaching.{lives}
 use Rattle.words.specs.Contents.{Contents}
 use Rattle.store.specs.Rows.{rowsOf, books, activationOf}
 use Rattle.answer.specs.Meaning.{meaning}
 use Rattle.answer.specs.Sound.{Sound}
-use Rattle.answer.proofs.Meant.{
-  in-running,
-  cached-now,
-  parents-meant,
-  works-meant,
-  outs-meant,
-  standings-rows,
-  booked-rows,
-  order-valid,
-  going,
-}
+use Rattle.answer.proofs.Meant.{in-running, cached-now, parents-meant, works-meant, outs-meant, standings-rows, booked-rows, order-valid, going}
 use Rattle.question.proofs.Counting.{waiting-count, four-counts}
 
 -- from BEGIN to FETCH a plan runs or is ready

@@ -1,6 +1,6 @@
 // What may be asked of a plan at any time.
 ghost use mathlib.Core.Path.{_≡_};
-ghost use Rattle.rules.specs.Sums.{only};
+ghost use Rattle.numbers.specs.Sums.{only};
 ghost use Rattle.rules.specs.Phase;
 ghost use Rattle.rules.specs.Question as rules;
 ghost use Rattle.answer.specs.Meaning.{planOf};

@@ -6,9 +6,9 @@ use Prim.Native.Nat.{ℕ, _+_, min}
 use native.Mathlib.Omega.{arith}
 use borrow.Author.Tests.{le-leb}
 use lib.ListN.{length}
-use Rattle.rules.specs.Command.{Command, read, decode}
-use Rattle.rules.proofs.Tests.{le-or-lt}
-use Rattle.rules.proofs.Bytes.{read-by}
+use Rattle.format.specs.Command.{Command, read, decode}
+use Rattle.numbers.proofs.Tests.{le-or-lt}
+use Rattle.format.proofs.Bytes.{read-by}
 use Rattle.reader.specs.Onward.{onward}
 
 -- stopping at the end changes no command: no byte is left there, nor past it

@@ -3,7 +3,7 @@
 use codec::Decoded;
 use codec::decode;
 ghost use mathlib.Core.Path.{_≡_};
-ghost use Rattle.rules.specs.Command as rules;
+ghost use Rattle.format.specs.Command as rules;
 ghost use Rattle.codec.specs.Meaning.{decoded};
 ghost use Rattle.reader.specs.Onward.{onward};
 

@@ -10,8 +10,8 @@ use lib.ListN.{length, set, length-set}
 use lib.Pow.{pow-pos}
 use lib.Seq.{getD-set-same, getD-set-other}
 use borrow.Author.Tests.{eq-eqb, ne-eqb}
-use Rattle.rules.specs.Lists.{at}
-use Rattle.rules.proofs.Tests.{same-or-not}
+use Rattle.numbers.specs.Lists.{at}
+use Rattle.numbers.proofs.Tests.{same-or-not}
 use Rattle.words.specs.Layout.{words, entries, bits, blocks, readyBase, filledWord}
 use Rattle.words.specs.Contents.{Contents, contents, withReady}
 use Rattle.words.specs.Digits.{digits}

@@ -5,8 +5,8 @@ use mathlib.Core.Logic.{⊎-elim}
 use Prim.Native.Nat.{ℕ, zero, suc, _+_, _*_, _/_, _%_, _^_, _≤_, _<_}
 use native.Mathlib.Omega.{arith}
 use lib.Count.{trailingZeros, under}
-use Rattle.rules.specs.Sums.{only}
-use Rattle.rules.proofs.Tests.{decide, le-or-lt}
+use Rattle.numbers.specs.Sums.{only}
+use Rattle.numbers.proofs.Tests.{decide, le-or-lt}
 use Rattle.words.specs.Digits.{digits, firstIn}
 
 -- the same places have the same number

@@ -8,21 +8,13 @@ use native.Mathlib.Omega.{arith}
 use lib.Count.{trailingZeros}
 use lib.Dec.{eqb}
 use borrow.Author.Tests.{eqb-true, eqb-false, not-true, not-false, lt-ltb, le-ltb}
-use Rattle.rules.specs.Lists.{at}
-use Rattle.rules.proofs.Tests.{same-or-not}
+use Rattle.numbers.specs.Lists.{at}
+use Rattle.numbers.proofs.Tests.{same-or-not}
 use Rattle.words.specs.Layout.{entries, bits, blocks}
 use Rattle.words.specs.Contents.{Contents}
 use Rattle.words.specs.Digits.{digits, firstIn}
 use Rattle.words.specs.Marks.{Marks, FirstMarked}
-use Rattle.ready.proofs.Digits.{
-  digits-same,
-  digits-zero,
-  lowest-digit,
-  first-before,
-  first-there,
-  first-is,
-  first-some,
-}
+use Rattle.ready.proofs.Digits.{digits-same, digits-zero, lowest-digit, first-before, first-there, first-is, first-some}
 
 -- which words of the set are not 0
 abbrev pub some : List ℕ → ℕ → Bool

@@ -2,11 +2,11 @@
 use mathlib.Core.Path.{_≡_, sym, ap, ap₂, _∙_}
 use Prim.Native.Nat.{ℕ}
 use lib.Dec.{eqb}
-use Rattle.rules.specs.Sums.{Task, lowestTo}
-use Rattle.rules.specs.Lists.{at}
+use Rattle.numbers.specs.Sums.{Task, lowestTo}
+use Rattle.numbers.specs.Lists.{at}
 use Rattle.rules.specs.Phase
-use Rattle.rules.specs.Booking.{isUnendedChild, fed}
-use Rattle.rules.specs.Why.{unendedChild}
+use Rattle.books.specs.Booking.{isUnendedChild, fed}
+use Rattle.whys.specs.Why.{unendedChild}
 use Rattle.words.specs.Contents.{Contents}
 use Rattle.store.proofs.Unended.{fed-is}
 use Rattle.answer.specs.Meaning.{meaning}

@@ -3,19 +3,19 @@ use mathlib.Core.Path.{_≡_, sym, ap, ap₂, _∙_}
 use mathlib.Core.Logic.{⊎-elim}
 use Prim.Native.Nat.{ℕ, _+_, _-_, _≤_, _<_}
 use native.Mathlib.Omega.{arith}
-use Rattle.rules.specs.Kind.{chilled}
-use Rattle.rules.specs.Sums.{Task}
-use Rattle.rules.specs.Lists.{at}
+use Rattle.books.specs.Kind.{chilled}
+use Rattle.numbers.specs.Sums.{Task}
+use Rattle.numbers.specs.Lists.{at}
 use Rattle.rules.specs.Phase
-use Rattle.rules.specs.Standing.{waiting}
+use Rattle.books.specs.Standing.{waiting}
 use Rattle.rules.specs.Reachable.{Reachable}
-use Rattle.rules.specs.Booking.{misses}
-use Rattle.rules.specs.Invariant.{rankIn}
-use Rattle.rules.specs.Why.{firstWaiting, lackIn}
-use Rattle.rules.proofs.Tests.{le-or-lt}
-use Rattle.rules.proofs.Orders.{place-at}
-use Rattle.rules.proofs.Ranks.{stands, tree-of}
-use Rattle.rules.proofs.Why.{first-is}
+use Rattle.books.specs.Booking.{misses}
+use Rattle.tree.specs.Tree.{rankIn}
+use Rattle.whys.specs.Why.{firstWaiting, lackIn}
+use Rattle.numbers.proofs.Tests.{le-or-lt}
+use Rattle.tree.proofs.Orders.{place-at}
+use Rattle.tree.proofs.Ranks.{stands, tree-of}
+use Rattle.whys.proofs.Why.{first-is}
 use Rattle.words.specs.Contents.{Contents}
 use Rattle.words.proofs.Contents.{Lengths}
 use Rattle.store.specs.Rows.{books, activationOf}

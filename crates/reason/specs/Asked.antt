@@ -2,7 +2,7 @@
 use mathlib.Core.Path.{_≡_}
 use mathlib.Core.List.{List}
 use Prim.Native.Nat.{ℕ, _<_}
-use Rattle.rules.specs.Sums.{Task}
+use Rattle.numbers.specs.Sums.{Task}
 use Rattle.rules.specs.Phase
 use Rattle.words.specs.Contents.{contents}
 use Rattle.answer.specs.ValidPlan.{ValidPlan}

@@ -1,6 +1,6 @@
 -- What the code's reasons mean in the rules, case by case.
-use Rattle.rules.specs.Kind.{each}
-use Rattle.rules.specs.Why as rules
+use Rattle.books.specs.Kind.{each}
+use Rattle.whys.specs.Why as rules
 use Rattle.reason.specs.declared.Reason.{Reason}
 use Rattle.reason.specs.declared.Reason.the-variants.{Refused, Ended, Running, NotBooked, Unfed, NoProcessor}
 

@@ -1,11 +1,11 @@
 // Why a task is not starting. The plan is only read, in at most one pass over its tasks.
 ghost use mathlib.Core.Path.{_≡_};
 ghost use Prim.Native.Nat.{_≤_};
-ghost use Rattle.rules.specs.Limits.{maxTasks};
-ghost use Rattle.rules.specs.Lists.{at};
-ghost use Rattle.rules.specs.Sums.{lowestTo};
-ghost use Rattle.rules.specs.Booking.{isUnendedChild};
-ghost use Rattle.rules.specs.Why as rules;
+ghost use Rattle.numbers.specs.Limits.{maxTasks};
+ghost use Rattle.numbers.specs.Lists.{at};
+ghost use Rattle.numbers.specs.Sums.{lowestTo};
+ghost use Rattle.books.specs.Booking.{isUnendedChild};
+ghost use Rattle.whys.specs.Why as rules;
 ghost use Rattle.words.specs.Contents.{contents};
 ghost use Rattle.answer.specs.Meaning.{planOf};
 ghost use Rattle.answer.specs.ValidPlan.{ValidPlan};

@@ -9,27 +9,29 @@ use lib.Dec.{eqb}
 use lib.ListN.{length, set}
 use lib.Seq.{drop-length}
 use borrow.Author.Tests.{eq-eqb, ne-eqb}
-use Rattle.rules.specs.Kind.{Kind, Each, of, each}
-use Rattle.rules.specs.Lists.{at}
+use Rattle.books.specs.Kind.{Kind, Each, of, each}
+use Rattle.numbers.specs.Lists.{at}
 use Rattle.rules.specs.Phase
-use Rattle.rules.specs.Standing.{running, finished}
+use Rattle.books.specs.Standing.{running, finished}
 use Rattle.rules.specs.State.{State, storeOf, needsIn}
-use Rattle.rules.specs.Command.{done}
-use Rattle.rules.specs.Grounds.{within}
-use Rattle.rules.specs.Booking.{Books, Share, Climbed, total, chain, activate, start, free, release, climb, dispatch}
-use Rattle.rules.specs.Obey.{withBooked, withBooks, termsOf, booksOf, ahead, begun, proceed, endedStandings, shared, ended, phaseAfter, plain, obey}
-use Rattle.rules.specs.Invariant.{rankIn, Stocked}
-use Rattle.rules.proofs.EachStore.{of-each, each-same}
-use Rattle.rules.proofs.Tests.{same-or-not}
-use Rattle.rules.proofs.Sums.{Task, sum-le, only-true, only-false}
-use Rattle.rules.proofs.Orders.{within-task, mem-at, every-mem}
-use Rattle.rules.proofs.Roots.{one-root, root-last}
-use Rattle.rules.proofs.Tree.{chain-none}
-use Rattle.rules.proofs.Balance.{running-holds-need}
-use Rattle.rules.proofs.Finishing.{finishing-shape}
-use Rattle.rules.proofs.Branches.{passes-all, release-root}
-use Rattle.rules.proofs.Starts.{Startable, starts-startable}
-use Rattle.rules.proofs.Entries.{at-set, at-other, moved-by-set}
+use Rattle.format.specs.Command.{done}
+use Rattle.numbers.specs.Sums.{within}
+use Rattle.books.specs.Booking.{Books, Share, Climbed, total, activate, start, release, climb, dispatch}
+use Rattle.tree.specs.Tree.{chain, rankIn}
+use Rattle.rules.specs.Obey.{withBooked, withBooks, termsOf, booksOf, ahead, begun, proceed, endedStandings, shared, ended, phaseAfter, plain, obey, free}
+use Rattle.books.specs.Invariant.{Stocked}
+use Rattle.books.proofs.EachStore.{of-each, each-same}
+use Rattle.numbers.proofs.Tests.{same-or-not}
+use Rattle.numbers.proofs.Sums.{Task, sum-le, only-true, only-false}
+use Rattle.tree.proofs.Orders.{within-task, mem-at, every-mem}
+use Rattle.tree.proofs.Roots.{one-root}
+use Rattle.books.proofs.Shape.{root-last}
+use Rattle.tree.proofs.Tree.{chain-none}
+use Rattle.books.proofs.Balance.{running-holds-need}
+use Rattle.books.proofs.Finishing.{finishing-shape}
+use Rattle.books.proofs.Branches.{passes-all, release-root}
+use Rattle.books.proofs.Starts.{Startable, starts-startable}
+use Rattle.books.proofs.Entries.{at-set, at-other, moved-by-set}
 use Rattle.rules.proofs.InDay.{Planned, Going, Remaining, Closed, tree, needs-roomy}
 
 -- nobody that has ended starts

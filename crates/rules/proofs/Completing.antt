@@ -9,10 +9,10 @@ use lib.ListN.{length}
 use borrow.Author.Tests.{eqb-true}
 use Rattle.rules.specs.Phase
 use Rattle.rules.specs.State.{State}
-use Rattle.rules.specs.Command.{begin}
+use Rattle.format.specs.Command.{begin}
 use Rattle.rules.specs.Grounds.{noExecution, inTurn, inLimits, ownGround, ground}
 use Rattle.rules.specs.Obey.{executionOrder}
-use Rattle.rules.proofs.Tests.{decide, clash, or-cases, and-true}
+use Rattle.numbers.proofs.Tests.{decide, clash, or-cases, and-true}
 use Rattle.rules.proofs.Judging.{ground-own}
 
 -- the execution order is the one that was given, or the activation order: what holds of both holds of it

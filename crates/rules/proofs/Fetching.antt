@@ -8,26 +8,27 @@ use native.Mathlib.Omega.{arith}
 use lib.Dec.{eqb}
 use lib.ListN.{length, set}
 use borrow.Author.Tests.{eqb-true, eq-eqb, ne-eqb}
-use Rattle.rules.specs.Kind.{Kind, of, each}
-use Rattle.rules.specs.Lists.{at, first}
+use Rattle.books.specs.Kind.{Kind, of, each}
+use Rattle.numbers.specs.Lists.{at, first}
 use Rattle.rules.specs.Phase
 use Rattle.rules.specs.State.{State, rootOf, storeOf}
-use Rattle.rules.specs.Command.{fetch}
-use Rattle.rules.specs.Grounds.{within, inTurn}
-use Rattle.rules.specs.Booking.{total}
+use Rattle.format.specs.Command.{fetch}
+use Rattle.numbers.specs.Sums.{within}
+use Rattle.rules.specs.Grounds.{inTurn}
+use Rattle.books.specs.Booking.{total}
 use Rattle.rules.specs.Obey.{withBooked, withBooks, obey}
 use Rattle.rules.specs.Obey
 use Rattle.rules.specs.Day.{Event, fetched, isFetched}
-use Rattle.rules.specs.Invariant.{rankIn}
-use Rattle.rules.proofs.EachStore.{of-each}
-use Rattle.rules.proofs.Tests.{clash, same-or-not, or-right}
-use Rattle.rules.proofs.Sums.{Task, sum-zero, only-false}
-use Rattle.rules.proofs.Roots.{root-task, root-parent, one-root}
-use Rattle.rules.proofs.Orders.{within-task, mem-at, every-mem, place-of}
-use Rattle.rules.proofs.Ranks.{stands}
-use Rattle.rules.proofs.Tree.{parent-task}
-use Rattle.rules.proofs.Starts.{first-passes, first-none}
-use Rattle.rules.proofs.Entries.{at-other}
+use Rattle.tree.specs.Tree.{rankIn}
+use Rattle.books.proofs.EachStore.{of-each}
+use Rattle.numbers.proofs.Tests.{clash, same-or-not, or-right}
+use Rattle.numbers.proofs.Sums.{Task, sum-zero, only-false}
+use Rattle.tree.proofs.Roots.{root-task, root-parent, one-root}
+use Rattle.tree.proofs.Orders.{within-task, mem-at, every-mem, place-of}
+use Rattle.tree.proofs.Ranks.{stands}
+use Rattle.tree.proofs.Tree.{parent-task}
+use Rattle.books.proofs.Starts.{first-passes, first-none}
+use Rattle.books.proofs.Entries.{at-other}
 use Rattle.rules.proofs.Log.{fetched-append, fetched-in-order, fetched-logged, all-reported}
 use Rattle.rules.proofs.Formed.{Accepted}
 use Rattle.rules.proofs.InDay.{Planned, InDay, Closed, Course, goes, closed, tree, books-planned}

@@ -9,17 +9,18 @@ use native.Mathlib.Omega.{arith}
 use lib.Dec.{eqb, leb}
 use lib.ListN.{length, length-append, List·getD-append}
 use borrow.Author.Tests.{eqb-true, eq-eqb, ne-eqb, leb-true, not-true}
-use Rattle.rules.specs.Kind.{Kind, chilled, Each, of}
-use Rattle.rules.specs.Limits.{maxTasks, maxProcessors, maxCount, maxBound}
-use Rattle.rules.specs.Lists.{at, mem, every, distinct}
+use Rattle.books.specs.Kind.{Kind, chilled, Each, of}
+use Rattle.numbers.specs.Limits.{maxTasks, maxProcessors, maxCount, maxBound}
+use Rattle.numbers.specs.Lists.{at, mem, every, distinct}
 use Rattle.rules.specs.Phase
 use Rattle.rules.specs.State.{Store, State, none, storeOf}
-use Rattle.rules.specs.Command.{Command, plan, task, activation, execution, begin, done, fetch, places}
-use Rattle.rules.specs.Grounds.{inTurn, inLimits, within, demand, ownGround, ground}
+use Rattle.format.specs.Command.{Command, plan, task, activation, execution, begin, done, fetch, places}
+use Rattle.rules.specs.Grounds.{inTurn, inLimits, demand, ownGround, ground}
+use Rattle.numbers.specs.Sums.{within}
 use Rattle.rules.specs.Obey.{opened, withCounts, withTask, withOrders, completed, withBooked, withBooks, withBound, proceed, phaseAfter, unloaded, obey}
-use Rattle.rules.proofs.Tests.{and-true, same-or-not}
-use Rattle.rules.proofs.Orders.{within-task, every-snoc, distinct-snoc}
-use Rattle.rules.proofs.EachStore.{of-each}
+use Rattle.numbers.proofs.Tests.{and-true, same-or-not}
+use Rattle.tree.proofs.Orders.{within-task, every-snoc, distinct-snoc}
+use Rattle.books.proofs.EachStore.{of-each}
 use Rattle.rules.proofs.Completing.{either-order, begin-turn}
 
 -- no ground is left where a test holds and none of those behind it

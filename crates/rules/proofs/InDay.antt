@@ -7,27 +7,27 @@ use native.Mathlib.Omega.{arith}
 use lib.Dec.{eqb}
 use lib.ListN.{length, replicate, length-replicate, getD-replicate}
 use borrow.Author.Tests.{eqb-true, eq-eqb, ne-eqb, leb-true}
-use Rattle.rules.specs.Kind.{Kind, Each, of, all}
-use Rattle.rules.specs.Sums.{only, sumTo}
-use Rattle.rules.specs.Lists.{at}
-use Rattle.rules.specs.Need.{need}
-use Rattle.rules.specs.Peak.{Peaked, roots, ordered}
+use Rattle.books.specs.Kind.{Kind, Each, of, all}
+use Rattle.numbers.specs.Sums.{only, sumTo}
+use Rattle.numbers.specs.Lists.{at}
+use Rattle.tree.specs.Need.{need}
+use Rattle.tree.specs.Peak.{Peaked}
+use Rattle.tree.specs.Tree.{roots, ordered, Valid, rankIn, Tree}
 use Rattle.rules.specs.Phase
-use Rattle.rules.specs.Standing.{waiting, running, finished, count}
-use Rattle.rules.specs.State.{Store, State, needsIn, storeOf}
-use Rattle.rules.specs.Command.{begin}
+use Rattle.books.specs.Standing.{waiting, running, finished, count}
+use Rattle.rules.specs.State.{Store, State, needsIn, storeOf, OrdersHold}
+use Rattle.format.specs.Command.{begin}
 use Rattle.rules.specs.Grounds.{demand, peakIn, fitsIn, ownGround}
-use Rattle.rules.specs.Booking.{Terms, Books, start, total}
+use Rattle.books.specs.Booking.{Terms, Books, start, total}
 use Rattle.rules.specs.Obey.{withOrders, completed, withBooked, withBooks, booksOf, termsBy, termsOf, ahead, begun, proceed, fresh}
 use Rattle.rules.specs.Day.{Event, started, isFetched}
-use Rattle.rules.specs.Theorem.{OrdersHold}
-use Rattle.rules.specs.Invariant.{Valid, rankIn, Tree, Roomy, arrived, Stocked, Good}
-use Rattle.rules.proofs.EachStore.{of-each, all-each}
-use Rattle.rules.proofs.Sums.{Task, sum-zero, count-none, only-false}
-use Rattle.rules.proofs.Orders.{each-once}
-use Rattle.rules.proofs.Ranks.{tree-of}
-use Rattle.rules.proofs.Children.{children-zero}
-use Rattle.rules.proofs.Trolley.{remains}
+use Rattle.books.specs.Invariant.{Roomy, arrived, Stocked, Good}
+use Rattle.books.proofs.EachStore.{of-each, all-each}
+use Rattle.numbers.proofs.Sums.{Task, sum-zero, count-none, only-false}
+use Rattle.tree.proofs.Orders.{each-once}
+use Rattle.tree.proofs.Ranks.{tree-of}
+use Rattle.tree.proofs.Children.{children-zero}
+use Rattle.tree.proofs.Trolley.{remains}
 use Rattle.rules.proofs.Settling.{Settled, Coursed, coursed}
 use Rattle.rules.proofs.Log.{Logged, InOrder, starts-unfetched}
 use Rattle.rules.proofs.Completing.{begin-turn}

@@ -6,7 +6,7 @@ use Prim.Native.Nat.{ℕ}
 use lib.Dec.{eqb}
 use borrow.Author.Tests.{eq-eqb, ne-eqb}
 use Rattle.rules.specs.State.{State}
-use Rattle.rules.specs.Command.{Command}
+use Rattle.format.specs.Command.{Command}
 use Rattle.rules.specs.Grounds.{inTurn, inLimits, demand, ownGround, ground}
 use Rattle.rules.specs.Obey.{obey}
 use Rattle.rules.specs.Answer.{refuse, accept, judge}

@@ -8,19 +8,18 @@ use native.Mathlib.Omega.{arith}
 use lib.Dec.{eqb, leb}
 use lib.ListN.{length, set, length-set}
 use borrow.Author.Tests.{eq-eqb, ne-eqb, lt-leb}
-use Rattle.rules.specs.Lists.{at, mem, every, distinct}
-use Rattle.rules.specs.Grounds.{within}
-use Rattle.rules.specs.Standing.{activated, running, finished, count}
-use Rattle.rules.specs.Booking.{start}
-use Rattle.rules.specs.Day.{Event, started, ended, fetched, bounded, starts, ends, isFetched}
-use Rattle.rules.specs.Theorem.{runs}
-use Rattle.rules.proofs.Tests.{same-or-not, or-right, or-none, eqb-above}
-use Rattle.rules.proofs.Sums.{Task, count-all}
-use Rattle.rules.proofs.Counts.{count-cong}
-use Rattle.rules.proofs.Places.{nowhere}
-use Rattle.rules.proofs.Orders.{mem-append, mem-here, mem-later, mem-none, every-snoc, distinct-snoc, task-within, length-counts}
-use Rattle.rules.proofs.Entries.{at-set, at-other}
-use Rattle.rules.proofs.Starts.{Startable}
+use Rattle.numbers.specs.Lists.{at, mem, every, distinct}
+use Rattle.numbers.specs.Sums.{within}
+use Rattle.books.specs.Standing.{activated, running, finished, count}
+use Rattle.books.specs.Booking.{start}
+use Rattle.rules.specs.Day.{Event, started, ended, fetched, bounded, starts, ends, isFetched, runs}
+use Rattle.numbers.proofs.Tests.{same-or-not, or-right, or-none, eqb-above}
+use Rattle.numbers.proofs.Sums.{Task, count-all}
+use Rattle.numbers.proofs.Counts.{count-cong}
+use Rattle.numbers.proofs.Places.{nowhere}
+use Rattle.tree.proofs.Orders.{mem-append, mem-here, mem-later, mem-none, every-snoc, distinct-snoc, task-within, length-counts}
+use Rattle.books.proofs.Entries.{at-set, at-other}
+use Rattle.books.proofs.Starts.{Startable}
 
 -- starts and ends of what happens one after the other
 pub starts-append : (l m : List Event) → starts (l ++ m) ≡ starts l ++ starts m

@@ -3,14 +3,14 @@ use mathlib.Core.Path.{refl}
 use mathlib.Core.List.{[], map}
 use Prim.Native.Nat.{_≤_}
 use native.Mathlib.Omega.{arith}
-use Rattle.rules.specs.Lists.{at}
-use Rattle.rules.specs.Standing.{running, count}
+use Rattle.numbers.specs.Lists.{at}
+use Rattle.books.specs.Standing.{running, count}
 use Rattle.rules.specs.State.{State}
-use Rattle.rules.specs.Command.{begin}
+use Rattle.format.specs.Command.{begin}
 use Rattle.rules.specs.Grounds.{peaksOf}
 use Rattle.rules.specs.Obey.{fresh, termsOf, withOrders, completed, obey}
 use Rattle.rules.specs.Day.{started, isFetched}
-use Rattle.rules.specs.Invariant.{rankIn}
+use Rattle.tree.specs.Tree.{rankIn}
 use Rattle.rules.proofs.Log.{nothing-logged, nothing-in-order}
 use Rattle.rules.proofs.Formed.{Formed, Accepted}
 use Rattle.rules.proofs.InDay.{InDay, fresh-waits, fresh-good, fresh-idle, begin-planned, proceed-in-day}

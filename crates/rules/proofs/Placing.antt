@@ -6,18 +6,19 @@ use Prim.Native.Nat.{ℕ, _≤_}
 use native.Mathlib.Omega.{arith}
 use lib.Dec.{leb}
 use borrow.Author.Tests.{eqb-true, ne-eqb, leb-true}
-use Rattle.rules.specs.Kind.{Kind, chilled}
-use Rattle.rules.specs.Lists.{at}
-use Rattle.rules.specs.Limits.{maxBound}
+use Rattle.books.specs.Kind.{Kind, chilled}
+use Rattle.numbers.specs.Lists.{at}
+use Rattle.numbers.specs.Limits.{maxBound}
 use Rattle.rules.specs.Phase
 use Rattle.rules.specs.State.{State, storeOf}
-use Rattle.rules.specs.Command.{places}
+use Rattle.format.specs.Command.{places}
 use Rattle.rules.specs.Grounds.{inTurn, inLimits, ownGround, demand, peakIn, peakOf, noPeaks}
-use Rattle.rules.specs.Booking.{bookedIn, total}
+use Rattle.books.specs.Booking.{bookedIn, total}
 use Rattle.rules.specs.Obey.{withBound, booksOf, termsOf, proceed, obey}
 use Rattle.rules.specs.Day.{Event, started, bounded, isFetched}
-use Rattle.rules.specs.Invariant.{rankIn, StockedBy, Good}
-use Rattle.rules.proofs.Tests.{or-none}
+use Rattle.tree.specs.Tree.{rankIn}
+use Rattle.books.specs.Invariant.{StockedBy, Good}
+use Rattle.numbers.proofs.Tests.{or-none}
 use Rattle.rules.proofs.Log.{fetched-append, bounded-logged, bounded-in-order}
 use Rattle.rules.proofs.Formed.{Accepted, demand-none, with-bound-formed}
 use Rattle.rules.proofs.InDay.{Planned, InDay, Going, still-going, proceed-in-day}

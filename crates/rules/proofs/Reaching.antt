@@ -8,16 +8,16 @@ use native.Mathlib.Omega.{arith}
 use lib.Dec.{eqb, ltb}
 use lib.ListN.{length, replicate}
 use borrow.Author.Tests.{eqb-true, eq-eqb}
-use Rattle.rules.specs.Limits.{leastStarts}
+use Rattle.numbers.specs.Limits.{leastStarts}
 use Rattle.rules.specs.Phase
 use Rattle.rules.specs.State.{State, none}
-use Rattle.rules.specs.Command.{Command, plan, task, activation, execution, begin, done, fetch, places, Decoded, refused, read, decode}
+use Rattle.format.specs.Command.{Command, plan, task, activation, execution, begin, done, fetch, places, Decoded, refused, read, decode}
 use Rattle.rules.specs.Grounds.{inTurn, ground}
 use Rattle.rules.specs.Obey.{opened, withTask, withOrders, obey}
 use Rattle.rules.specs.Answer.{Asking, Answered, refuse, accept, judge, respond, command}
 use Rattle.rules.specs.Day.{Event, started, ended, fetched, bounded, after}
 use Rattle.rules.specs.Reachable.{Reachable, start, next}
-use Rattle.rules.proofs.Tests.{decide, and-true}
+use Rattle.numbers.proofs.Tests.{decide, and-true}
 use Rattle.rules.proofs.Formed.{Formed, Accepted, no-ground, none-formed, obey-formed}
 use Rattle.rules.proofs.InDay.{InDay}
 use Rattle.rules.proofs.Opening.{begin-in-day}

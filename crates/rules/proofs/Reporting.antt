@@ -8,22 +8,23 @@ use native.Mathlib.Omega.{arith}
 use lib.Dec.{eqb}
 use lib.ListN.{length, set}
 use borrow.Author.Tests.{eqb-true, eq-eqb, ne-eqb}
-use Rattle.rules.specs.Lists.{at}
+use Rattle.numbers.specs.Lists.{at}
 use Rattle.rules.specs.Phase
-use Rattle.rules.specs.Standing.{running, finished, count}
+use Rattle.books.specs.Standing.{running, finished, count}
 use Rattle.rules.specs.State.{State, storeOf}
-use Rattle.rules.specs.Command.{done}
+use Rattle.format.specs.Command.{done}
 use Rattle.rules.specs.Grounds.{inTurn, inLimits, noPeaks, ownGround}
 use Rattle.rules.specs.Obey.{withBooks, termsOf, booksOf, proceed, endedStandings, shared, phaseAfter, obey}
 use Rattle.rules.specs.Obey
 use Rattle.rules.specs.Day.{Event, started, ended, isFetched}
-use Rattle.rules.specs.Invariant.{rankIn, Good}
-use Rattle.rules.proofs.Tests.{same-or-not, or-none}
-use Rattle.rules.proofs.Sums.{Task}
-use Rattle.rules.proofs.Counts.{count-change}
-use Rattle.rules.proofs.Orders.{within-task}
-use Rattle.rules.proofs.Entries.{at-set, at-other}
-use Rattle.rules.proofs.Sharing.{sharing-good}
+use Rattle.tree.specs.Tree.{rankIn}
+use Rattle.books.specs.Invariant.{Good}
+use Rattle.numbers.proofs.Tests.{same-or-not, or-none}
+use Rattle.numbers.proofs.Sums.{Task}
+use Rattle.numbers.proofs.Counts.{count-change}
+use Rattle.tree.proofs.Orders.{within-task}
+use Rattle.books.proofs.Entries.{at-set, at-other}
+use Rattle.books.proofs.Sharing.{sharing-good}
 use Rattle.rules.proofs.Log.{Logged, InOrder, logged-runs, ended-logged, ended-in-order, fetched-append}
 use Rattle.rules.proofs.Formed.{Accepted, demand-none}
 use Rattle.rules.proofs.InDay.{InDay, Going, closed, still-going, tree, needs-roomy, books-planned, proceed-in-day}

@@ -7,36 +7,22 @@ use Prim.Native.Nat.{ℕ, suc, _+_, _-_, _≤_, _<_}
 use native.Mathlib.Omega.{arith}
 use lib.Dec.{eqb, leb}
 use lib.ListN.{length}
-use Rattle.rules.specs.Sums.{only}
-use Rattle.rules.specs.Kind.{Kind, Each, of}
-use Rattle.rules.specs.Lists.{at, every, distinct}
-use Rattle.rules.specs.Grounds.{within}
-use Rattle.rules.specs.Standing.{waiting, activated, running, finished, count}
-use Rattle.rules.specs.Booking.{
-  Terms,
-  Books,
-  total,
-  figure,
-  childrenFigure,
-  missing,
-  misses,
-  allowsIn,
-  allows,
-  activate,
-  ready,
-  starts,
-  start,
-  free,
-}
+use Rattle.numbers.specs.Sums.{only, within}
+use Rattle.books.specs.Kind.{Kind, Each, of}
+use Rattle.numbers.specs.Lists.{at, every, distinct}
+use Rattle.books.specs.Standing.{waiting, activated, running, finished, count}
+use Rattle.rules.specs.Obey.{free}
+use Rattle.books.specs.Booking.{Terms, Books, total, childrenFigure, missing, misses, allowsIn, allows, activate, ready, starts, start}
+use Rattle.tree.specs.Tree.{figure, Valid, rankIn, Tree}
 use Rattle.rules.specs.Day.{Event, started}
-use Rattle.rules.specs.Invariant.{Valid, rankIn, Tree, FirstWaiting, Roomy, Good}
-use Rattle.rules.proofs.EachStore.{all-same}
-use Rattle.rules.proofs.Tests.{same-or-not, eqb-above}
-use Rattle.rules.proofs.Sums.{Task, sum-cong}
-use Rattle.rules.proofs.Counts.{count-cong}
-use Rattle.rules.proofs.Orders.{all-in, nobody}
-use Rattle.rules.proofs.Ahead.{Activated, activates}
-use Rattle.rules.proofs.Starts.{Startable, starts-startable, starts-length, starts-halt, start-count, start-good, start-kind}
+use Rattle.books.specs.Invariant.{FirstWaiting, Roomy, Good}
+use Rattle.books.proofs.EachStore.{all-same}
+use Rattle.numbers.proofs.Tests.{same-or-not, eqb-above}
+use Rattle.numbers.proofs.Sums.{Task, sum-cong}
+use Rattle.numbers.proofs.Counts.{count-cong}
+use Rattle.tree.proofs.Orders.{all-in, nobody}
+use Rattle.books.proofs.Ahead.{Activated, activates}
+use Rattle.books.proofs.Starts.{Startable, starts-startable, starts-length, starts-halt, start-count, start-good, start-kind}
 use Rattle.rules.proofs.Log.{Logged, InOrder, logged-same, starts-logged}
 
 -- what a task misses in a store goes by who has ended

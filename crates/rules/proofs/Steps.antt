@@ -9,15 +9,15 @@ use lib.Dec.{eqb, ltb}
 use lib.ListN.{length, take, drop}
 use lib.Seq.{take-append-seam}
 use borrow.Author.Tests.{eqb-true, eqb-false, ne-eqb, ltb-false}
-use Rattle.rules.specs.Limits.{leastStarts}
+use Rattle.numbers.specs.Limits.{leastStarts}
 use Rattle.rules.specs.State.{State}
-use Rattle.rules.specs.Command.{Command, Decoded, refused, read, decode}
+use Rattle.format.specs.Command.{Command, Decoded, refused, read, decode}
 use Rattle.rules.specs.Grounds.{ground}
 use Rattle.rules.specs.Obey.{obey}
 use Rattle.rules.specs.Answer.{Asking, Answered, refuse, front, accept, judge, respond, command}
 use Rattle.rules.specs.Day.{started, accepted, reported, events}
-use Rattle.rules.proofs.Tests.{decide}
-use Rattle.rules.proofs.Bytes.{Counts, decode-counts}
+use Rattle.numbers.proofs.Tests.{decide}
+use Rattle.format.proofs.Bytes.{Counts, decode-counts}
 use Rattle.rules.proofs.Formed.{Accepted, no-ground}
 
 -- a refusal

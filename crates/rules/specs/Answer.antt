@@ -4,11 +4,11 @@ use mathlib.Core.List.{List, _++_}
 use Prim.Native.Nat.{ℕ}
 use lib.Dec.{eqb, ltb}
 use lib.ListN.{length, drop}
-use Rattle.rules.specs.Limits.{leastStarts}
-use Rattle.rules.specs.Kind.{Each}
-use Rattle.rules.specs.Peak.{Peaked}
+use Rattle.numbers.specs.Limits.{leastStarts}
+use Rattle.books.specs.Kind.{Each}
+use Rattle.tree.specs.Peak.{Peaked}
 use Rattle.rules.specs.State.{State}
-use Rattle.rules.specs.Command.{Command, Decoded, refused, read, decode}
+use Rattle.format.specs.Command.{Command, Decoded, refused, read, decode}
 use Rattle.rules.specs.Grounds.{noPeaks, ground}
 use Rattle.rules.specs.Obey.{Outcome, obey}
 

@@ -1,12 +1,13 @@
 -- "A day. Demand 3 takes any list of commands to a plan in phase empty, each asked of any reader on any bytes (cut short or none
 -- left included), with any start list."
-use mathlib.Core.Bool.{Bool, true, false, cond, _&&_, _||_}
+use mathlib.Core.Bool.{Bool, true, false, cond, not, _&&_, _||_}
 use mathlib.Core.List.{List, [], _∷_, _++_, map}
 use Prim.Native.Nat.{ℕ}
 use lib.Dec.{eqb}
 use lib.ListN.{take}
+use Rattle.numbers.specs.Lists.{mem}
 use Rattle.rules.specs.State.{State}
-use Rattle.rules.specs.Command.{planByte, beginByte, doneByte, fetchByte, placesByte, byteOf, operandsOf, Decoded, refused, read, decode}
+use Rattle.format.specs.Command.{planByte, beginByte, doneByte, fetchByte, placesByte, byteOf, operandsOf, Decoded, refused, read, decode}
 use Rattle.rules.specs.Answer.{Asking, Answered, command}
 
 -- "Each finds the plan as the one before left it": the plan after a list of askings
@@ -25,11 +26,6 @@ accepts r = eqb (r .answer .number) 0
 
 unfoldable pub accepted : State → Asking → Bool
 accepted s a = accepts (command s a)
-
--- those of a list of askings that are accepted
-unfoldable pub acceptedOnly : State → List Asking → List Asking
-acceptedOnly s [] = []
-acceptedOnly s (a ∷ later) = cond (accepted s a) (a ∷ []) [] ++ acceptedOnly (command s a .state) later
 
 -- PLAN and BEGIN, which bound a day
 unfoldable pub isPlan : Decoded → Bool
@@ -85,6 +81,10 @@ ends (started i ∷ later) = ends later
 ends (ended i ∷ later) = i ∷ ends later
 ends (fetched ∷ later) = ends later
 ends (bounded m ∷ later) = ends later
+
+-- a task has started and not ended, by what happened
+unfoldable pub runs : List Event → ℕ → Bool
+runs happened i = mem i (starts happened) && not (mem i (ends happened))
 
 -- the trolley was fetched
 unfoldable pub isFetched : List Event → Bool

@@ -4,16 +4,18 @@ use mathlib.Core.Bool.{Bool, true, not, cond, _&&_, _||_}
 use Prim.Native.Nat.{ℕ}
 use lib.Dec.{eqb, leb, ltb}
 use lib.ListN.{length}
-use Rattle.rules.specs.Kind.{Kind, Each, each, all}
-use Rattle.rules.specs.Lists.{at, mem}
-use Rattle.rules.specs.Limits.{maxTasks, maxProcessors, maxCount, maxBound}
-use Rattle.rules.specs.Peak
-use Rattle.rules.specs.Tasks
+use Rattle.tree.specs.Tree.{roots, ordered}
+use Rattle.books.specs.Kind.{Kind, Each, each, all}
+use Rattle.numbers.specs.Sums.{within}
+use Rattle.numbers.specs.Lists.{at, mem}
+use Rattle.numbers.specs.Limits.{maxTasks, maxProcessors, maxCount, maxBound}
+use Rattle.tree.specs.Peak
+use Rattle.tree.specs.Tasks
 use Rattle.rules.specs.Phase
-use Rattle.rules.specs.Standing
+use Rattle.books.specs.Standing
 use Rattle.rules.specs.State.{Store, State, tasksIn, storeOf}
-use Rattle.rules.specs.Command.{Command, plan, task, activation, execution, begin, done, fetch, places}
-use Rattle.rules.specs.Booking.{total}
+use Rattle.format.specs.Command.{Command, plan, task, activation, execution, begin, done, fetch, places}
+use Rattle.books.specs.Booking.{total}
 
 -- "no 04 at all"
 abbrev pub noExecution : State → Bool
@@ -35,10 +37,6 @@ inTurn s begin =
 inTurn s (done i) = eqb (s .phase) Phase.running
 inTurn s fetch = eqb (s .phase) Phase.ready
 inTurn s (places bound) = eqb (s .phase) Phase.running
-
--- a number from 1 to a limit
-abbrev pub within : ℕ → ℕ → Bool
-within x limit = leb 1 x && leb x limit
 
 -- "n, p, a parent or a step number outside its limits (parent 0 is allowed, step 0 is not)"; the operands' bytes keep work, out and
 -- M in theirs
@@ -86,8 +84,8 @@ ownGround s (execution i) = demand (not (mem i (s .execution))) 5 0
 -- 7 "the steps with parent 0 are not exactly one"; 8 "some step does not stand before its parent in the activation order";
 -- 9 "the peak is above M"
 ownGround s begin =
-    demand (eqb (Peak.roots (s .size) (at (s .parents))) 1) 7
-    (demand (Peak.ordered (at (s .parents)) (s .activation)) 8 (demand (all (fitsIn s)) 9 0))
+    demand (eqb (roots (s .size) (at (s .parents))) 1) 7
+    (demand (ordered (at (s .parents)) (s .activation)) 8 (demand (all (fitsIn s)) 9 0))
 -- 6 "DONE for a step that isn't running"
 ownGround s (done i) = demand (eqb (at (s .standings) i) Standing.running) 6 0
 ownGround s fetch = 0

@@ -1,18 +1,18 @@
 -- What an accepted command does to the plan.
 use mathlib.Core.Bool.{cond}
 use mathlib.Core.List.{List, [], _∷_, _++_}
-use Prim.Native.Nat.{ℕ, suc}
+use Prim.Native.Nat.{ℕ, suc, _-_}
 use lib.Dec.{eqb}
 use lib.ListN.{length, set, replicate}
-use Rattle.rules.specs.Kind.{Kind, chilled, Each, of, each, put}
-use Rattle.rules.specs.Lists.{at}
-use Rattle.rules.specs.Peak.{Peaked}
+use Rattle.books.specs.Kind.{Kind, chilled, Each, of, each, put}
+use Rattle.numbers.specs.Lists.{at}
+use Rattle.tree.specs.Peak.{Peaked}
 use Rattle.rules.specs.Phase
-use Rattle.rules.specs.Standing
+use Rattle.books.specs.Standing
 use Rattle.rules.specs.State.{Store, State, rootOf, needsIn, storeOf}
-use Rattle.rules.specs.Command.{Command, plan, task, activation, execution, begin, done, fetch, places}
+use Rattle.format.specs.Command.{Command, plan, task, activation, execution, begin, done, fetch, places}
 use Rattle.rules.specs.Grounds.{noExecution, peaksOf, noPeaks}
-use Rattle.rules.specs.Booking.{Terms, Books, Climbed, activate, starts, start, free, dispatch}
+use Rattle.books.specs.Booking.{Terms, Books, Climbed, activate, starts, start, dispatch}
 
 -- what an accepted command leaves: the plan, the tasks that it starts, in order, the peaks with their tasks (BEGIN only) and the offers
 -- (DONE only)
@@ -140,6 +140,10 @@ termsOf s k = termsBy s (storeOf s k)
 -- what booking ahead makes of the books
 unfoldable pub ahead : State → Books → Books
 ahead s = activate (s .size) (at (s .parents)) (termsOf s) (s .activation)
+
+-- stations that run no task
+unfoldable pub free : (n processors : ℕ) → List ℕ → ℕ
+free n processors st = processors - Standing.count n (at st) Standing.running
 
 -- the tasks that start then, in order
 unfoldable pub begun : State → Books → List ℕ

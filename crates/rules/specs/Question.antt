@@ -3,14 +3,14 @@ use mathlib.Core.Bool.{Bool, false, cond, _||_}
 use mathlib.Core.List.{List, [], _∷_}
 use Prim.Native.Nat.{ℕ, _*_, _/_}
 use lib.Dec.{eqb, leb}
-use Rattle.rules.specs.Kind.{Kind, chilled}
-use Rattle.rules.specs.Lists.{at}
-use Rattle.rules.specs.Sums.{only}
+use Rattle.books.specs.Kind.{Kind, chilled}
+use Rattle.numbers.specs.Lists.{at}
+use Rattle.numbers.specs.Sums.{only}
 use Rattle.rules.specs.Phase
-use Rattle.rules.specs.Standing
-use Rattle.rules.specs.Tasks
+use Rattle.books.specs.Standing
+use Rattle.tree.specs.Tasks
 use Rattle.rules.specs.State.{State, storeOf, tasksIn}
-use Rattle.rules.specs.Booking.{total}
+use Rattle.books.specs.Booking.{total}
 
 -- the plan is in the running phase
 unfoldable pub isRunning : State → Bool

@@ -2,7 +2,7 @@
 use mathlib.Core.List.{List}
 use Prim.Native.Nat.{ℕ}
 use Rattle.rules.specs.State.{State, none}
-use Rattle.rules.specs.Command.{Decoded}
+use Rattle.format.specs.Command.{Decoded}
 use Rattle.rules.specs.Answer.{respond}
 
 pub data Reachable : State → Type 0 where

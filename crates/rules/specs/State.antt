@@ -1,11 +1,13 @@
 -- A plan and its day, as the commands have left them.
+use mathlib.Core.Path.{_≡_}
+use mathlib.Core.Bool.{true}
 use mathlib.Core.List.{List, []}
 use Prim.Native.Nat.{ℕ}
-use Rattle.rules.specs.Kind.{Kind, Each, of, each}
-use Rattle.rules.specs.Lists.{at}
-use Rattle.rules.specs.Peak.{root}
+use Rattle.books.specs.Kind.{Kind, Each, of, each}
+use Rattle.numbers.specs.Lists.{at}
+use Rattle.tree.specs.Tree.{EachOnce, root, ordered}
 use Rattle.rules.specs.Phase
-use Rattle.rules.specs.Tasks
+use Rattle.tree.specs.Tasks
 
 -- one store: its places and, for each task, its counts there
 pub record Store : Type 0 where
@@ -64,3 +66,9 @@ storeOf s k = of (s .stores) k
 -- the needs in the cold room
 abbrev pub needs : State → ℕ → ℕ
 needs s = needsIn s (s .stores .chilled)
+
+-- "There are two orders, each holding every step once. In the activation order each step stands before its parent."
+pub record OrdersHold (s : State) : Type 0 where
+  pub activation : EachOnce (s .size) (s .activation)
+  pub execution : EachOnce (s .size) (s .execution)
+  pub upward : ordered (at (s .parents)) (s .activation) ≡ true

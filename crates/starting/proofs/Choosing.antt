@@ -8,10 +8,10 @@ use native.Mathlib.Omega.{arith}
 use lib.Dec.{ltb}
 use lib.ListN.{length}
 use borrow.Author.Tests.{lt-ltb, ltb-true, ltb-false}
-use Rattle.rules.specs.Lists.{at, first}
-use Rattle.rules.specs.Booking.{ready}
-use Rattle.rules.proofs.Tests.{decide, and-true}
-use Rattle.rules.proofs.Branches.{first-later, first-at}
+use Rattle.numbers.specs.Lists.{at, first}
+use Rattle.books.specs.Booking.{ready}
+use Rattle.numbers.proofs.Tests.{decide, and-true}
+use Rattle.books.proofs.Branches.{first-later, first-at}
 use Rattle.words.specs.Layout.{entries}
 use Rattle.words.specs.Contents.{Contents}
 use Rattle.words.specs.Digits.{firstIn}

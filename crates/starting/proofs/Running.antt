@@ -8,23 +8,24 @@ use native.Mathlib.Omega.{arith}
 use lib.Dec.{eqb}
 use lib.ListN.{length, set, length-set}
 use borrow.Author.Tests.{eqb-true, eq-eqb, ne-eqb}
-use Rattle.rules.specs.Kind.{Kind, of, each}
-use Rattle.rules.specs.Kind
-use Rattle.rules.specs.Sums.{Task}
-use Rattle.rules.specs.Lists.{at}
-use Rattle.rules.specs.Limits.{maxTasks}
-use Rattle.rules.specs.Need.{need}
-use Rattle.rules.specs.Standing.{waiting, activated, running, finished, count}
-use Rattle.rules.specs.Booking.{Terms, bookedIn, ready, fed, start}
-use Rattle.rules.specs.Invariant.{Balanced, rankIn, Good}
-use Rattle.rules.proofs.EachStore.{of-each}
-use Rattle.rules.proofs.Sums.{count-le}
-use Rattle.rules.proofs.Counts.{count-cong}
-use Rattle.rules.proofs.Shape.{Moved}
-use Rattle.rules.proofs.Ranks.{tree-of}
-use Rattle.rules.proofs.Entries.{at-other, moved-by-set}
-use Rattle.rules.proofs.Starts.{Startable, fed-children, ready-parts, start-count, start-good, start-kind}
-use Rattle.rules.proofs.Usage.{in-process-within}
+use Rattle.books.specs.Kind.{Kind, of, each}
+use Rattle.books.specs.Kind
+use Rattle.numbers.specs.Sums.{Task}
+use Rattle.numbers.specs.Lists.{at}
+use Rattle.numbers.specs.Limits.{maxTasks}
+use Rattle.tree.specs.Need.{need}
+use Rattle.books.specs.Standing.{waiting, activated, running, finished, count}
+use Rattle.books.specs.Booking.{Terms, bookedIn, ready, fed, start}
+use Rattle.books.specs.Invariant.{Balanced, Good}
+use Rattle.tree.specs.Tree.{rankIn}
+use Rattle.books.proofs.EachStore.{of-each}
+use Rattle.numbers.proofs.Sums.{count-le}
+use Rattle.numbers.proofs.Counts.{count-cong}
+use Rattle.books.proofs.Shape.{Moved}
+use Rattle.tree.proofs.Ranks.{tree-of}
+use Rattle.books.proofs.Entries.{at-other, moved-by-set}
+use Rattle.books.proofs.Starts.{Startable, fed-children, ready-parts, start-count, start-good, start-kind}
+use Rattle.books.proofs.Usage.{in-process-within}
 use Rattle.words.specs.Layout.{row, rows, words, standing, chilled}
 use Rattle.words.specs.Contents.{StoreContents, Contents, contents, withCell, storeWithCell, withHead, storeWithHead, withReady}
 use Rattle.words.specs.Marks.{Marks, changed, Changed}

@@ -5,12 +5,12 @@ use Prim.Native.Nat.{ℕ, zero, suc, _+_, _-_, _≤_, _<_}
 use native.Mathlib.Omega.{arith}
 use lib.ListN.{length, take, set, length-append, length-drop}
 use lib.Seq.{append-snoc}
-use Rattle.rules.specs.Lists.{at, first}
-use Rattle.rules.specs.Limits.{maxProcessors, leastStarts}
-use Rattle.rules.specs.Standing.{running}
-use Rattle.rules.specs.Booking.{Books, ready, starts, start}
+use Rattle.numbers.specs.Lists.{at, first}
+use Rattle.numbers.specs.Limits.{maxProcessors, leastStarts}
+use Rattle.books.specs.Standing.{running}
+use Rattle.books.specs.Booking.{Books, ready, starts, start}
 use Rattle.rules.specs.Answer.{front}
-use Rattle.rules.proofs.Branches.{starts-none, starts-one}
+use Rattle.books.proofs.Branches.{starts-none, starts-one}
 use Rattle.words.specs.Contents.{Contents}
 use Rattle.words.specs.Marks.{Marked, FirstMarked}
 use Rattle.store.specs.Rows.{books, executionOf}

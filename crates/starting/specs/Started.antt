@@ -4,10 +4,10 @@ use mathlib.Core.Bool.{true}
 use mathlib.Core.List.{List}
 use Prim.Native.Nat.{ℕ, _+_, _-_, _≤_}
 use lib.ListN.{length, set}
-use Rattle.rules.specs.Lists.{at}
-use Rattle.rules.specs.Limits.{maxProcessors, leastStarts}
-use Rattle.rules.specs.Standing.{running}
-use Rattle.rules.specs.Booking.{starts, start}
+use Rattle.numbers.specs.Lists.{at}
+use Rattle.numbers.specs.Limits.{maxProcessors, leastStarts}
+use Rattle.books.specs.Standing.{running}
+use Rattle.books.specs.Booking.{starts, start}
 use Rattle.rules.specs.Answer.{front}
 use Rattle.words.specs.Contents.{Contents}
 use Rattle.store.specs.Rows.{books, executionOf}

@@ -11,13 +11,13 @@ use lib.Dec.{eqb}
 use lib.ListN.{length}
 use Rattle.rules.specs.State.{State}
 use Rattle.rules.specs.Answer.{Asking}
-use Rattle.rules.specs.Text.{longestLine}
-use Rattle.rules.specs.Printer as rules
+use Rattle.texts.specs.Text.{longestLine}
+use Rattle.texts.specs.Printer as rules
 use Rattle.rules.specs.Reachable.{Reachable}
-use Rattle.rules.specs.Printer.{goesOn, waits, stops, Turn, idle, turn, behind, turns, step}
-use Rattle.rules.proofs.Tests.{decide, le-or-lt}
-use Rattle.rules.proofs.Stepped.{Way, waiting, stopping, going-on, turn-kept, no-room, last-turn, next-turn}
-use Rattle.rules.proofs.Printed.{going}
+use Rattle.texts.specs.Printer.{goesOn, waits, stops, Turn, idle, turn, behind, turns, step}
+use Rattle.numbers.proofs.Tests.{decide, le-or-lt}
+use Rattle.texts.proofs.Stepped.{Way, waiting, stopping, going-on, turn-kept, no-room, last-turn, next-turn}
+use Rattle.texts.proofs.Printed.{going}
 use Rattle.printing.proofs.Within.{turned, few-left, not-ended}
 
 -- turns t from a place of the bytes at hand on

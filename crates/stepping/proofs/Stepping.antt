@@ -8,11 +8,11 @@ use lib.ListN.{length, take, drop, length-append, length-drop, drop-of-length-le
 use lib.Seq.{take-all, take-at, drop-at, drop-drop}
 use Rattle.rules.specs.State.{State}
 use Rattle.rules.specs.Answer.{Asking}
-use Rattle.rules.specs.Text.{longestLine}
-use Rattle.rules.specs.Printer as rules
-use Rattle.rules.specs.Printer.{goesOn, Turn, idle, turn, behind, turns, moved, step}
-use Rattle.rules.proofs.Stepped.{turn-kept, no-room, last-turn, next-turn}
-use Rattle.rules.proofs.Printed.{going}
+use Rattle.texts.specs.Text.{longestLine}
+use Rattle.texts.specs.Printer as rules
+use Rattle.texts.specs.Printer.{goesOn, Turn, idle, turn, behind, turns, moved, step}
+use Rattle.texts.proofs.Stepped.{turn-kept, no-room, last-turn, next-turn}
+use Rattle.texts.proofs.Printed.{going}
 use Rattle.answer.specs.Meaning.{planOf}
 use Rattle.answer.specs.ValidPlan.{ValidPlan}
 use Rattle.put.specs.Written.{over, Written}

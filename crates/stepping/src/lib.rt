@@ -5,7 +5,7 @@ use printing::Turned;
 use printing::turn;
 use words::plan::Plan;
 ghost use lib.ListN.{length, take};
-ghost use Rattle.rules.specs.Printer as rules;
+ghost use Rattle.texts.specs.Printer as rules;
 ghost use Rattle.answer.specs.Meaning.{planOf};
 ghost use Rattle.answer.specs.ValidPlan.{ValidPlan};
 ghost use Rattle.position.specs.Standing.{positionOf, Stands};

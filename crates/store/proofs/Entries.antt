@@ -9,10 +9,10 @@ use lib.Dec.{eqb}
 use lib.ListN.{length, set, length-set}
 use lib.Seq.{getD-set-same, getD-set-other}
 use borrow.Author.Tests.{eq-eqb, ne-eqb}
-use Rattle.rules.specs.Sums.{only}
-use Rattle.rules.specs.Lists.{at}
-use Rattle.rules.proofs.Tests.{decide, same-or-not}
-use Rattle.rules.proofs.Sums.{only-true, only-false}
+use Rattle.numbers.specs.Sums.{only}
+use Rattle.numbers.specs.Lists.{at}
+use Rattle.numbers.proofs.Tests.{decide, same-or-not}
+use Rattle.numbers.proofs.Sums.{only-true, only-false}
 use Rattle.store.specs.Rows.{ZeroPast}
 use Rattle.store.specs.Store.{grown, fewer}
 use Rattle.store.proofs.Rows.{zero-set}

@@ -6,16 +6,16 @@ use Prim.Native.Nat.{ℕ, _+_, _-_, _≤_}
 use native.Mathlib.Omega.{arith}
 use lib.Dec.{eqb}
 use borrow.Author.Tests.{eqb-true, eqb-false, eq-eqb, ne-eqb, not-true}
-use Rattle.rules.specs.Sums.{Task, only}
-use Rattle.rules.specs.Standing.{waiting, activated, running, finished}
-use Rattle.rules.specs.Booking.{figure, total}
-use Rattle.rules.specs.Need.{children}
-use Rattle.rules.specs.Invariant.{Tree, up, Shape}
-use Rattle.rules.proofs.Tests.{decide, clash, fails, same-or-not, or-cases}
-use Rattle.rules.proofs.Sums.{sum-cong, sum-le, only-le, only-and, only-cong, only-add, only-true, only-false, only-zero}
-use Rattle.rules.proofs.Children.{children-le, children-cong, children-change, children-zero, figure-children}
-use Rattle.rules.proofs.Tree.{up-self, up-step, up-rank, up-nobody, parent-task, not-above-itself, figure-change}
-use Rattle.rules.proofs.Shape.{Moved}
+use Rattle.numbers.specs.Sums.{Task, only}
+use Rattle.books.specs.Standing.{waiting, activated, running, finished}
+use Rattle.tree.specs.Tree.{figure, children, Tree, up}
+use Rattle.books.specs.Booking.{total}
+use Rattle.books.specs.Invariant.{Shape}
+use Rattle.numbers.proofs.Tests.{decide, clash, fails, same-or-not, or-cases}
+use Rattle.numbers.proofs.Sums.{sum-cong, sum-le, only-le, only-and, only-cong, only-add, only-true, only-false, only-zero}
+use Rattle.tree.proofs.Children.{children-le, children-cong, children-change, children-zero, figure-children}
+use Rattle.tree.proofs.Tree.{up-self, up-step, up-rank, up-nobody, parent-task, not-above-itself, figure-change}
+use Rattle.books.proofs.Shape.{Moved}
 use Rattle.store.specs.Cached.{partialFigure, partialFigureWith}
 
 -- what a child that does not wait counts for

@@ -6,12 +6,12 @@ use Prim.Native.Nat.{ℕ, _+_, _≤_, _<_}
 use native.Mathlib.Omega.{arith}
 use lib.Dec.{eqb, leb}
 use borrow.Author.Tests.{ne-eqb, lt-leb}
-use Rattle.rules.specs.Sums.{Task, only, countTo}
-use Rattle.rules.specs.Need.{need, inProcess}
-use Rattle.rules.specs.Standing.{activated, running, finished, count}
-use Rattle.rules.proofs.Sums.{sum-cong}
-use Rattle.rules.proofs.Peaks.{resident-cong}
-use Rattle.rules.proofs.Usage.{hasEnded, hasBegun}
+use Rattle.numbers.specs.Sums.{Task, only, countTo}
+use Rattle.tree.specs.Need.{need, inProcess}
+use Rattle.books.specs.Standing.{activated, running, finished, count}
+use Rattle.numbers.proofs.Sums.{sum-cong}
+use Rattle.tree.proofs.Peaks.{resident-cong}
+use Rattle.books.proofs.Usage.{hasEnded, hasBegun}
 use Rattle.store.specs.Cached.{inProcessBy}
 
 abbrev pub Idle : (n : ℕ) (st st′ : ℕ → ℕ) → Type 0

@@ -2,11 +2,11 @@
 use mathlib.Core.Path.{_≡_}
 use Prim.Native.Nat.{_≤_}
 use native.Mathlib.Omega.{arith}
-use Rattle.rules.specs.Kind.{Kind, chilled, of}
-use Rattle.rules.specs.Lists.{at}
-use Rattle.rules.specs.Booking.{bookedIn}
-use Rattle.rules.specs.Invariant.{StockedBy}
-use Rattle.rules.proofs.EachStore.{of-each}
+use Rattle.books.specs.Kind.{Kind, chilled, of}
+use Rattle.numbers.specs.Lists.{at}
+use Rattle.books.specs.Booking.{bookedIn}
+use Rattle.books.specs.Invariant.{StockedBy}
+use Rattle.books.proofs.EachStore.{of-each}
 use Rattle.words.specs.Contents.{Contents}
 use Rattle.store.specs.Rows.{rowsOf, books, termsIn}
 use Rattle.store.specs.Cached.{StoreCached}

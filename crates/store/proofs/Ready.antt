@@ -7,13 +7,12 @@ use Prim.Native.Nat.{ℕ, _≤_, _<_}
 use native.Mathlib.Omega.{arith}
 use lib.Dec.{ltb}
 use borrow.Author.Tests.{eq-eqb, ne-eqb, lt-ltb, le-ltb}
-use Rattle.rules.specs.Sums.{Task}
-use Rattle.rules.specs.Lists.{at}
-use Rattle.rules.specs.Grounds.{within}
-use Rattle.rules.specs.Booking.{ready}
-use Rattle.rules.specs.Invariant.{rankIn}
-use Rattle.rules.proofs.Tests.{same-or-not, le-or-lt}
-use Rattle.rules.proofs.Orders.{within-task, every-mem, mem-at, all-in, place-lt, place-at}
+use Rattle.numbers.specs.Sums.{Task, within}
+use Rattle.numbers.specs.Lists.{at}
+use Rattle.books.specs.Booking.{ready}
+use Rattle.tree.specs.Tree.{rankIn}
+use Rattle.numbers.proofs.Tests.{same-or-not, le-or-lt}
+use Rattle.tree.proofs.Orders.{within-task, every-mem, mem-at, all-in, place-lt, place-at}
 use Rattle.words.specs.Marks.{changed}
 use Rattle.store.specs.Cached.{isReadyAt, Placed}
 

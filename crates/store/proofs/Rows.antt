@@ -6,10 +6,10 @@ use Prim.Native.Nat.{ℕ, suc, _≤_, _<_}
 use native.Mathlib.Omega.{arith}
 use lib.ListN.{length, set, length-take, List·getD-eq-default}
 use lib.Seq.{getD-take, getD-set-other, take-set-lt, length-take-le}
-use Rattle.rules.specs.Lists.{at}
-use Rattle.rules.specs.Booking.{figure}
-use Rattle.rules.proofs.Tree.{figure-cong}
-use Rattle.rules.proofs.Tests.{le-or-lt}
+use Rattle.numbers.specs.Lists.{at}
+use Rattle.tree.specs.Tree.{figure}
+use Rattle.tree.proofs.Tree.{figure-cong}
+use Rattle.numbers.proofs.Tests.{le-or-lt}
 use Rattle.store.specs.Rows.{rowsOf, ZeroPast}
 
 pub at-rows : (n : ℕ) (l : List ℕ) (i : ℕ) → i ≤ n → at (rowsOf n l) i ≡ at l i

@@ -1,6 +1,6 @@
 -- What one part of a command leaves of a plan, several do.
 use mathlib.Core.Path.{_≡_, refl, fun-ext, _∙_}
-use Rattle.rules.specs.Lists.{at}
+use Rattle.numbers.specs.Lists.{at}
 use Rattle.words.specs.Contents.{Contents}
 use Rattle.store.specs.Rows.{termsIn}
 use Rattle.store.specs.Kept.{SamePlan}

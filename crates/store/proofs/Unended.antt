@@ -4,14 +4,14 @@ use mathlib.Core.Bool.{Bool, true, false, not, _&&_}
 use mathlib.Core.List.{List}
 use Prim.Native.Nat.{ℕ, _+_}
 use lib.Dec.{eqb}
-use Rattle.rules.specs.Sums.{Task, only, countTo}
-use Rattle.rules.specs.Lists.{at}
-use Rattle.rules.specs.Standing.{activated, finished}
-use Rattle.rules.specs.Booking.{ready, fed}
+use Rattle.numbers.specs.Sums.{Task, only, countTo}
+use Rattle.numbers.specs.Lists.{at}
+use Rattle.books.specs.Standing.{activated, finished}
+use Rattle.books.specs.Booking.{ready, fed}
 use native.Mathlib.Omega.{arith}
 use borrow.Author.Tests.{eq-eqb, ne-eqb}
-use Rattle.rules.proofs.Sums.{sum-cong, sum-change, only-and, only-zero}
-use Rattle.rules.proofs.Shape.{Moved}
+use Rattle.numbers.proofs.Sums.{sum-cong, sum-change, only-and, only-zero}
+use Rattle.books.proofs.Shape.{Moved}
 use Rattle.store.specs.Cached.{unendedChildren}
 
 -- the children that have not ended are the same where the same tasks have ended

@@ -6,14 +6,15 @@ use Prim.Native.Nat.{ℕ, _+_, _≤_}
 use native.Mathlib.Omega.{arith}
 use lib.Dec.{eqb, leb}
 use borrow.Author.Tests.{eq-eqb, ne-eqb, le-leb, lt-leb}
-use Rattle.rules.specs.Sums.{Task, only, sumTo}
-use Rattle.rules.specs.Need.{need, inProcess, children}
-use Rattle.rules.specs.Standing.{activated, running, finished}
-use Rattle.rules.proofs.Tests.{same-or-not, eqb-sym}
-use Rattle.rules.proofs.Sums.{sum-cong, term-le, sum-add, sum-change, sum-single, only-true, only-false, only-add, only-zero}
-use Rattle.rules.proofs.Children.{children-cong, children-change, resident-by-parent}
-use Rattle.rules.proofs.Shape.{Moved}
-use Rattle.rules.proofs.Usage.{hasEnded, hasBegun}
+use Rattle.numbers.specs.Sums.{Task, only, sumTo}
+use Rattle.tree.specs.Need.{need, inProcess}
+use Rattle.tree.specs.Tree.{children}
+use Rattle.books.specs.Standing.{activated, running, finished}
+use Rattle.numbers.proofs.Tests.{same-or-not, eqb-sym}
+use Rattle.numbers.proofs.Sums.{sum-cong, term-le, sum-add, sum-change, sum-single, only-true, only-false, only-add, only-zero}
+use Rattle.tree.proofs.Children.{children-cong, children-change, resident-by-parent}
+use Rattle.books.proofs.Shape.{Moved}
+use Rattle.books.proofs.Usage.{hasEnded, hasBegun}
 use Rattle.store.specs.Cached.{inProcessBy}
 
 -- what is in use on account of task i: its need while it runs, or the outs of its ended children until it starts

@@ -6,10 +6,10 @@ use Prim.Native.Nat.{ℕ, _+_, _*_, _<_}
 use native.Mathlib.Omega.{arith}
 use lib.Dec.{eqb}
 use lib.ListN.{length, set, length-set}
-use Rattle.rules.specs.Kind.{Kind, of}
-use Rattle.rules.specs.Kind
-use Rattle.rules.specs.Lists.{at}
-use Rattle.rules.proofs.EachStore.{of-each}
+use Rattle.books.specs.Kind.{Kind, of}
+use Rattle.books.specs.Kind
+use Rattle.numbers.specs.Lists.{at}
+use Rattle.books.proofs.EachStore.{of-each}
 use Rattle.words.specs.Layout.{row, rows, words, offset, kindAt}
 use Rattle.words.specs.Views.{column}
 use Rattle.words.specs.Contents.{StoreContents, Contents, headWord, storeContents, contents, storeWithCell, withCell, storeWithHead, withHead}

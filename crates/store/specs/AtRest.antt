@@ -1,8 +1,8 @@
 -- A plan on whose day nothing has happened: all that a day keeps is 0.
 use mathlib.Core.Path.{_≡_}
 use Prim.Native.Nat.{ℕ}
-use Rattle.rules.specs.Kind.{Kind, of}
-use Rattle.rules.specs.Lists.{at}
+use Rattle.books.specs.Kind.{Kind, of}
+use Rattle.numbers.specs.Lists.{at}
 use Rattle.words.specs.Contents.{Contents}
 
 pub record AtRest (c : Contents) : Type 0 where

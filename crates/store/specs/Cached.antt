@@ -6,13 +6,13 @@ use mathlib.Core.List.{List}
 use Prim.Native.Nat.{ℕ, _+_, _≤_, _<_}
 use lib.Dec.{eqb, leb, ltb}
 use lib.ListN.{length}
-use Rattle.rules.specs.Sums.{Task, only, sumTo, countTo}
-use Rattle.rules.specs.Kind.{Kind, of}
-use Rattle.rules.specs.Lists.{at, mem, every, distinct}
-use Rattle.rules.specs.Need.{need, inProcess}
-use Rattle.rules.specs.Grounds.{within}
-use Rattle.rules.specs.Standing.{waiting, running, finished, count}
-use Rattle.rules.specs.Booking.{Books, bookedIn, chain, figure, total, isUnendedChild, ready}
+use Rattle.numbers.specs.Sums.{Task, only, sumTo, countTo, within}
+use Rattle.books.specs.Kind.{Kind, of}
+use Rattle.numbers.specs.Lists.{at, mem, every, distinct}
+use Rattle.tree.specs.Need.{need, inProcess}
+use Rattle.books.specs.Standing.{waiting, running, finished, count}
+use Rattle.books.specs.Booking.{Books, bookedIn, total, isUnendedChild, ready}
+use Rattle.tree.specs.Tree.{chain, figure}
 use Rattle.words.specs.Layout.{words}
 use Rattle.words.specs.Contents.{StoreContents, Contents}
 use Rattle.words.specs.Marks.{Marks}

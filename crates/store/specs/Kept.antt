@@ -2,11 +2,12 @@
 use mathlib.Core.Path.{_≡_}
 use mathlib.Core.List.{List}
 use Prim.Native.Nat.{ℕ, _^_, _≤_, _<_}
-use Rattle.rules.specs.Kind.{Kind, of}
-use Rattle.rules.specs.Lists.{at}
-use Rattle.rules.specs.Limits.{maxTasks}
-use Rattle.rules.specs.Booking.{Terms, Books}
-use Rattle.rules.specs.Invariant.{Valid, rankIn, Roomy, Good}
+use Rattle.books.specs.Kind.{Kind, of}
+use Rattle.numbers.specs.Lists.{at}
+use Rattle.numbers.specs.Limits.{maxTasks}
+use Rattle.books.specs.Booking.{Terms, Books}
+use Rattle.tree.specs.Tree.{Valid, rankIn}
+use Rattle.books.specs.Invariant.{Roomy, Good}
 use Rattle.words.specs.Contents.{Contents}
 use Rattle.store.specs.Rows.{books, termsIn, activationOf}
 use Rattle.store.specs.Cached.{Cached}

@@ -3,10 +3,10 @@ use mathlib.Core.Path.{_≡_}
 use mathlib.Core.List.{List}
 use Prim.Native.Nat.{ℕ, suc, _<_}
 use lib.ListN.{take}
-use Rattle.rules.specs.Kind.{Kind, of, each}
-use Rattle.rules.specs.Lists.{at}
-use Rattle.rules.specs.Tasks.{Tasks}
-use Rattle.rules.specs.Booking.{Terms, Books}
+use Rattle.books.specs.Kind.{Kind, of, each}
+use Rattle.numbers.specs.Lists.{at}
+use Rattle.tree.specs.Tasks.{Tasks}
+use Rattle.books.specs.Booking.{Terms, Books}
 use Rattle.words.specs.Contents.{Contents}
 
 -- the entries of the tasks of a plan of n, with the one of nobody, at the front of a column

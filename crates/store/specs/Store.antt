@@ -5,8 +5,8 @@ use mathlib.Core.List.{List}
 use Prim.Native.Nat.{ℕ, _+_, _-_, _*_, _^_, _≤_, _<_}
 use lib.Dec.{eqb}
 use lib.ListN.{set}
-use Rattle.rules.specs.Kind.{Kind, of, put}
-use Rattle.rules.specs.Lists.{at}
+use Rattle.books.specs.Kind.{Kind, of, put}
+use Rattle.numbers.specs.Lists.{at}
 use Rattle.words.specs.Layout.{words, row, rows, offset, kindAt}
 use Rattle.words.specs.Contents.{StoreContents, Contents}
 

@@ -2,7 +2,7 @@
 ghost use mathlib.Core.Path.{_≡_};
 ghost use Prim.Native.Nat.{_+_, _-_, _^_, _≤_, _<_};
 ghost use lib.Dec.{leb};
-ghost use Rattle.rules.specs.Lists.{at};
+ghost use Rattle.numbers.specs.Lists.{at};
 ghost use Rattle.words.specs.Layout.{words};
 ghost use Rattle.words.specs.Contents.{contents};
 ghost use Rattle.store.specs.Store as stores;

@@ -4,7 +4,7 @@ use mathlib.Core.List.{List}
 use Prim.Native.Nat.{ℕ, _+_, _*_, _<_}
 use native.Mathlib.Omega.{arith}
 use lib.ListN.{length, set, length-set}
-use Rattle.rules.specs.Lists.{at}
+use Rattle.numbers.specs.Lists.{at}
 use Rattle.words.specs.Layout.{row, rows, words}
 use Rattle.words.specs.Contents.{Contents, contents, storeContents, storeWithCell, withCell}
 use Rattle.words.proofs.Views.{column-at}

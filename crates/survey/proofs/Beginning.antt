@@ -8,15 +8,16 @@ use lib.Dec.{eqb}
 use lib.ListN.{length, replicate, length-replicate, getD-replicate}
 use lib.Seq.{ext-getD}
 use borrow.Author.Tests.{eq-eqb, ne-eqb}
-use Rattle.rules.specs.Kind.{Kind, chilled, Each, of}
-use Rattle.rules.specs.Lists.{at}
-use Rattle.rules.specs.Need.{need}
-use Rattle.rules.specs.Standing.{running, finished}
-use Rattle.rules.specs.Booking.{bookedIn}
+use Rattle.books.specs.Kind.{Kind, chilled, Each, of}
+use Rattle.numbers.specs.Lists.{at}
+use Rattle.tree.specs.Need.{need}
+use Rattle.books.specs.Standing.{running, finished}
+use Rattle.books.specs.Booking.{bookedIn}
 use Rattle.rules.specs.Obey.{fresh}
-use Rattle.rules.specs.Invariant.{rankIn, Roomy}
-use Rattle.rules.proofs.EachStore.{each-same}
-use Rattle.rules.proofs.Sums.{count-none}
+use Rattle.tree.specs.Tree.{rankIn}
+use Rattle.books.specs.Invariant.{Roomy}
+use Rattle.books.proofs.EachStore.{each-same}
+use Rattle.numbers.proofs.Sums.{count-none}
 use Rattle.rules.proofs.InDay.{fresh-good}
 use Rattle.words.specs.Layout.{rows, bits, blocks}
 use Rattle.words.specs.Contents.{Contents}

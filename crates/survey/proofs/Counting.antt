@@ -3,8 +3,8 @@ use mathlib.Core.Path.{_≡_, refl}
 use mathlib.Core.Bool.{Bool, true, false}
 use Prim.Native.Nat.{ℕ, _+_, _≤_, _<_}
 use native.Mathlib.Omega.{arith}
-use Rattle.rules.specs.Sums.{countTo, sumTo}
-use Rattle.rules.proofs.Counts.{count-yes, count-no}
+use Rattle.numbers.specs.Sums.{countTo, sumTo}
+use Rattle.numbers.proofs.Counts.{count-yes, count-no}
 
 -- of the first i tasks of n, so many pass the test
 pub record CountedTo (test : ℕ → Bool) (n i found : ℕ) : Type 0 where

@@ -6,11 +6,11 @@ use native.Mathlib.Omega.{arith}
 use native.Mathlib.Numerals.{add-one}
 use lib.Dec.{eqb}
 use lib.ListN.{length, set, replicate, length-set, length-replicate, getD-replicate}
-use Rattle.rules.specs.Sums.{only, sumTo}
-use Rattle.rules.specs.Lists.{at}
-use Rattle.rules.specs.Limits.{maxTasks}
-use Rattle.rules.specs.Need.{children}
-use Rattle.rules.proofs.Sums.{only-le}
+use Rattle.numbers.specs.Sums.{only, sumTo}
+use Rattle.numbers.specs.Lists.{at}
+use Rattle.numbers.specs.Limits.{maxTasks}
+use Rattle.tree.specs.Tree.{children}
+use Rattle.numbers.proofs.Sums.{only-le}
 use Rattle.words.specs.Layout.{rows}
 use Rattle.store.proofs.Entries.{set-more}
 use Rattle.survey.specs.Level.{Fed}

@@ -6,14 +6,13 @@ use Prim.Native.Nat.{ℕ, _≤_, _<_}
 use native.Mathlib.Omega.{arith}
 use lib.Dec.{eqb, leb}
 use borrow.Author.Tests.{eq-eqb, eqb-true, eqb-false, leb-true, leb-false, ne-eqb, not-true}
-use Rattle.rules.specs.Sums.{Task, countTo}
-use Rattle.rules.specs.Lists.{mem, place}
-use Rattle.rules.specs.Grounds.{within, demand}
-use Rattle.rules.specs.Peak.{roots, ordered}
-use Rattle.rules.specs.Invariant.{Valid}
-use Rattle.rules.proofs.Tests.{fails, and-true}
-use Rattle.rules.proofs.Sums.{none-counted, counted, count-le}
-use Rattle.rules.proofs.Orders.{place-lt, place-at, within-task, every-mem, all-in, ordered-rises, rises-ordered}
+use Rattle.numbers.specs.Sums.{Task, countTo, within}
+use Rattle.numbers.specs.Lists.{mem, place}
+use Rattle.rules.specs.Grounds.{demand}
+use Rattle.tree.specs.Tree.{roots, ordered, Valid}
+use Rattle.numbers.proofs.Tests.{fails, and-true}
+use Rattle.numbers.proofs.Sums.{none-counted, counted, count-le}
+use Rattle.tree.proofs.Orders.{place-lt, place-at, within-task, every-mem, all-in, ordered-rises, rises-ordered}
 use Rattle.rules.proofs.Formed.{demand-none}
 use Rattle.store.specs.Cached.{Placed}
 use Rattle.survey.specs.Checks.{Parented, isLate}

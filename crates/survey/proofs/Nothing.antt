@@ -6,14 +6,15 @@ use Prim.Native.Nat.{ℕ, zero, suc}
 use native.Mathlib.Omega.{arith}
 use lib.Dec.{eqb, leb, ltb}
 use borrow.Author.Tests.{eq-eqb, ne-eqb, lt-leb}
-use Rattle.rules.specs.Sums.{only, countTo}
-use Rattle.rules.specs.Lists.{at}
-use Rattle.rules.specs.Need.{need, resident, inProcess}
-use Rattle.rules.specs.Standing.{waiting, activated, running, finished, count}
-use Rattle.rules.specs.Booking.{figure, total, ready}
-use Rattle.rules.proofs.Tests.{and-none}
-use Rattle.rules.proofs.Sums.{sum-cong, sum-zero, count-none}
-use Rattle.rules.proofs.Usage.{hasEnded, hasBegun}
+use Rattle.numbers.specs.Sums.{only, countTo}
+use Rattle.numbers.specs.Lists.{at}
+use Rattle.tree.specs.Need.{need, resident, inProcess}
+use Rattle.books.specs.Standing.{waiting, activated, running, finished, count}
+use Rattle.tree.specs.Tree.{figure}
+use Rattle.books.specs.Booking.{total, ready}
+use Rattle.numbers.proofs.Tests.{and-none}
+use Rattle.numbers.proofs.Sums.{sum-cong, sum-zero, count-none}
+use Rattle.books.proofs.Usage.{hasEnded, hasBegun}
 use Rattle.words.specs.Digits.{digits}
 use Rattle.store.specs.Cached.{partialFigure, unendedChildren, isReadyAt, inProcessBy}
 

@@ -3,7 +3,7 @@ use mathlib.Core.Path.{_≡_}
 use mathlib.Core.List.{List}
 use Prim.Native.Nat.{ℕ, _+_, _*_, _<_}
 use native.Mathlib.Numerals.{unary-clauses}
-use Rattle.rules.specs.Lists.{at}
+use Rattle.numbers.specs.Lists.{at}
 use Rattle.words.specs.Layout.{row, rows, entries, activationBase}
 use Rattle.words.specs.Contents.{contents, storeContents}
 use Rattle.words.proofs.Views.{column-at, part-at}

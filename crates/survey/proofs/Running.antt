@@ -10,15 +10,13 @@ use lib.Dec.{ltb}
 use borrow.Author.Tests.{lt-ltb, le-ltb}
 use lib.ListN.{length, getD, take, drop, drop-of-length-le}
 use lib.Seq.{take-suc, take-take, split-at, drop-cons, getD-take, length-take-le}
-use Rattle.rules.specs.Sums.{Task}
-use Rattle.rules.specs.Need.{children}
-use Rattle.rules.specs.Grounds.{within}
-use Rattle.rules.specs.Peak.{Peaked, peaked, noPeak}
-use Rattle.rules.specs.Invariant.{Valid}
-use Rattle.rules.proofs.Tests.{le-or-lt}
-use Rattle.rules.proofs.Orders.{within-task, mem-at, every-mem}
-use Rattle.rules.proofs.Turns.{Turn, valid-turn}
-use Rattle.rules.proofs.Peaks.{level, level-first, level-snoc, kept, turn-level, running, runningTask, runningPeak, peaked-running}
+use Rattle.numbers.specs.Sums.{Task, within}
+use Rattle.tree.specs.Tree.{children, Valid}
+use Rattle.tree.specs.Peak.{Peaked, peaked, noPeak}
+use Rattle.numbers.proofs.Tests.{le-or-lt}
+use Rattle.tree.proofs.Orders.{within-task, mem-at, every-mem}
+use Rattle.tree.proofs.Turns.{Turn, valid-turn}
+use Rattle.tree.proofs.Peaks.{level, level-first, level-snoc, kept, turn-level, running, runningTask, runningPeak, peaked-running}
 use Rattle.survey.specs.Level.{higher}
 
 -- the two cases of the higher sum

@@ -8,16 +8,17 @@ use mathlib.Core.Logic.{⊎-elim}
 use lib.Dec.{eqb}
 use lib.ListN.{length, length-set}
 use borrow.Author.Tests.{ne-eqb}
-use Rattle.rules.specs.Kind.{chilled}
-use Rattle.rules.specs.Sums.{Task, only, sumTo, countTo}
-use Rattle.rules.specs.Lists.{at}
-use Rattle.rules.specs.Need.{children, need}
-use Rattle.rules.proofs.Sums.{sum-add, sum-zero, sum-single, sum-most, count-le, only-le, only-false}
-use Rattle.rules.proofs.Tests.{same-or-not, le-or-lt}
+use Rattle.books.specs.Kind.{chilled}
+use Rattle.numbers.specs.Sums.{Task, only, sumTo, countTo}
+use Rattle.numbers.specs.Lists.{at}
+use Rattle.tree.specs.Tree.{children}
+use Rattle.tree.specs.Need.{need}
+use Rattle.numbers.proofs.Sums.{sum-add, sum-zero, sum-single, sum-most, count-le, only-le, only-false}
+use Rattle.numbers.proofs.Tests.{same-or-not, le-or-lt}
 use Rattle.words.specs.Layout.{rows}
 use Rattle.words.specs.Contents.{Contents}
 use Rattle.store.proofs.Entries.{set-more}
-use Rattle.rules.specs.Limits.{maxCount}
+use Rattle.numbers.specs.Limits.{maxCount}
 use Rattle.survey.specs.Prepare.{withNeeds, withFigures, plus, weighed, MayWeigh, MayPrepare}
 
 -- a sum with its last term apart

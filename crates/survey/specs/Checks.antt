@@ -2,8 +2,8 @@
 use mathlib.Core.Bool.{Bool, not, _&&_}
 use Prim.Native.Nat.{ℕ, _≤_}
 use lib.Dec.{eqb, leb}
-use Rattle.rules.specs.Sums.{Task}
-use Rattle.rules.specs.Limits.{maxTasks}
+use Rattle.numbers.specs.Sums.{Task}
+use Rattle.numbers.specs.Limits.{maxTasks}
 
 -- n tasks, and a parent of each that is a task or nobody
 pub record Parented (n : ℕ) (par : ℕ → ℕ) : Type 0 where

@@ -5,11 +5,10 @@ use mathlib.Core.List.{List}
 use Prim.Native.Nat.{ℕ, _+_, _≤_, _<_}
 use lib.Dec.{eqb, ltb}
 use lib.ListN.{take, replicate}
-use Rattle.rules.specs.Sums.{only}
-use Rattle.rules.specs.Lists.{at}
-use Rattle.rules.specs.Need.{children}
-use Rattle.rules.specs.Peak as rules
-use Rattle.rules.specs.Invariant.{Valid}
+use Rattle.numbers.specs.Sums.{only}
+use Rattle.numbers.specs.Lists.{at}
+use Rattle.tree.specs.Tree.{children, Valid}
+use Rattle.tree.specs.Peak as rules
 use Rattle.words.specs.Layout.{row, rows}
 use Rattle.words.specs.Contents.{contents, storeContents}
 use Rattle.survey.specs.declared.level.Peaked.{Peaked}

@@ -4,12 +4,12 @@ use mathlib.Core.List.{List}
 use Prim.Native.Nat.{ℕ, _+_, _*_, _^_, _≤_, _<_}
 use lib.Dec.{eqb}
 use lib.ListN.{set}
-use Rattle.rules.specs.Kind.{chilled, put}
-use Rattle.rules.specs.Sums.{countTo}
-use Rattle.rules.specs.Lists.{at}
-use Rattle.rules.specs.Limits.{maxTasks, maxCount}
+use Rattle.books.specs.Kind.{chilled, put}
+use Rattle.numbers.specs.Sums.{countTo}
+use Rattle.numbers.specs.Lists.{at}
+use Rattle.numbers.specs.Limits.{maxTasks, maxCount}
 use Rattle.rules.specs.Obey.{fresh}
-use Rattle.rules.specs.Invariant.{Valid}
+use Rattle.tree.specs.Tree.{Valid}
 use Rattle.words.specs.Layout.{row, rows, words}
 use Rattle.words.specs.Contents.{StoreContents, Contents}
 use Rattle.store.specs.Rows.{ZeroPast, books, activationOf, executionOf}

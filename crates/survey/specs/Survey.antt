@@ -4,10 +4,11 @@ use mathlib.Core.List.{List}
 use Prim.Native.Nat.{ℕ}
 use lib.Dec.{eqb}
 use lib.ListN.{take}
-use Rattle.rules.specs.Kind.{chilled}
-use Rattle.rules.specs.Lists.{at}
-use Rattle.rules.specs.Peak
-use Rattle.rules.specs.Tasks
+use Rattle.tree.specs.Tree.{roots, ordered}
+use Rattle.books.specs.Kind.{chilled}
+use Rattle.numbers.specs.Lists.{at}
+use Rattle.tree.specs.Peak
+use Rattle.tree.specs.Tasks
 use Rattle.rules.specs.Grounds.{demand}
 use Rattle.words.specs.Contents.{Contents}
 use Rattle.store.specs.Rows.{tasksOf, activationOf}
@@ -26,7 +27,7 @@ Ordered c = RankedIn (c .size) c
 
 -- 7 "the steps with parent 0 are not exactly one"; 8 "some step does not stand before its parent in the activation order"
 unfoldable pub orderGround : (n : ℕ) (par : ℕ → ℕ) → List ℕ → ℕ
-orderGround n par order = demand (eqb (Peak.roots n par) 1) 7 (demand (Peak.ordered par order) 8 0)
+orderGround n par order = demand (eqb (roots n par) 1) 7 (demand (ordered par order) 8 0)
 
 -- the ground against the activation order of a plan
 abbrev pub groundOf : Contents → ℕ

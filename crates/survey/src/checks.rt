@@ -2,10 +2,11 @@
 ghost use mathlib.Core.Path.{_≡_};
 ghost use Prim.Native.Nat.{_≤_};
 ghost use lib.ListN.{take};
-ghost use Rattle.rules.specs.Sums.{countTo};
-ghost use Rattle.rules.specs.Lists.{at};
-ghost use Rattle.rules.specs.Limits.{maxTasks};
-ghost use Rattle.rules.specs.Peak;
+ghost use Rattle.tree.specs.Tree.{roots};
+ghost use Rattle.numbers.specs.Sums.{countTo};
+ghost use Rattle.numbers.specs.Lists.{at};
+ghost use Rattle.numbers.specs.Limits.{maxTasks};
+ghost use Rattle.tree.specs.Peak;
 ghost use Rattle.words.specs.Contents.{contents};
 ghost use Rattle.survey.specs.Survey.{RankedIn, orderGround};
 ghost use Rattle.survey.specs.Checks.{isLate, Parented};
@@ -15,7 +16,7 @@ use words::plan::Plan;
 // How many tasks have no parent.
 pub fn roots(plan: &[u32; Plan::WORDS], n: usize) -> usize
     requires { ⌜ n ≤ maxTasks ⌝ }
-    ensures { λ r. ⌜ r ≡ Peak.roots n (at (contents (now (plan .entry)) .parents)) ⌝ }
+    ensures { λ r. ⌜ r ≡ roots n (at (contents (now (plan .entry)) .parents)) ⌝ }
 {
     let mut found = 0;
     let mut i = 0;

@@ -2,7 +2,7 @@
 ghost use mathlib.Core.Path.{_≡_};
 ghost use Prim.Native.Nat.{_+_, _*_};
 ghost use lib.ListN.{set};
-ghost use Rattle.rules.specs.Lists.{at};
+ghost use Rattle.numbers.specs.Lists.{at};
 ghost use Rattle.words.specs.Layout.{row};
 ghost use Rattle.words.specs.Contents.{contents};
 ghost use Rattle.survey.specs.Prepare.{MayAdd, MayWeigh, weighed, MayPrepare, Prepared};

@@ -3,8 +3,8 @@
 ghost use mathlib.Core.Path.{_≡_};
 ghost use Prim.Native.Nat.{_+_, _^_, _<_};
 ghost use lib.ListN.{take};
-ghost use Rattle.rules.specs.Lists.{at};
-ghost use Rattle.rules.specs.Peak;
+ghost use Rattle.numbers.specs.Lists.{at};
+ghost use Rattle.tree.specs.Peak;
 ghost use Rattle.words.specs.Contents.{contents, storeContents};
 ghost use Rattle.survey.specs.Level.{AtRow, keptOut, MayFeed, Fed, MayRun, MayPeak, meant, higher};
 use cells::cell;

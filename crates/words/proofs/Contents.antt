@@ -8,11 +8,11 @@ use native.Mathlib.Omega.{arith}
 use lib.ListN.{length, set, length-set}
 use lib.Seq.{getD-set-same, getD-set-other}
 use borrow.Author.Tests.{eq-eqb, ne-eqb}
-use Rattle.rules.specs.Kind.{Kind, of, each}
-use Rattle.rules.specs.Kind
-use Rattle.rules.specs.Lists.{at}
-use Rattle.rules.proofs.Tests.{same-or-not}
-use Rattle.rules.proofs.EachStore.{of-each}
+use Rattle.books.specs.Kind.{Kind, of, each}
+use Rattle.books.specs.Kind
+use Rattle.numbers.specs.Lists.{at}
+use Rattle.numbers.proofs.Tests.{same-or-not}
+use Rattle.books.proofs.EachStore.{of-each}
 use Rattle.words.specs.Layout.{row, rows, words, headBase, entries, activationBase, executionBase, blocks, readyBase, filledWord, offset}
 use Rattle.words.specs.Views.{column, part}
 use Rattle.words.specs.Contents.{Contents, headWord, storeContents, contents, renewed, edited, storeWithCell, withCell, storeWithHead, withHead, withOrders, withReady}

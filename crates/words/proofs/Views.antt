@@ -7,8 +7,8 @@ use native.Mathlib.Numerals.{add-one}
 use native.Mathlib.Omega.{arith}
 use lib.ListN.{length, set, length-set}
 use lib.Seq.{getD-set-same, getD-set-other, ext-getD}
-use Rattle.rules.specs.Lists.{at}
-use Rattle.rules.proofs.Tests.{same-or-not}
+use Rattle.numbers.specs.Lists.{at}
+use Rattle.numbers.proofs.Tests.{same-or-not}
 use Rattle.words.specs.Layout.{row, rows}
 use Rattle.words.specs.Views.{tabulate, view, column, part}
 

@@ -4,8 +4,8 @@ use mathlib.Core.List.{List}
 use Prim.Native.Nat.{ℕ, _+_}
 use lib.Dec.{eqb}
 use lib.ListN.{length, set}
-use Rattle.rules.specs.Kind.{Each, of, each}
-use Rattle.rules.specs.Lists.{at}
+use Rattle.books.specs.Kind.{Each, of, each}
+use Rattle.numbers.specs.Lists.{at}
 use Rattle.words.specs.Layout.{headBase, entries, activationBase, executionBase, blocks, readyBase, filledWord, offset}
 use Rattle.words.specs.Views.{column, part}
 

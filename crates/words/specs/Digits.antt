@@ -1,7 +1,7 @@
 -- A set of places as the binary digits of a number.
 use mathlib.Core.Bool.{Bool, cond}
 use Prim.Native.Nat.{ℕ, zero, suc, _+_, _*_}
-use Rattle.rules.specs.Sums.{only}
+use Rattle.numbers.specs.Sums.{only}
 
 -- the number whose lowest digits are f 0, f 1, .., so many of them
 unfoldable pub digits : (ℕ → Bool) → ℕ → ℕ

@@ -1,7 +1,7 @@
 -- Where the words of a plan lie. The names are those of the constants of the plan type.
 use Prim.Native.Nat.{ℕ}
-use Rattle.rules.specs.Kind.{Kind}
-use Rattle.rules.specs.Kind
+use Rattle.books.specs.Kind.{Kind}
+use Rattle.books.specs.Kind
 
 -- the words of a row
 abbrev pub row : ℕ

@@ -1,7 +1,7 @@
 -- Words of an array as lists.
 use mathlib.Core.List.{List, [], _∷_}
 use Prim.Native.Nat.{ℕ, zero, suc, _+_, _*_}
-use Rattle.rules.specs.Lists.{at}
+use Rattle.numbers.specs.Lists.{at}
 use Rattle.words.specs.Layout.{row, rows}
 
 -- f 0, f 1, .., so many of them

@@ -6,12 +6,12 @@ use Prim.Native.Nat.{ℕ, _+_, _≤_}
 use native.Mathlib.Omega.{arith}
 use lib.ListN.{take}
 use lib.Seq.{getD-take, length-take-le}
-use Rattle.rules.specs.Limits.{maxTasks}
-use Rattle.rules.specs.Lists.{at, every}
-use Rattle.rules.specs.Grounds.{within}
-use Rattle.rules.specs.Instance.{instanceOf}
-use Rattle.rules.proofs.Orders.{within-task, mem-at, every-mem}
-use Rattle.rules.proofs.Instance.{Proper, proper}
+use Rattle.numbers.specs.Limits.{maxTasks}
+use Rattle.numbers.specs.Lists.{at, every}
+use Rattle.numbers.specs.Sums.{within}
+use Rattle.streams.specs.Instance.{instanceOf}
+use Rattle.tree.proofs.Orders.{within-task, mem-at, every-mem}
+use Rattle.streams.proofs.Instance.{Proper, proper}
 use Rattle.words.specs.Layout.{words, entries, activationBase, executionBase}
 use Rattle.words.specs.Views.{part}
 use Rattle.words.specs.Contents.{contents}

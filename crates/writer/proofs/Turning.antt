@@ -4,10 +4,10 @@ use mathlib.Core.List.{List, [], _∷_, _++_, map, map-append, flatMap}
 use Prim.Native.Nat.{ℕ, suc, _+_, _<_}
 use native.Mathlib.Numerals.{add-one}
 use lib.ListN.{length, take}
-use Rattle.rules.specs.Lists.{at}
-use Rattle.rules.specs.Command.{Command, bytes}
-use Rattle.rules.specs.Instance.{Instance, taskOf, tasksTo}
-use Rattle.rules.proofs.Written.{bytes-append, bytes-one}
+use Rattle.numbers.specs.Lists.{at}
+use Rattle.format.specs.Command.{Command, bytes}
+use Rattle.streams.specs.Instance.{Instance, taskOf, tasksTo}
+use Rattle.streams.proofs.Written.{bytes-append, bytes-one}
 use Rattle.put.specs.Put.{Put}
 use Rattle.put.proofs.Pieces.{_then_, turn}
 

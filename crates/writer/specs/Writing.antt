@@ -4,11 +4,11 @@ use mathlib.Core.Bool.{true, cond}
 use mathlib.Core.List.{List}
 use Prim.Native.Nat.{ℕ, _+_, _≤_, _<_}
 use lib.Dec.{eqb}
-use Rattle.rules.specs.Limits.{maxTasks}
-use Rattle.rules.specs.Sums.{Task}
-use Rattle.rules.specs.Lists.{at}
-use Rattle.rules.specs.Command.{Command, activation, execution}
-use Rattle.rules.specs.Write.{isWhole}
+use Rattle.numbers.specs.Limits.{maxTasks}
+use Rattle.numbers.specs.Sums.{Task}
+use Rattle.numbers.specs.Lists.{at}
+use Rattle.format.specs.Command.{Command, activation, execution}
+use Rattle.streams.specs.Write.{isWhole}
 use Rattle.words.specs.Layout.{words, entries, activationBase}
 use Rattle.words.specs.Contents.{contents}
 use Rattle.answer.specs.Meaning.{planOf}

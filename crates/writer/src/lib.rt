@@ -4,9 +4,9 @@
 ghost use mathlib.Core.Path.{_≡_};
 ghost use mathlib.Core.List.{map, flatMap};
 ghost use lib.ListN.{take};
-ghost use Rattle.rules.specs.Command as rules;
-ghost use Rattle.rules.specs.Instance.{instanceOf, openingOf, taskOf, tasksTo, written};
-ghost use Rattle.rules.specs.Write as writing;
+ghost use Rattle.format.specs.Command as rules;
+ghost use Rattle.streams.specs.Instance.{instanceOf, openingOf, taskOf, tasksTo, written};
+ghost use Rattle.streams.specs.Write as writing;
 ghost use Rattle.words.specs.Layout.{entries};
 ghost use Rattle.words.specs.Views.{part};
 ghost use Rattle.words.specs.Contents.{contents};

@@ -6,28 +6,16 @@ use native.Mathlib.Omega.{arith}
 use lib.Dec.{leb}
 use borrow.Author.Needs.{needs}
 use borrow.Author.Tests.{not-true, not-false}
-use Rattle.rules.specs.Kind.{all}
-use Rattle.rules.specs.Kind
-use Rattle.rules.specs.Lists.{at}
+use Rattle.books.specs.Kind.{all}
+use Rattle.books.specs.Kind
+use Rattle.numbers.specs.Lists.{at}
 use Rattle.words.specs.Layout.{next}
 use Rattle.words.specs.Contents.{Contents, contents, withHead}
 use Rattle.words.proofs.Contents.{lengths, contents-head}
 use Rattle.store.specs.Store.{granted, withStore}
 use Rattle.store.proofs.InStore.{total-within}
 use Rattle.booking.specs.Booked.{DidActivate, allowsNext}
-use Rattle.booking.proofs.Booking.{
-  nextTask,
-  lacking,
-  grantedNext,
-  roomIn,
-  next-in,
-  tested,
-  may-grant,
-  may-activate,
-  long-still,
-  next-booked,
-  next-read,
-}
+use Rattle.booking.proofs.Booking.{nextTask, lacking, grantedNext, roomIn, next-in, tested, may-grant, may-activate, long-still, next-booked, next-read}
 use Rattle.booking.proofs.book_next.Statement.{statement}
 use Rattle.booking.proofs.book_next.Tie as tie
 

@@ -1,6 +1,6 @@
 -- `codec::encode` meets its contract: in each arm the command is known, and the pieces, one behind the other, are its bytes.
 use borrow.Author.Needs.{needs}
-use Rattle.rules.specs.Command.{forms, find, byteOf, operandsOf, widthsOf, little, littles, bytes}
+use Rattle.format.specs.Command.{forms, find, byteOf, operandsOf, widthsOf, little, littles, bytes}
 use Rattle.put.proofs.Pieces.{_then_}
 use Rattle.codec.proofs.encode.Statement.{statement}
 use Rattle.codec.proofs.encode.Tie as tie

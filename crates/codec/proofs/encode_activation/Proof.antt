@@ -1,6 +1,6 @@
 -- `codec::encode_activation` meets its contract.
 use borrow.Author.Needs.{needs}
-use Rattle.rules.specs.Command.{forms, find, byteOf, operandsOf, widthsOf, little, littles, bytes}
+use Rattle.format.specs.Command.{forms, find, byteOf, operandsOf, widthsOf, little, littles, bytes}
 use Rattle.codec.proofs.encode_activation.Statement.{statement}
 use Rattle.codec.proofs.encode_activation.Tie as tie
 

@@ -1,6 +1,6 @@
 -- `codec::encode_execution` meets its contract.
 use borrow.Author.Needs.{needs}
-use Rattle.rules.specs.Command.{forms, find, byteOf, operandsOf, widthsOf, little, littles, bytes}
+use Rattle.format.specs.Command.{forms, find, byteOf, operandsOf, widthsOf, little, littles, bytes}
 use Rattle.codec.proofs.encode_execution.Statement.{statement}
 use Rattle.codec.proofs.encode_execution.Tie as tie
 

@@ -1,6 +1,6 @@
 -- `codec::encode_task` meets its contract: the pieces, one behind the other, are the bytes of STEP.
 use borrow.Author.Needs.{needs}
-use Rattle.rules.specs.Command.{forms, find, byteOf, operandsOf, widthsOf, little, littles, bytes}
+use Rattle.format.specs.Command.{forms, find, byteOf, operandsOf, widthsOf, little, littles, bytes}
 use Rattle.put.proofs.Pieces.{_then_}
 use Rattle.codec.proofs.encode_task.Statement.{statement}
 use Rattle.codec.proofs.encode_task.Tie as tie

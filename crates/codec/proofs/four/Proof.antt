@@ -1,6 +1,6 @@
 -- `codec::four` meets its contract: a number of four bytes is joined of two numbers of two.
 use mathlib.Core.Path.{sym, _∙_}
-use Rattle.rules.proofs.Number.{number-join}
+use Rattle.format.proofs.Number.{number-join}
 use Rattle.codec.proofs.Free.{free}
 use Rattle.codec.proofs.four.Statement.{statement}
 use Rattle.codec.proofs.four.Tie as tie

@@ -2,7 +2,7 @@
 use native.Mathlib.Omega.{arith}
 use borrow.Author.Needs.{needs}
 use lib.ListN.{List·getD-eq-default}
-use Rattle.rules.specs.Command.{number}
+use Rattle.format.specs.Command.{number}
 use Rattle.codec.proofs.one.Statement.{statement}
 use Rattle.codec.proofs.one.Tie as tie
 

@@ -1,7 +1,7 @@
 -- `codec::table` meets its contract: in each arm the byte is known, and what the callees ensure is its line of the rules' table.
 use mathlib.Core.Path.{sym}
 use borrow.Author.Tests.{ne-eqb}
-use Rattle.rules.specs.Command.{forms, find}
+use Rattle.format.specs.Command.{forms, find}
 use Rattle.codec.proofs.Free.{free}
 use Rattle.codec.proofs.Lines.{plan-line, task-line, activation-line, execution-line, begin-line, done-line, fetch-line, places-line, no-line}
 use Rattle.codec.proofs.table.Statement.{statement}

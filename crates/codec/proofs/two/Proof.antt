@@ -1,6 +1,6 @@
 -- `codec::two` meets its contract: a number of two bytes is joined of two numbers of one.
 use mathlib.Core.Path.{sym, _∙_}
-use Rattle.rules.proofs.Number.{number-join}
+use Rattle.format.proofs.Number.{number-join}
 use Rattle.codec.proofs.Free.{free}
 use Rattle.codec.proofs.two.Statement.{statement}
 use Rattle.codec.proofs.two.Tie as tie

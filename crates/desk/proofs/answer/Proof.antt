@@ -3,9 +3,9 @@ use mathlib.Core.Path.{_≡_, sym, _∙_}
 use mathlib.Core.Bool.{true}
 use native.Mathlib.Omega.{arith}
 use borrow.Author.Tests.{not-true, not-false}
-use Rattle.rules.specs.Lists.{distinct}
-use Rattle.rules.specs.Limits.{maxTasks}
-use Rattle.rules.proofs.Orders.{within-task}
+use Rattle.numbers.specs.Lists.{distinct}
+use Rattle.numbers.specs.Limits.{maxTasks}
+use Rattle.tree.proofs.Orders.{within-task}
 use Rattle.desk.specs.Columns.{ofTask}
 use Rattle.desk.proofs.Surveying.{InLimits, unequal, outside, strayed, unlisted, twice, may-survey, told, may-list, fill}
 use Rattle.desk.proofs.answer.Statement.{statement}

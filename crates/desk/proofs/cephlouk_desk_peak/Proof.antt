@@ -89,7 +89,7 @@ use denote.Triple.Entry.{onEntry}
 use denote.Triple.Spec.{Meets, tripleOf}
 use denote.Triple.Table.{entered, cited}
 use denote.Triple.Walked.{goes-none-slice, goes-gave-ref, Walks, walked, walk-meets}
-use Rattle.rules.specs.Limits.{maxTasks}
+use Rattle.numbers.specs.Limits.{maxTasks}
 use Rattle.desk.specs.declared.TaskRecord.{TaskRecord}
 use Rattle.desk.proofs.Columns.{filled-none}
 use Rattle.desk.proofs.Arrays.{zeros-typed, zeros-apart}

@@ -2,24 +2,11 @@
 use mathlib.Core.Path.{_≡_, sym, _∙_}
 use native.Mathlib.Omega.{arith}
 use borrow.Author.Needs.{needs}
-use Rattle.rules.specs.Lists.{at}
+use Rattle.numbers.specs.Lists.{at}
 use Rattle.words.specs.Contents.{contents}
 use Rattle.words.proofs.Contents.{lengths}
 use Rattle.dispatch.proofs.Cells.{row-read}
-use Rattle.dispatch.proofs.Turns.{
-  Climbing,
-  above,
-  below-in,
-  climb-first,
-  turn-in,
-  climb-root,
-  climb-nothing,
-  may-rest,
-  climb-waiting,
-  may-pass,
-  climb-shorter,
-  climb-next,
-}
+use Rattle.dispatch.proofs.Turns.{Climbing, above, below-in, climb-first, turn-in, climb-root, climb-nothing, may-rest, climb-waiting, may-pass, climb-shorter, climb-next}
 use Rattle.dispatch.proofs.climb.Statement.{statement}
 use Rattle.dispatch.proofs.climb.Tie as tie
 

@@ -3,8 +3,8 @@ use mathlib.Core.Path.{_≡_, refl, ap, _∙_}
 use Prim.Native.Nat.{ℕ}
 use native.Mathlib.Omega.{arith}
 use borrow.Author.Needs.{needs}
-use Rattle.rules.specs.Kind
-use Rattle.rules.specs.Lists.{at}
+use Rattle.books.specs.Kind
+use Rattle.numbers.specs.Lists.{at}
 use Rattle.words.specs.Contents.{Contents, contents, storeContents}
 use Rattle.words.proofs.Views.{column-at}
 use Rattle.store.specs.Store.{withStore, heldAlone}

@@ -3,20 +3,10 @@ use mathlib.Core.Path.{_≡_, sym, ap, _∙_}
 use Prim.Native.Nat.{ℕ, _-_}
 use native.Mathlib.Omega.{arith}
 use borrow.Author.Needs.{needs}
-use Rattle.rules.specs.Lists.{at}
+use Rattle.numbers.specs.Lists.{at}
 use Rattle.words.specs.Contents.{contents}
 use Rattle.dispatch.proofs.Cells.{row-read}
-use Rattle.dispatch.proofs.Feeding.{
-  waitsForFewer,
-  fewer-written,
-  waits-still,
-  is-not-booked,
-  is-ready,
-  standing-is,
-  may-insert,
-  fed-still,
-  fed-ready,
-}
+use Rattle.dispatch.proofs.Feeding.{waitsForFewer, fewer-written, waits-still, is-not-booked, is-ready, standing-is, may-insert, fed-still, fed-ready}
 use Rattle.dispatch.proofs.feed.Statement.{statement}
 use Rattle.dispatch.proofs.feed.Tie as tie
 

@@ -3,7 +3,7 @@ use mathlib.Core.Path.{_≡_, sym, subst, _∙_}
 use Prim.Native.Nat.{ℕ}
 use native.Mathlib.Omega.{arith}
 use borrow.Author.Needs.{needs}
-use Rattle.rules.specs.Lists.{at}
+use Rattle.numbers.specs.Lists.{at}
 use Rattle.words.specs.Contents.{Contents, contents}
 use Rattle.words.proofs.Contents.{lengths}
 use Rattle.dispatch.specs.Ended.{ended, MayFeed, Fed}

@@ -1,8 +1,8 @@
 -- `lines::begin_line` meets its contract.
 use native.Mathlib.Omega.{arith}
 use borrow.Author.Needs.{needs}
-use Rattle.rules.specs.Text.{ascii, beginLine}
-use Rattle.rules.proofs.Lengths.{beginLine-short}
+use Rattle.texts.specs.Text.{ascii, beginLine}
+use Rattle.texts.proofs.Lengths.{beginLine-short}
 use Rattle.put.proofs.Pieces.{_then_, whole}
 use Rattle.lines.proofs.begin_line.Statement.{statement}
 use Rattle.lines.proofs.begin_line.Tie as tie

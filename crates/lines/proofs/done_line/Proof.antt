@@ -1,8 +1,8 @@
 -- `lines::done_line` meets its contract.
 use native.Mathlib.Omega.{arith}
 use borrow.Author.Needs.{needs}
-use Rattle.rules.specs.Text.{ascii, doneLine}
-use Rattle.rules.proofs.Lengths.{doneLine-short}
+use Rattle.texts.specs.Text.{ascii, doneLine}
+use Rattle.texts.proofs.Lengths.{doneLine-short}
 use Rattle.put.proofs.Pieces.{_then_, whole}
 use Rattle.lines.proofs.done_line.Statement.{statement}
 use Rattle.lines.proofs.done_line.Tie as tie

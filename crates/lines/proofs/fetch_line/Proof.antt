@@ -1,8 +1,8 @@
 -- `lines::fetch_line` meets its contract.
 use native.Mathlib.Omega.{arith}
 use borrow.Author.Needs.{needs}
-use Rattle.rules.specs.Text.{ascii, fetchLine}
-use Rattle.rules.proofs.Lengths.{fetchLine-short}
+use Rattle.texts.specs.Text.{ascii, fetchLine}
+use Rattle.texts.proofs.Lengths.{fetchLine-short}
 use Rattle.put.proofs.Pieces.{_then_, whole}
 use Rattle.lines.proofs.fetch_line.Statement.{statement}
 use Rattle.lines.proofs.fetch_line.Tie as tie

@@ -1,8 +1,8 @@
 -- `lines::places_line` meets its contract.
 use native.Mathlib.Omega.{arith}
 use borrow.Author.Needs.{needs}
-use Rattle.rules.specs.Text.{ascii, placesLine}
-use Rattle.rules.proofs.Lengths.{placesLine-short}
+use Rattle.texts.specs.Text.{ascii, placesLine}
+use Rattle.texts.proofs.Lengths.{placesLine-short}
 use Rattle.put.proofs.Pieces.{_then_, whole}
 use Rattle.lines.proofs.places_line.Statement.{statement}
 use Rattle.lines.proofs.places_line.Tie as tie

@@ -1,8 +1,8 @@
 -- `lines::refused_line` meets its contract.
 use native.Mathlib.Omega.{arith}
 use borrow.Author.Needs.{needs}
-use Rattle.rules.specs.Text.{ascii, refusedLine}
-use Rattle.rules.proofs.Lengths.{refusedLine-short}
+use Rattle.texts.specs.Text.{ascii, refusedLine}
+use Rattle.texts.proofs.Lengths.{refusedLine-short}
 use Rattle.put.proofs.Pieces.{_then_, whole}
 use Rattle.lines.proofs.refused_line.Statement.{statement}
 use Rattle.lines.proofs.refused_line.Tie as tie

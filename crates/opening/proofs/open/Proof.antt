@@ -9,16 +9,7 @@ use Rattle.words.specs.Contents.{contents}
 use Rattle.opening.specs.Cleared.{Emptied}
 use Rattle.answer.proofs.Obeying.{refusal, acceptance}
 use Rattle.opening.proofs.Past.{nothing-past}
-use Rattle.opening.proofs.Opening.{
-  blank,
-  opening-sound,
-  opening-means,
-  open-late,
-  open-tasks,
-  open-processors,
-  open-free,
-  opening-contents,
-}
+use Rattle.opening.proofs.Opening.{blank, opening-sound, opening-means, open-late, open-tasks, open-processors, open-free, opening-contents}
 use Rattle.opening.proofs.open.Statement.{statement}
 use Rattle.opening.proofs.open.Tie as tie
 

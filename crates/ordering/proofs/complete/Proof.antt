@@ -1,7 +1,7 @@
 -- `ordering::complete` meets its contract: the activation order is copied where no 04 was given.
 use mathlib.Core.Path.{_≡_, sym, _∙_}
 use borrow.Author.Needs.{needs}
-use Rattle.rules.proofs.OneOrder.{in-turn-alone}
+use Rattle.streams.proofs.OneOrder.{in-turn-alone}
 use Rattle.words.specs.Contents.{contents}
 use Rattle.words.proofs.Contents.{lengths}
 use Rattle.answer.specs.Meaning.{planOf}

@@ -3,7 +3,7 @@ use mathlib.Core.Path.{_≡_, sym, subst, _∙_}
 use Prim.Native.Nat.{ℕ, _-_, _≤_, _<_}
 use native.Mathlib.Omega.{arith}
 use borrow.Author.Needs.{needs}
-use Rattle.rules.specs.Lists.{at}
+use Rattle.numbers.specs.Lists.{at}
 use Rattle.words.specs.Layout.{entries, activationBase, executionBase}
 use Rattle.words.specs.Contents.{contents}
 use Rattle.words.proofs.Views.{part-at}

@@ -1,6 +1,6 @@
 -- `printing::is_awaited` meets its contract.
 use borrow.Author.Needs.{needs}
-use Rattle.rules.specs.Printer.{isAwaited}
+use Rattle.texts.specs.Printer.{isAwaited}
 use Rattle.printing.proofs.is_awaited.Statement.{statement}
 use Rattle.printing.proofs.is_awaited.Tie as tie
 

@@ -6,7 +6,7 @@ use borrow.Author.Needs.{needs}
 use borrow.Author.Tests.{not-false}
 use lib.ListN.{length}
 use lib.Seq.{length-take-le}
-use Rattle.rules.specs.Printer.{isCounted}
+use Rattle.texts.specs.Printer.{isCounted}
 use Rattle.plan.proofs.NewPlan.{new-valid}
 use Rattle.position.specs.Standing.{positionOf}
 use Rattle.pump.proofs.Holding.{PumpLoop, at-size, at-start, bytesLeft, in-output, onward, room, falls, refalls, refilled}

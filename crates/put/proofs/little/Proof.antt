@@ -6,7 +6,7 @@ use Prim.Native.Nat.{ℕ, zero, suc, _-_, _/_, _%_, _≤_, _<_}
 use native.Mathlib.Numerals.{unary-clauses}
 use native.Mathlib.Omega.{arith}
 use borrow.Author.Needs.{needs}
-use Rattle.rules.specs.Command.{little}
+use Rattle.format.specs.Command.{little}
 use Rattle.put.specs.Put.{Put}
 use Rattle.put.proofs.Pieces.{nothing, _then_, kept}
 use Rattle.put.proofs.little.Statement.{statement}

@@ -34,7 +34,7 @@ use denote.Triple.Table.{entered, cited}
 use denote.Triple.Walked.{says, Stays, stay-none, stay-none-slice, walkOf, goes-none, goes-none-slice, Walks, ends-at, walked, walk-meets}
 use denote.Exit.{yes}
 use denote.Triple.Clauses.{ensured, lasts}
-use Rattle.rules.specs.Command as rules
+use Rattle.format.specs.Command as rules
 use Rattle.codec.specs.Meaning.{decoded}
 use Rattle.reader.specs.Onward.{onward}
 use Rattle.reader.specs.declared.Reader.{Reader}

@@ -5,11 +5,11 @@ use native.Mathlib.Omega.{arith}
 use lib.Dec.{eqb}
 use borrow.Author.Needs.{needs}
 use borrow.Author.Tests.{eq-eqb, ne-eqb}
-use Rattle.rules.specs.Lists.{at}
-use Rattle.rules.specs.Standing.{waiting, activated}
-use Rattle.rules.specs.Booking.{fed}
-use Rattle.rules.specs.Why as rules
-use Rattle.rules.proofs.Why.{why-ended, why-running, why-waiting, why-unfed, why-no-processor}
+use Rattle.numbers.specs.Lists.{at}
+use Rattle.books.specs.Standing.{waiting, activated}
+use Rattle.books.specs.Booking.{fed}
+use Rattle.whys.specs.Why as rules
+use Rattle.whys.proofs.Why.{why-ended, why-running, why-waiting, why-unfed, why-no-processor}
 use Rattle.words.specs.Layout.{rows}
 use Rattle.words.specs.Contents.{Contents, contents}
 use Rattle.words.proofs.Views.{column-at}

@@ -6,7 +6,7 @@ use native.Mathlib.Omega.{arith}
 use lib.Dec.{eqb}
 use borrow.Author.Needs.{needs}
 use borrow.Author.Tests.{eq-eqb, ne-eqb}
-use Rattle.rules.specs.Standing.{finished}
+use Rattle.books.specs.Standing.{finished}
 use Rattle.words.specs.Contents.{contents}
 use Rattle.words.proofs.Views.{column-at}
 use Rattle.reason.proofs.is_unended_child.Statement.{statement}

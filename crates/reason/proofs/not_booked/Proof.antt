@@ -3,10 +3,10 @@ use mathlib.Core.Path.{_≡_, refl, sym, ap, ap₂, _∙_}
 use Prim.Native.Nat.{ℕ, _+_, _-_}
 use native.Mathlib.Omega.{arith}
 use borrow.Author.Needs.{needs}
-use Rattle.rules.specs.Kind.{each}
-use Rattle.rules.specs.Kind
-use Rattle.rules.specs.Lists.{at}
-use Rattle.rules.specs.Why as rules
+use Rattle.books.specs.Kind.{each}
+use Rattle.books.specs.Kind
+use Rattle.numbers.specs.Lists.{at}
+use Rattle.whys.specs.Why as rules
 use Rattle.words.specs.Contents.{Contents, contents}
 use Rattle.words.proofs.Contents.{lengths}
 use Rattle.store.specs.Kept.{Kept}

@@ -5,11 +5,11 @@ use mathlib.Core.Logic.{⊎-elim}
 use Prim.Native.Nat.{ℕ, _+_, _-_, _≤_}
 use native.Mathlib.Omega.{arith}
 use borrow.Author.Needs.{needs}
-use Rattle.rules.specs.Limits.{maxTasks}
-use Rattle.rules.proofs.Tests.{same-or-not}
-use Rattle.rules.proofs.Lowest.{lowest-none, lowest-is}
-use Rattle.rules.specs.Lists.{at}
-use Rattle.rules.specs.Booking.{isUnendedChild}
+use Rattle.numbers.specs.Limits.{maxTasks}
+use Rattle.numbers.proofs.Tests.{same-or-not}
+use Rattle.numbers.proofs.Lowest.{lowest-none, lowest-is}
+use Rattle.numbers.specs.Lists.{at}
+use Rattle.books.specs.Booking.{isUnendedChild}
 use Rattle.words.specs.Contents.{contents}
 use Rattle.reason.proofs.unended_child.Statement.{statement}
 use Rattle.reason.proofs.unended_child.Tie as tie

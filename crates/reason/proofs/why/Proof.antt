@@ -2,11 +2,11 @@
 use mathlib.Core.Path.{_≡_, sym, ap, _∙_}
 use borrow.Author.Needs.{needs}
 use borrow.Author.Tests.{not-true, not-false}
-use Rattle.rules.specs.Grounds.{within}
+use Rattle.numbers.specs.Sums.{within}
 use Rattle.rules.specs.Phase
-use Rattle.rules.proofs.Tests.{clash}
-use Rattle.rules.proofs.Orders.{within-task, task-within}
-use Rattle.rules.proofs.Why.{why-outside, why-nobody}
+use Rattle.numbers.proofs.Tests.{clash}
+use Rattle.tree.proofs.Orders.{within-task, task-within}
+use Rattle.whys.proofs.Why.{why-outside, why-nobody}
 use Rattle.words.specs.Contents.{contents}
 use Rattle.answer.specs.Meaning.{planOf}
 use Rattle.reason.proofs.why.Statement.{statement}

@@ -4,9 +4,9 @@ use Prim.Native.Nat.{_<_, _≤_}
 use native.Mathlib.Omega.{arith}
 use borrow.Author.Needs.{needs}
 use lib.Seq.{getD-take}
-use Rattle.rules.specs.Kind
-use Rattle.rules.specs.Lists.{at}
-use Rattle.rules.specs.Limits.{maxTasks}
+use Rattle.books.specs.Kind
+use Rattle.numbers.specs.Lists.{at}
+use Rattle.numbers.specs.Limits.{maxTasks}
 use Rattle.words.specs.Layout.{entries, executionBase}
 use Rattle.words.specs.Contents.{Contents, contents}
 use Rattle.words.proofs.Views.{part-at}

@@ -3,21 +3,10 @@ use mathlib.Core.Path.{_≡_, sym, subst, _∙_}
 use Prim.Native.Nat.{ℕ, _-_, _<_}
 use native.Mathlib.Omega.{arith}
 use borrow.Author.Needs.{needs}
-use Rattle.rules.specs.Limits.{maxProcessors}
+use Rattle.numbers.specs.Limits.{maxProcessors}
 use Rattle.words.specs.Contents.{Contents, contents}
 use Rattle.words.specs.Marks.{FirstMarked}
-use Rattle.starting.proofs.StartLoop.{
-  StartLoop,
-  none-yet,
-  marked,
-  as-long,
-  no-processor,
-  nobody-ready,
-  may-run,
-  count-small,
-  room,
-  next,
-}
+use Rattle.starting.proofs.StartLoop.{StartLoop, none-yet, marked, as-long, no-processor, nobody-ready, may-run, count-small, room, next}
 use Rattle.starting.proofs.start_ready.Statement.{statement}
 use Rattle.starting.proofs.start_ready.Tie as tie
 

@@ -6,7 +6,7 @@ use native.Mathlib.Omega.{arith}
 use borrow.Author.Needs.{needs}
 use lib.ListN.{length, take, drop, length-take}
 use lib.Seq.{length-take-le}
-use Rattle.rules.specs.Printer as rules
+use Rattle.texts.specs.Printer as rules
 use Rattle.answer.specs.Meaning.{planOf}
 use Rattle.printing.specs.Taken.{Taken}
 use Rattle.position.specs.declared.Position.{Position}

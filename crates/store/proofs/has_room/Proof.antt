@@ -5,7 +5,7 @@ use Prim.Native.Nat.{_+_, _-_}
 use native.Mathlib.Omega.{arith}
 use borrow.Author.Needs.{needs}
 use borrow.Author.Tests.{le-leb, lt-leb}
-use Rattle.rules.proofs.Tests.{le-or-lt}
+use Rattle.numbers.proofs.Tests.{le-or-lt}
 use Rattle.words.specs.Contents.{contents}
 use Rattle.store.specs.Store.{storeAt}
 use Rattle.store.proofs.Writing.{head-at}

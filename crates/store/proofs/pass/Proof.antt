@@ -3,7 +3,7 @@ use mathlib.Core.Path.{_≡_, ap, ap₂, _∙_}
 use Prim.Native.Nat.{ℕ, _+_, _-_}
 use native.Mathlib.Omega.{arith}
 use borrow.Author.Needs.{needs}
-use Rattle.rules.specs.Lists.{at}
+use Rattle.numbers.specs.Lists.{at}
 use Rattle.words.specs.Contents.{StoreContents, contents}
 use Rattle.store.specs.Store.{storeAt, withStore, withHoldings, gift, passed}
 use Rattle.words.specs.Layout.{kindAt}

@@ -7,9 +7,9 @@ use lib.Dec.{eqb}
 use lib.ListN.{take}
 use borrow.Author.Needs.{needs}
 use borrow.Author.Tests.{eq-eqb, ne-eqb}
-use Rattle.rules.specs.Kind.{chilled}
-use Rattle.rules.specs.Lists.{at}
-use Rattle.rules.specs.Peak.{Peaked, peaked, noPeak}
+use Rattle.books.specs.Kind.{chilled}
+use Rattle.numbers.specs.Lists.{at}
+use Rattle.tree.specs.Peak.{Peaked, peaked, noPeak}
 use Rattle.words.specs.Contents.{contents}
 use Rattle.store.specs.Rows.{tasksOf}
 use Rattle.survey.specs.Survey.{RankedIn, orderGround, groundOf}

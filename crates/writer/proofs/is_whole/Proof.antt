@@ -7,7 +7,7 @@ use borrow.Author.Needs.{needs}
 use borrow.Author.Tests.{eq-eqb, ne-eqb}
 use lib.Dec.{eqb}
 use Rattle.rules.specs.Phase
-use Rattle.rules.specs.Write.{isWhole}
+use Rattle.streams.specs.Write.{isWhole}
 use Rattle.words.specs.Contents.{contents}
 use Rattle.words.proofs.Contents.{lengths}
 use Rattle.answer.specs.Meaning.{planOf}

@@ -5,10 +5,10 @@ use Prim.Native.Nat.{ℕ, _+_, _*_}
 use native.Mathlib.Omega.{arith}
 use borrow.Author.Needs.{needs}
 use borrow.Author.Tests.{not-true, not-false}
-use Rattle.rules.specs.Instance.{instanceOf}
+use Rattle.streams.specs.Instance.{instanceOf}
 use Rattle.rules.specs.Answer.{front}
-use Rattle.rules.specs.Write as writing
-use Rattle.rules.proofs.Written.{every-write-holds, write-early, write-short, write-whole}
+use Rattle.streams.specs.Write as writing
+use Rattle.streams.proofs.Written.{every-write-holds, write-early, write-short, write-whole}
 use Rattle.words.specs.Contents.{contents}
 use Rattle.answer.specs.Meaning.{planOf}
 use Rattle.answer.proofs.Unwritten.{unwritten}

@@ -5,8 +5,8 @@ use Prim.Native.Nat.{_-_, _≤_, _<_}
 use native.Mathlib.Omega.{arith}
 use borrow.Author.Needs.{needs}
 use lib.ListN.{take}
-use Rattle.rules.specs.Lists.{at}
-use Rattle.rules.specs.Command.{bytes}
+use Rattle.numbers.specs.Lists.{at}
+use Rattle.format.specs.Command.{bytes}
 use Rattle.words.specs.Layout.{entries}
 use Rattle.words.specs.Views.{part}
 use Rattle.words.specs.Contents.{contents}

@@ -2,7 +2,7 @@
 use mathlib.Core.Path.{_∙_}
 use native.Mathlib.Omega.{arith}
 use borrow.Author.Needs.{needs}
-use Rattle.rules.specs.Kind.{chilled}
+use Rattle.books.specs.Kind.{chilled}
 use Rattle.rules.proofs.Reaching.{lives}
 use Rattle.writer.proofs.Reading.{parent-read, work-read, out-read}
 use Rattle.writer.proofs.write_task.Statement.{statement}

@@ -4,9 +4,9 @@ use mathlib.Core.List.{flatMap}
 use Prim.Native.Nat.{_+_, _-_, _≤_}
 use native.Mathlib.Omega.{arith}
 use borrow.Author.Needs.{needs}
-use Rattle.rules.specs.Sums.{Task}
-use Rattle.rules.specs.Command.{bytes}
-use Rattle.rules.specs.Instance.{instanceOf, tasksTo}
+use Rattle.numbers.specs.Sums.{Task}
+use Rattle.format.specs.Command.{bytes}
+use Rattle.streams.specs.Instance.{instanceOf, tasksTo}
 use Rattle.words.specs.Contents.{contents}
 use Rattle.answer.specs.Meaning.{planOf}
 use Rattle.put.specs.Put.{Put}

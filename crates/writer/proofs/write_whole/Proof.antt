@@ -4,9 +4,9 @@ use mathlib.Core.List.{List, _++_, map, flatMap}
 use Prim.Native.Nat.{ℕ}
 use borrow.Author.Needs.{needs}
 use lib.ListN.{take}
-use Rattle.rules.specs.Command.{bytes}
-use Rattle.rules.specs.Instance.{instanceOf, openingOf, tasksTo, written}
-use Rattle.rules.proofs.Written.{written-parts}
+use Rattle.format.specs.Command.{bytes}
+use Rattle.streams.specs.Instance.{instanceOf, openingOf, tasksTo, written}
+use Rattle.streams.proofs.Written.{written-parts}
 use Rattle.words.specs.Layout.{entries, activationBase, executionBase}
 use Rattle.words.specs.Views.{part}
 use Rattle.words.specs.Contents.{contents}

@@ -6,8 +6,8 @@ use Prim.Native.Nat.{ℕ}
 use native.Mathlib.Omega.{arith}
 use borrow.Author.Needs.{needs}
 use borrow.Author.Tests.{not-true, not-false}
-use Rattle.rules.specs.Lists.{at}
-use Rattle.rules.specs.Command.{begin}
+use Rattle.numbers.specs.Lists.{at}
+use Rattle.format.specs.Command.{begin}
 use Rattle.rules.specs.Grounds.{inTurn}
 use Rattle.words.specs.Contents.{contents, storeContents}
 use Rattle.words.proofs.Contents.{lengths}
@@ -15,19 +15,7 @@ use Rattle.survey.specs.Survey.{orderGround}
 use Rattle.answer.specs.Meaning.{planOf}
 use Rattle.answer.proofs.Obeying.{refusal, judged}
 use Rattle.day.specs.Day.{begins}
-use Rattle.day.proofs.Beginning.{
-  begin-late,
-  in-turn,
-  may-survey,
-  surveyed-refused,
-  no-order-ground,
-  high-is,
-  too-high,
-  low-enough,
-  may-begin,
-  begin-sound,
-  begin-answers,
-}
+use Rattle.day.proofs.Beginning.{begin-late, in-turn, may-survey, surveyed-refused, no-order-ground, high-is, too-high, low-enough, may-begin, begin-sound, begin-answers}
 use Rattle.day.proofs.begin.begin.Statement.{statement}
 use Rattle.day.proofs.begin.begin.Tie as tie
 

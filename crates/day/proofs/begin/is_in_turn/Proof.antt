@@ -7,7 +7,7 @@ use lib.Dec.{eqb}
 use borrow.Author.Needs.{needs}
 use borrow.Author.Tests.{eq-eqb, ne-eqb}
 use Rattle.rules.specs.Phase
-use Rattle.rules.proofs.Tests.{or-right, or-none}
+use Rattle.numbers.proofs.Tests.{or-right, or-none}
 use Rattle.words.specs.Contents.{contents}
 use Rattle.day.specs.Day.{begins}
 use Rattle.day.proofs.begin.is_in_turn.Statement.{statement}

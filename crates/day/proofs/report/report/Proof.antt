@@ -4,8 +4,8 @@ use mathlib.Core.List.{List}
 use Prim.Native.Nat.{ℕ, _+_, _*_, _<_}
 use native.Mathlib.Omega.{arith}
 use borrow.Author.Needs.{needs}
-use Rattle.rules.specs.Lists.{at}
-use Rattle.rules.specs.Command.{done}
+use Rattle.numbers.specs.Lists.{at}
+use Rattle.format.specs.Command.{done}
 use Rattle.rules.specs.Grounds.{ground}
 use Rattle.words.specs.Layout.{row, rows}
 use Rattle.words.specs.Contents.{contents}

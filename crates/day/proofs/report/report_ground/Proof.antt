@@ -6,9 +6,9 @@ use Prim.Native.Nat.{ℕ, _+_, _*_, _<_}
 use native.Mathlib.Omega.{arith}
 use borrow.Author.Needs.{needs}
 use borrow.Author.Tests.{not-true, not-false}
-use Rattle.rules.specs.Lists.{at}
-use Rattle.rules.specs.Grounds.{within}
-use Rattle.rules.proofs.Orders.{within-task}
+use Rattle.numbers.specs.Lists.{at}
+use Rattle.numbers.specs.Sums.{within}
+use Rattle.tree.proofs.Orders.{within-task}
 use Rattle.words.specs.Layout.{row, rows}
 use Rattle.words.specs.Contents.{contents}
 use Rattle.words.proofs.Views.{column-at}

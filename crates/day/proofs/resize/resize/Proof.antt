@@ -1,7 +1,7 @@
 -- `day::resize::resize` meets its contract: a refusal, and a new bound.
 use mathlib.Core.Path.{_≡_, refl, sym, _∙_}
 use borrow.Author.Needs.{needs}
-use Rattle.rules.specs.Command.{places}
+use Rattle.format.specs.Command.{places}
 use Rattle.rules.specs.Grounds.{ground}
 use Rattle.words.specs.Contents.{contents}
 use Rattle.answer.specs.Meaning.{planOf}

@@ -82,8 +82,8 @@ use denote.Triple.Statement.{Triple}
 use denote.Triple.Call.{calls-at}
 use denote.Triple.Clauses.{ensured, lasts}
 use denote.Triple.Walked.{says, ends-at}
-use Rattle.rules.specs.Limits.{maxTasks}
-use Rattle.rules.specs.Desk.{deskAnswer, desk}
+use Rattle.numbers.specs.Limits.{maxTasks}
+use Rattle.peaks.specs.Desk.{deskAnswer, desk}
 use Rattle.words.specs.Layout.{words}
 use Rattle.desk.specs.declared.TaskRecord.{TaskRecord}
 use Rattle.desk.specs.declared.DeskAnswer.{DeskAnswer}

@@ -29,7 +29,7 @@ use denote.Triple.Entry.{Vals}
 use denote.Triple.Spec.{tripleOf}
 use denote.Triple.Statement.{Contract}
 use denote.Triple.Walked.{Stays, stay-none-slice, gave-ref, walkOf}
-use Rattle.rules.specs.Desk.{StepRecord}
+use Rattle.peaks.specs.Desk.{StepRecord}
 use Rattle.words.specs.Layout.{words}
 use Rattle.desk.specs.declared.TaskRecord.{TaskRecord}
 use Rattle.desk.proofs.Columns.{filled}

@@ -82,7 +82,7 @@ use denote.Ref.{RefT}
 use denote.Slice.{Room}
 use denote.Struct.Laws as LL
 use denote.Triple.Statement.{Triple}
-use Rattle.rules.specs.Limits.{maxTasks}
+use Rattle.numbers.specs.Limits.{maxTasks}
 use Rattle.desk.specs.declared.TaskRecord.{TaskRecord}
 use Rattle.desk.proofs.Columns.{blank, filled, length-filled, filled-next}
 use Rattle.desk.proofs.Arrays.{word-put}

@@ -4,7 +4,7 @@ use Prim.Native.Nat.{_-_}
 use native.Mathlib.Omega.{arith}
 use lib.ListN.{length}
 use borrow.Author.Tests.{not-true, not-false}
-use Rattle.rules.specs.Grounds.{within}
+use Rattle.numbers.specs.Sums.{within}
 use Rattle.desk.proofs.Listing.{Tested, tested-none, tested-next, tested-not, tested-all}
 use Rattle.desk.proofs.room.is_listed.Statement.{statement}
 use Rattle.desk.proofs.room.is_listed.Tie as tie

@@ -3,7 +3,7 @@ use mathlib.Core.Path.{refl}
 use Prim.Native.Nat.{_-_, _≤_}
 use native.Mathlib.Omega.{arith}
 use lib.ListN.{length}
-use Rattle.rules.specs.Limits.{maxTasks}
+use Rattle.numbers.specs.Limits.{maxTasks}
 use Rattle.desk.proofs.Ranking.{Writing, writing-none, writing-task, writing-next, writing-all}
 use Rattle.desk.proofs.room.write_order.Statement.{statement}
 use Rattle.desk.proofs.room.write_order.Tie as tie

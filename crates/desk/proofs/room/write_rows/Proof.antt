@@ -4,7 +4,7 @@ use mathlib.Core.Bool.{false≢true}
 use Prim.Native.Nat.{_-_, _≤_}
 use native.Mathlib.Omega.{arith}
 use borrow.Author.Tests.{not-true, not-false}
-use Rattle.rules.specs.Limits.{maxTasks}
+use Rattle.numbers.specs.Limits.{maxTasks}
 use Rattle.desk.proofs.Rowing.{Rowing, rowing-none, rowing-at, rowing-next, rowing-stray, rowing-all}
 use Rattle.desk.proofs.room.write_rows.Statement.{statement}
 use Rattle.desk.proofs.room.write_rows.Tie as tie

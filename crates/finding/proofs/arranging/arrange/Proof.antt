@@ -2,9 +2,9 @@
 use mathlib.Core.Path.{_≡_, _∙_}
 use Prim.Native.Nat.{_-_, _≤_}
 use native.Mathlib.Omega.{arith}
-use Rattle.rules.specs.Lists.{at}
+use Rattle.numbers.specs.Lists.{at}
 use Rattle.words.specs.Contents.{contents}
-use Rattle.finding.specs.Scratch.{queue, field}
+use Rattle.children.specs.Scratch.{queue, field}
 use Rattle.finding.proofs.Turns.{ArrangedFrom, arranged-none, may-join, arranged-next, arranged-all}
 use Rattle.finding.proofs.arranging.arrange.Statement.{statement}
 use Rattle.finding.proofs.arranging.arrange.Tie as tie

@@ -1,7 +1,7 @@
 -- `write_order` meets its contract: the first k tasks of the order are written.
 use Prim.Native.Nat.{_-_, _≤_}
 use native.Mathlib.Omega.{arith}
-use Rattle.rules.specs.Limits.{maxTasks}
+use Rattle.numbers.specs.Limits.{maxTasks}
 use Rattle.finding.proofs.Written.{WrittenTo, written-none, as-long, written-low, written-next, written-all}
 use Rattle.finding.proofs.arranging.write_order.Statement.{statement}
 use Rattle.finding.proofs.arranging.write_order.Tie as tie

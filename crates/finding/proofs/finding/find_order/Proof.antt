@@ -2,9 +2,9 @@
 use mathlib.Core.Path.{_≡_, sym, _∙_}
 use Prim.Native.Nat.{_≤_}
 use borrow.Author.Needs.{needs}
-use Rattle.rules.specs.Lists.{at}
+use Rattle.numbers.specs.Lists.{at}
 use Rattle.rules.specs.Phase
-use Rattle.rules.specs.Peak.{roots}
+use Rattle.tree.specs.Tree.{roots}
 use Rattle.words.specs.Contents.{contents}
 use Rattle.answer.proofs.Unwritten.{unwritten}
 use Rattle.finding.proofs.Told.{may-find, told-early, told-several, told-refused, told-found}

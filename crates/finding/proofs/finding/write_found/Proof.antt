@@ -1,7 +1,7 @@
 -- `write_found` meets its contract.
 use mathlib.Core.Path.{_≡_, _∙_}
 use borrow.Author.Needs.{needs}
-use Rattle.finding.specs.Scratch.{queue, field}
+use Rattle.children.specs.Scratch.{queue, field}
 use Rattle.finding.proofs.Whole.{may-arrange, same-root, may-write, found-written}
 use Rattle.finding.proofs.finding.write_found.Statement.{statement}
 use Rattle.finding.proofs.finding.write_found.Tie as tie

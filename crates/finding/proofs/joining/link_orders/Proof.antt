@@ -1,10 +1,10 @@
 -- `link_orders` meets its contract: the orders of the children passed are linked.
 use native.Mathlib.Omega.{arith}
 use lib.ListN.{length}
-use Rattle.rules.specs.Sums.{Task}
-use Rattle.rules.specs.Limits.{maxTasks}
-use Rattle.finding.specs.Joining.{linkedFrom}
-use Rattle.finding.proofs.Walking.{walking-task}
+use Rattle.numbers.specs.Sums.{Task}
+use Rattle.numbers.specs.Limits.{maxTasks}
+use Rattle.children.specs.Linked.{linkedFrom}
+use Rattle.children.proofs.Walking.{walking-task}
 use Rattle.finding.proofs.Linking.{Linking, linking-none, linking-low, linking-next, linking-less, linking-end}
 use Rattle.finding.proofs.joining.link_orders.Statement.{statement}
 use Rattle.finding.proofs.joining.link_orders.Tie as tie

@@ -3,14 +3,14 @@ use mathlib.Core.Path.{_≡_, _∙_, ap}
 use Prim.Native.Nat.{ℕ, _+_, max}
 use native.Mathlib.Omega.{arith}
 use lib.ListN.{length}
-use Rattle.rules.specs.Sums.{Task}
-use Rattle.rules.specs.Lists.{at}
-use Rattle.rules.specs.Limits.{maxTasks}
+use Rattle.numbers.specs.Sums.{Task}
+use Rattle.numbers.specs.Lists.{at}
+use Rattle.numbers.specs.Limits.{maxTasks}
 use Rattle.words.specs.Layout.{chilled}
 use Rattle.words.specs.Contents.{contents}
-use Rattle.finding.specs.Joining.{linkedFrom}
+use Rattle.children.specs.Linked.{linkedFrom}
 use Rattle.survey.proofs.Reading.{work-at, out-at}
-use Rattle.finding.proofs.Walking.{walking-task, walking-falls}
+use Rattle.children.proofs.Walking.{walking-task, walking-falls}
 use Rattle.finding.proofs.Weighing.{Weighing, weighing-none, weighing-fits, weighing-next, weighing-end, weighing-last}
 use Rattle.finding.proofs.joining.subtree_peak.Statement.{statement}
 use Rattle.finding.proofs.joining.subtree_peak.Tie as tie

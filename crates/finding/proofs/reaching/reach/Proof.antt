@@ -1,7 +1,7 @@
 -- `reach` meets its contract: the queue has the children of the tasks passed.
 use Prim.Native.Nat.{_-_}
 use native.Mathlib.Omega.{arith}
-use Rattle.rules.specs.Lists.{at}
+use Rattle.numbers.specs.Lists.{at}
 use Rattle.words.specs.Contents.{contents}
 use Rattle.finding.proofs.Reached.{Reaching, reaching-none, reaching-few, may-append, reaching-next, reaching-all}
 use Rattle.finding.proofs.reaching.reach.Statement.{statement}

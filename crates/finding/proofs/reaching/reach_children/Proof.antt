@@ -1,8 +1,8 @@
 -- `reach_children` meets its contract: the children passed stand in the queue.
 use native.Mathlib.Omega.{arith}
 use lib.ListN.{length}
-use Rattle.finding.specs.Joining.{linkedFrom}
-use Rattle.finding.proofs.Walking.{walking-task}
+use Rattle.children.specs.Linked.{linkedFrom}
+use Rattle.children.proofs.Walking.{walking-task}
 use Rattle.finding.proofs.Queueing.{Queueing, queueing-none, queueing-room, queueing-next, queueing-less, queueing-end}
 use Rattle.finding.proofs.reaching.reach_children.Statement.{statement}
 use Rattle.finding.proofs.reaching.reach_children.Tie as tie

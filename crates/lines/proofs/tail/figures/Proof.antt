@@ -1,6 +1,6 @@
 -- `lines::tail::figures` meets its contract: the nine pieces, one behind the other, are the definition's.
 use borrow.Author.Needs.{needs}
-use Rattle.rules.specs.Text.{ascii, figures}
+use Rattle.texts.specs.Text.{ascii, figures}
 use Rattle.put.proofs.Pieces.{_then_, kept}
 use Rattle.lines.proofs.tail.figures.Statement.{statement}
 use Rattle.lines.proofs.tail.figures.Tie as tie

@@ -5,7 +5,7 @@ use Prim.Native.Nat.{ℕ}
 use native.Mathlib.Omega.{arith}
 use borrow.Author.Needs.{needs}
 use lib.ListN.{length}
-use Rattle.rules.specs.Text.{ascii, spaced, listed}
+use Rattle.texts.specs.Text.{ascii, spaced, listed}
 use Rattle.lines.proofs.tail.listed.Statement.{statement}
 use Rattle.lines.proofs.tail.listed.Tie as tie
 

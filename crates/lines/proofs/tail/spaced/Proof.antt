@@ -5,7 +5,7 @@ use Prim.Native.Nat.{ℕ, _-_, _≤_}
 use borrow.Author.Needs.{needs}
 use lib.ListN.{length, take}
 use lib.Seq.{take-all}
-use Rattle.rules.specs.Text.{spaced}
+use Rattle.texts.specs.Text.{spaced}
 use Rattle.put.specs.Put.{Put}
 use Rattle.put.proofs.Pieces.{nothing, turn, kept}
 use Rattle.lines.proofs.tail.spaced.Statement.{statement}

@@ -1,7 +1,7 @@
 -- `lines::tail::start` meets its contract.
 use mathlib.Core.List.{append-nil}
 use borrow.Author.Needs.{needs}
-use Rattle.rules.specs.Text.{ascii, spaced}
+use Rattle.texts.specs.Text.{ascii, spaced}
 use Rattle.put.proofs.Pieces.{_then_}
 use Rattle.lines.proofs.tail.start.Statement.{statement}
 use Rattle.lines.proofs.tail.start.Tie as tie

@@ -1,7 +1,7 @@
 -- `position::Position::fed` meets its contract.
 use mathlib.Core.Path.{refl}
 use borrow.Author.Needs.{needs}
-use Rattle.rules.specs.Printer.{fed}
+use Rattle.texts.specs.Printer.{fed}
 use Rattle.position.proofs.Position.fed.Statement.{statement}
 use Rattle.position.proofs.Position.fed.Tie as tie
 

@@ -1,7 +1,7 @@
 -- `printing::accepted::accepted_line` meets its contract: each arm writes what the definition has for its command.
 use mathlib.Core.Path.{_∙_}
 use borrow.Author.Needs.{needs}
-use Rattle.rules.specs.Text.{line}
+use Rattle.texts.specs.Text.{line}
 use Rattle.printing.proofs.Printed.{as-text, no-text, of-refused, of-read, of-begin, of-done, of-places, no-tasks, of-fetch}
 use Rattle.printing.proofs.accepted.accepted_line.Statement.{statement}
 use Rattle.printing.proofs.accepted.accepted_line.Tie as tie

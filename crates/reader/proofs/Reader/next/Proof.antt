@@ -35,7 +35,7 @@ use denote.Triple.Table.{entered, cited}
 use denote.Triple.Walked.{says, Stays, stay-none, walkOf, goes-none, Walks, ends-at, walked, walk-meets}
 use denote.Exit.{yes}
 use denote.Triple.Clauses.{ensured, lasts}
-use Rattle.rules.specs.Command as rules
+use Rattle.format.specs.Command as rules
 use Rattle.codec.specs.Meaning.{decoded}
 use Rattle.reader.specs.declared.Reader.{Reader}
 use Rattle.codec.specs.declared.Decoded.{Decoded}

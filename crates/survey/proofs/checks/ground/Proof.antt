@@ -1,7 +1,7 @@
 -- `ground` meets its contract: the checks are done in their order.
 use mathlib.Core.Path.{_≡_, sym, _∙_}
-use Rattle.rules.specs.Lists.{at}
-use Rattle.rules.specs.Peak.{roots}
+use Rattle.numbers.specs.Lists.{at}
+use Rattle.tree.specs.Tree.{roots}
 use Rattle.words.specs.Contents.{contents}
 use Rattle.survey.proofs.Grounds.{ground-roots, ground-late, ground-none}
 use Rattle.survey.proofs.checks.ground.Statement.{statement}

@@ -4,7 +4,7 @@ use Prim.Native.Nat.{ℕ, _+_, _*_}
 use native.Mathlib.Omega.{arith}
 use borrow.Author.Needs.{needs}
 use borrow.Author.Tests.{eq-eqb, ne-eqb}
-use Rattle.rules.specs.Lists.{at}
+use Rattle.numbers.specs.Lists.{at}
 use Rattle.words.specs.Layout.{row}
 use Rattle.words.specs.Contents.{contents}
 use Rattle.survey.specs.Checks.{isLate}

@@ -2,7 +2,7 @@
 use mathlib.Core.Path.{sym, _∙_}
 use Prim.Native.Nat.{_+_, _-_}
 use native.Mathlib.Omega.{arith}
-use Rattle.rules.specs.Lists.{at}
+use Rattle.numbers.specs.Lists.{at}
 use Rattle.words.specs.Contents.{contents}
 use Rattle.survey.specs.Checks.{isLate}
 use Rattle.survey.proofs.Counting.{CountedTo, counted-none, counted-yes, counted-no, counted-all}

@@ -4,8 +4,8 @@ use Prim.Native.Nat.{_+_, _-_}
 use native.Mathlib.Omega.{arith}
 use lib.Dec.{eqb}
 use borrow.Author.Tests.{eq-eqb, ne-eqb}
-use Rattle.rules.specs.Lists.{at}
-use Rattle.rules.specs.Peak.{roots}
+use Rattle.numbers.specs.Lists.{at}
+use Rattle.tree.specs.Tree.{roots}
 use Rattle.words.specs.Contents.{contents}
 use Rattle.survey.proofs.Reading.{parent-at}
 use Rattle.survey.proofs.Counting.{CountedTo, counted-none, counted-yes, counted-no, counted-all}

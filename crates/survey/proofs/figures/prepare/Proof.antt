@@ -2,7 +2,7 @@
 use mathlib.Core.Path.{_≡_}
 use Prim.Native.Nat.{_-_, _<_}
 use native.Mathlib.Omega.{arith}
-use Rattle.rules.specs.Kind.{chilled}
+use Rattle.books.specs.Kind.{chilled}
 use Rattle.words.specs.Contents.{contents}
 use Rattle.words.proofs.Contents.{lengths}
 use Rattle.survey.proofs.Weighing.{WeighedTo, weighed-none, weigh-may, weighed-next}

@@ -2,8 +2,8 @@
 use mathlib.Core.Path.{_≡_, _∙_}
 use Prim.Native.Nat.{_+_, _-_, _≤_}
 use native.Mathlib.Omega.{arith}
-use Rattle.rules.specs.Lists.{at}
-use Rattle.rules.specs.Limits.{maxTasks}
+use Rattle.numbers.specs.Lists.{at}
+use Rattle.numbers.specs.Limits.{maxTasks}
 use Rattle.words.specs.Contents.{contents, storeContents}
 use Rattle.survey.proofs.Reading.{parent-at, out-at}
 use Rattle.survey.proofs.Feeding.{Feeding, fed-none, fed-next, fed-all}

@@ -3,11 +3,11 @@ use mathlib.Core.Path.{_≡_, sym, _∙_}
 use Prim.Native.Nat.{_-_, _*_, _^_, _≤_}
 use native.Mathlib.Omega.{arith}
 use lib.ListN.{length}
-use Rattle.rules.specs.Sums.{Task}
-use Rattle.rules.specs.Lists.{at}
-use Rattle.rules.specs.Limits.{maxTasks}
-use Rattle.rules.specs.Need.{children}
-use Rattle.rules.proofs.Peaks.{kept}
+use Rattle.numbers.specs.Sums.{Task}
+use Rattle.numbers.specs.Lists.{at}
+use Rattle.numbers.specs.Limits.{maxTasks}
+use Rattle.tree.specs.Tree.{children}
+use Rattle.tree.proofs.Peaks.{kept}
 use Rattle.words.specs.Contents.{contents, storeContents}
 use Rattle.words.proofs.Contents.{lengths}
 use Rattle.survey.specs.Level.{meant}

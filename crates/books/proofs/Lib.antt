@@ -1,0 +1,17 @@
+pub mod EachStore
+pub mod Branches
+pub mod Shape
+pub mod Balance
+pub mod Giving
+pub mod Activating
+pub mod Starting
+pub mod Climbing
+pub mod Finishing
+pub mod Usage
+pub mod Progress
+pub mod Entries
+pub mod Ahead
+pub mod Waiting
+pub mod Starts
+pub mod Sharing
+pub mod Questions

@@ -1,0 +1,4 @@
+pub mod Kind
+pub mod Standing
+pub mod Booking
+pub mod Invariant

@@ -1,0 +1,5 @@
+pub mod Tests
+pub mod Sums
+pub mod Counts
+pub mod Lowest
+pub mod Places

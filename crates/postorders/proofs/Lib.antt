@@ -1,0 +1,17 @@
+pub mod Sorting
+pub mod Siblings
+pub mod Exchange
+pub mod Subtrees
+pub mod Nested
+pub mod Keeping
+pub mod TakenApart
+pub mod Groups
+pub mod TogetherOrders
+pub mod FinishedOrders
+pub mod Levels
+pub mod Costs
+pub mod BestOrder
+pub mod Taking
+pub mod Ascending
+pub mod FoundOrder
+pub mod Find

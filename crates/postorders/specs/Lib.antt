@@ -1,0 +1,3 @@
+pub mod Postorder
+pub mod Find
+pub mod FindHolds

@@ -1,0 +1,9 @@
+pub mod Orders
+pub mod Turns
+pub mod Peaks
+pub mod Ranks
+pub mod Tree
+pub mod Children
+pub mod Roots
+pub mod Trolley
+pub mod Concatenated

@@ -1,0 +1,4 @@
+pub mod Tree
+pub mod Need
+pub mod Peak
+pub mod Tasks

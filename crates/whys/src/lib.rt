@@ -1,0 +1,2 @@
+// Why a step is not starting. This crate has no function: what a reader must
+// believe is specs/, and what is proved of it is proofs/.

@@ -1,0 +1,5 @@
+pub mod Computing
+pub mod Marked
+pub mod Worked
+pub mod WorkedOrder
+pub mod WorkedStream
