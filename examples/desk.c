@@ -1,7 +1,7 @@
-/* The planners' desk through libdesk.a, from C:
+/* The planners' desk, from C:
 
-       rt staticlib desk
-       cc -Iinclude examples/desk.c target/staticlib/libdesk.a -o target/desk && target/desk
+       rt staticlib cephlouk
+       cc -Iinclude examples/desk.c target/staticlib/libcephlouk.a -o target/desk && target/desk
 
    It asks how many places a plan needs at its peak and which step needs them, in one activation order and in another. The lists are only
    read. */
@@ -21,12 +21,12 @@ static const uint16_t orders[][TASKS] = {
     {1, 2, 4}, /* there is no 4 */
 };
 
-/* words to work in */
-static uint32_t room[CEPHLOUK_PLAN_WORDS];
+/* a plan to work in */
+static struct cephlouk_plan room;
 
 static void tell(const uint16_t *order, size_t length)
 {
-    struct cephlouk_desk_answer answer = cephlouk_desk_peak(records, TASKS, order, length, room);
+    struct cephlouk_desk_answer answer = cephlouk_records_peak(records, TASKS, order, length, &room);
     for (size_t i = 0; i < length; i++)
         printf("%d ", order[i]);
     if (answer.number == CEPHLOUK_ACCEPTED)

@@ -11,16 +11,19 @@
 #include <stdlib.h>
 #include <string.h>
 
-enum { LINE = 1000, FIELDS = 3, COMMAND = 8 };
+enum { LINE = 1000, FIELDS = 3 };
 
 /* How many steps of an order are told on one line, so that none is too long to be typed back. */
 enum { PER_LINE = 16 };
 
-/* A number of a command: the word ahead of it, none in a list, and its bytes. */
+/* A number of a command: the word ahead of it, none in a list, and where it stands. */
 struct field {
     const char *word;
-    size_t width;
+    size_t place, width;
 };
+
+#define FIELD(word, name) {word, offsetof(struct cephlouk_command, name), sizeof((struct cephlouk_command *)0)->name}
+#define NO_FIELD {NULL, 0, 0}
 
 /* A command as a line of text. In a list each number is a command. */
 struct form {
@@ -31,15 +34,17 @@ struct form {
 };
 
 static const struct form forms[] = {
-    {"plan", "plan steps N stations N places N", 0, CEPHLOUK_PLAN, {{"steps", 2}, {"stations", 1}, {"places", 4}}},
-    {"step", "step [N:] parent N work N out N", 0, CEPHLOUK_STEP, {{"parent", 2}, {"work", 2}, {"out", 2}}},
-    {"activation", "activation N ...", 1, CEPHLOUK_ACTIVATION, {{NULL, 2}}},
-    {"execution", "execution N ...", 1, CEPHLOUK_EXECUTION, {{NULL, 2}}},
-    {"begin", "begin", 0, CEPHLOUK_BEGIN, {{NULL, 0}}},
-    {"done", "done N ...", 1, CEPHLOUK_DONE, {{NULL, 2}}},
-    {"fetch", "fetch", 0, CEPHLOUK_FETCH, {{NULL, 0}}},
-    {"places", "places N", 0, CEPHLOUK_PLACES, {{NULL, 4}}},
-    {NULL, NULL, 0, 0, {{NULL, 0}}},
+    {"plan", "plan steps N stations N places N", 0, CEPHLOUK_PLAN,
+     {FIELD("steps", steps), FIELD("stations", stations), FIELD("places", places)}},
+    {"step", "step [N:] parent N work N out N", 0, CEPHLOUK_STEP,
+     {FIELD("parent", parent), FIELD("work", work), FIELD("out", out)}},
+    {"activation", "activation N ...", 1, CEPHLOUK_ACTIVATION, {FIELD(NULL, step)}},
+    {"execution", "execution N ...", 1, CEPHLOUK_EXECUTION, {FIELD(NULL, step)}},
+    {"begin", "begin", 0, CEPHLOUK_BEGIN, {NO_FIELD}},
+    {"done", "done N ...", 1, CEPHLOUK_DONE, {FIELD(NULL, step)}},
+    {"fetch", "fetch", 0, CEPHLOUK_FETCH, {NO_FIELD}},
+    {"places", "places N", 0, CEPHLOUK_PLACES, {FIELD(NULL, places)}},
+    {NULL, NULL, 0, 0, {NO_FIELD}},
 };
 
 static const char *const grounds[] = {
@@ -65,15 +70,17 @@ static int is_refused(uint8_t number)
 }
 
 /* Gives a plan one command and tells what comes of it. */
-static void give(uint32_t *plan, const uint8_t *command, size_t length)
+static void give(struct cephlouk_plan *plan, struct cephlouk_command command)
 {
+    uint8_t bytes[CEPHLOUK_MOST_COMMAND_BYTES];
     uint16_t starts[CEPHLOUK_LEAST_STARTS];
-    struct cephlouk_answer answer = cephlouk_command(plan, command, length, 0, starts, CEPHLOUK_LEAST_STARTS);
+    struct cephlouk_wrote wrote = cephlouk_encode(command, bytes, sizeof bytes);
+    struct cephlouk_answer answer = cephlouk_plan_command(plan, bytes, wrote.count, 0, starts, CEPHLOUK_LEAST_STARTS);
     if (is_refused(answer.number))
         return;
-    if (command[0] == CEPHLOUK_BEGIN)
+    if (command.byte == CEPHLOUK_BEGIN)
         printf("peak %lu by step %d, ", (unsigned long)answer.peak, answer.by);
-    if (command[0] == CEPHLOUK_BEGIN || command[0] == CEPHLOUK_DONE || command[0] == CEPHLOUK_PLACES) {
+    if (command.byte == CEPHLOUK_BEGIN || command.byte == CEPHLOUK_DONE || command.byte == CEPHLOUK_PLACES) {
         printf("start");
         for (size_t k = 0; k < answer.starts; k++)
             printf(" %d", starts[k]);
@@ -81,19 +88,19 @@ static void give(uint32_t *plan, const uint8_t *command, size_t length)
     }
 }
 
-static void tell(const uint32_t *plan)
+static void tell(const struct cephlouk_plan *plan)
 {
-    struct cephlouk_counts counts = cephlouk_standing(plan);
+    struct cephlouk_counts counts = cephlouk_plan_standing(plan);
     printf("%s: %lu trays booked, %lu in use, %lu thousandths full; steps: %lu wait, %lu booked, %lu run, %lu ended\n",
-           phases[cephlouk_phase(plan)], (unsigned long)cephlouk_booked(plan), (unsigned long)cephlouk_in_use(plan),
-           (unsigned long)cephlouk_fullness(plan), (unsigned long)counts.waiting, (unsigned long)counts.activated,
+           phases[cephlouk_plan_phase(plan)], (unsigned long)cephlouk_plan_booked(plan), (unsigned long)cephlouk_plan_in_use(plan),
+           (unsigned long)cephlouk_plan_fullness(plan), (unsigned long)counts.waiting, (unsigned long)counts.activated,
            (unsigned long)counts.running, (unsigned long)counts.finished);
 }
 
 /* Tells why a step is not starting. */
-static void explain(const uint32_t *plan, uint16_t step)
+static void explain(const struct cephlouk_plan *plan, uint16_t step)
 {
-    struct cephlouk_reason reason = cephlouk_why(plan, step);
+    struct cephlouk_reason reason = cephlouk_plan_why(plan, step);
     if (is_refused(reason.number))
         return;
     printf("step %d ", step);
@@ -116,10 +123,10 @@ static void explain(const uint32_t *plan, uint16_t step)
 }
 
 /* Tells a good activation order. */
-static void find(const uint32_t *plan)
+static void find(const struct cephlouk_plan *plan)
 {
     uint16_t order[CEPHLOUK_MAX_TASKS];
-    struct cephlouk_wrote wrote = cephlouk_find_order(plan, order, CEPHLOUK_MAX_TASKS);
+    struct cephlouk_wrote wrote = cephlouk_plan_find_order(plan, order, CEPHLOUK_MAX_TASKS);
     if (is_refused(wrote.number))
         return;
     for (size_t k = 0; k < wrote.count; k++) {
@@ -131,10 +138,10 @@ static void find(const uint32_t *plan)
 }
 
 /* Tells the bytes of the plan, written back out. */
-static void write_out(const uint32_t *plan)
+static void write_out(const struct cephlouk_plan *plan)
 {
     static uint8_t bytes[CEPHLOUK_MOST_BYTES];
-    struct cephlouk_wrote wrote = cephlouk_write(plan, bytes, sizeof bytes);
+    struct cephlouk_wrote wrote = cephlouk_plan_write(plan, bytes, sizeof bytes);
     if (is_refused(wrote.number))
         return;
     printf("%lu bytes:", (unsigned long)wrote.count);
@@ -143,45 +150,56 @@ static void write_out(const uint32_t *plan)
     printf("\n");
 }
 
-/* Adds a number of so many bytes, lowest first; a dash is 0. It fails where the word is no such number. */
-static int add_number(uint8_t *bytes, size_t width, const char *word)
+/* Reads a number of so many bytes; a dash is 0. It fails where the word is no such number. */
+static int read_number(uint32_t *number, size_t width, const char *word)
 {
-    unsigned long long number = 0;
+    unsigned long long read = 0;
     if (word == NULL || (strcmp(word, "-") != 0 && word[strspn(word, "0123456789")] != '\0'))
         return 0;
     if (strcmp(word, "-") != 0)
-        number = strtoull(word, NULL, 10);
-    if (number >> (8 * width) != 0)
-        return 0;
-    for (size_t k = 0; k < width; k++)
-        bytes[k] = (uint8_t)(number >> (8 * k));
-    return 1;
+        read = strtoull(word, NULL, 10);
+    *number = (uint32_t)read;
+    return read >> (8 * width) == 0;
 }
 
-/* Reads one command, `word` being the next word of its line: its length, or 0 where a word is wrong. */
-static size_t read_command(const struct form *form, char **word, uint8_t *command)
+/* Puts a number into a field of a command. */
+static void put_number(struct cephlouk_command *command, const struct field *field, uint32_t number)
 {
-    size_t length = 1;
-    command[0] = form->byte;
+    unsigned char *place = (unsigned char *)command + field->place;
+    uint16_t half = (uint16_t)number;
+    if (field->width == sizeof number)
+        memcpy(place, &number, sizeof number);
+    else if (field->width == sizeof half)
+        memcpy(place, &half, sizeof half);
+    else
+        *place = (unsigned char)number;
+}
+
+/* Reads one command, `word` being the next word of its line. It fails where a word is wrong. */
+static int read_command(const struct form *form, char **word, struct cephlouk_command *command)
+{
+    memset(command, 0, sizeof *command);
+    command->byte = form->byte;
     for (size_t k = 0; k < FIELDS && form->fields[k].width > 0; k++) {
         const struct field *field = &form->fields[k];
+        uint32_t number;
         if (field->word != NULL) {
             if (*word == NULL || strcmp(*word, field->word) != 0)
                 return 0;
             *word = next_word();
         }
-        if (!add_number(command + length, field->width, *word))
+        if (!read_number(&number, field->width, *word))
             return 0;
+        put_number(command, field, number);
         *word = next_word();
-        length += field->width;
     }
-    return length;
+    return 1;
 }
 
 /* The commands of a line, whose first word was read. */
-static void obey(uint32_t *plan, const char *first)
+static void obey(struct cephlouk_plan *plan, const char *first)
 {
-    uint8_t command[COMMAND];
+    struct cephlouk_command command;
     const struct form *form = forms;
     char *word = next_word();
     while (form->word != NULL && strcmp(first, form->word) != 0)
@@ -193,35 +211,34 @@ static void obey(uint32_t *plan, const char *first)
     if (form->byte == CEPHLOUK_STEP && word != NULL && strchr(word, ':') != NULL)
         word = next_word(); /* a step may say its number, for whoever reads it */
     do {
-        size_t length = read_command(form, &word, command);
-        if (length == 0 || (word != NULL && !form->is_list)) {
+        if (!read_command(form, &word, &command) || (word != NULL && !form->is_list)) {
             printf("write: %s\n", form->pattern);
             return;
         }
-        give(plan, command, length);
+        give(plan, command);
     } while (word != NULL);
 }
 
 /* The questions of a line, each about a step. */
-static void explain_all(const uint32_t *plan)
+static void explain_all(const struct cephlouk_plan *plan)
 {
-    uint8_t step[2];
+    uint32_t step;
     char *word = next_word();
     do {
-        if (!add_number(step, sizeof step, word)) {
+        if (!read_number(&step, sizeof(uint16_t), word)) {
             printf("write: why N ...\n");
             return;
         }
-        explain(plan, (uint16_t)(step[0] | step[1] << 8));
+        explain(plan, (uint16_t)step);
         word = next_word();
     } while (word != NULL);
 }
 
 int main(void)
 {
-    static uint32_t plan[CEPHLOUK_PLAN_WORDS], copy[CEPHLOUK_PLAN_WORDS];
+    static struct cephlouk_plan plan, copy;
     char line[LINE];
-    cephlouk_empty(plan);
+    cephlouk_plan_empty(&plan);
     while (fgets(line, sizeof line, stdin) != NULL) {
         char *word;
         if (strchr(line, '\n') == NULL && !feof(stdin)) {
@@ -231,18 +248,18 @@ int main(void)
         line[strcspn(line, "#")] = '\0';
         word = strtok(line, " \t\r\n");
         if (word != NULL && strcmp(word, "ask") == 0) {
-            tell(plan);
+            tell(&plan);
         } else if (word != NULL && strcmp(word, "why") == 0) {
-            explain_all(plan);
+            explain_all(&plan);
         } else if (word != NULL && strcmp(word, "find") == 0) {
-            find(plan);
+            find(&plan);
         } else if (word != NULL && strcmp(word, "write") == 0) {
-            write_out(plan);
+            write_out(&plan);
         } else if (word != NULL && strcmp(word, "if") == 0 && (word = next_word()) != NULL) {
-            memcpy(copy, plan, sizeof plan);
-            obey(copy, word);
+            copy = plan;
+            obey(&copy, word);
         } else if (word != NULL) {
-            obey(plan, word);
+            obey(&plan, word);
         }
         fflush(stdout);
     }

@@ -2,7 +2,8 @@
 
 use crate::refusal::Refusal;
 
-/// An accepted command.
+/// An accepted command. More may be told of one in later versions.
+#[non_exhaustive]
 #[derive(Clone, Copy, Debug, PartialEq, Eq)]
 pub struct Accepted<'a> {
     /// The bytes of the command; the next one may stand behind them.
@@ -51,6 +52,7 @@ pub struct Wrote {
 
 impl Wrote {
     /// Why nothing was written, if it was refused.
+    #[must_use]
     pub fn refusal(&self) -> Option<Refusal> {
         Refusal::of_number(self.number)
     }
@@ -66,6 +68,7 @@ impl Wrote {
 
 impl Answer {
     /// Why the command was refused, if it was.
+    #[must_use]
     pub fn refusal(&self) -> Option<Refusal> {
         Refusal::of_number(self.number)
     }

@@ -1,6 +1,6 @@
 //! The planners' desk.
 
-use crate::exported::cephlouk_desk_peak;
+use crate::exported;
 use crate::plan::Plan;
 use crate::refusal::Refusal;
 
@@ -39,6 +39,16 @@ pub struct DeskPeak {
 /// assert_eq!(desk_peak(&records, &[2, 1, 3]), Ok(DeskPeak { peak: 10, by: 1 }));
 /// assert_eq!(desk_peak(&records, &[1, 3, 2]), Err(Refusal::ParentFirst));
 /// ```
+///
+/// # Errors
+///
+/// [`Refusal::OutsideLimits`] for lists of unequal lengths, of none or of too many
+/// entries, and for a number outside its limits; then [`Refusal::Repeated`],
+/// [`Refusal::NotOneRoot`] and [`Refusal::ParentFirst`].
+///
+/// # Panics
+///
+/// Where the library that was linked is of another version.
 pub fn desk_peak(records: &[TaskRecord], activation: &[u16]) -> Result<DeskPeak, Refusal> {
     let room = vec![0; Plan::WORDS].into_boxed_slice();
     let mut room: Box<[u32; Plan::WORDS]> = room.try_into().expect("as many words as a plan has");
@@ -47,15 +57,24 @@ pub fn desk_peak(records: &[TaskRecord], activation: &[u16]) -> Result<DeskPeak,
 
 /// The same, in words that the caller has: they may hold anything, and are all
 /// 0 afterwards.
+///
+/// # Errors
+///
+/// Those of [`desk_peak`].
+///
+/// # Panics
+///
+/// As [`desk_peak`] does.
 pub fn desk_peak_in(
     records: &[TaskRecord],
     activation: &[u16],
     room: &mut [u32; Plan::WORDS],
 ) -> Result<DeskPeak, Refusal> {
+    exported::test_number();
     // SAFETY: two lists, each as a pointer and a length, are only read, and the
     // words are as many as a plan has.
     let answer = unsafe {
-        cephlouk_desk_peak(
+        exported::cephlouk_records_peak(
             records.as_ptr(),
             records.len(),
             activation.as_ptr(),

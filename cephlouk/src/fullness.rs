@@ -15,7 +15,13 @@ use crate::exported;
 /// assert_eq!(fullness(8, 0), 0);
 /// assert_eq!(fullness(u32::MAX - 1, u32::MAX), 999);
 /// ```
+///
+/// # Panics
+///
+/// Where the library that was linked is of another version.
+#[must_use]
 pub fn fullness(booked: u32, places: u32) -> u32 {
+    exported::test_number();
     // SAFETY: the function takes and answers plain numbers.
-    unsafe { exported::cephlouk_fullness_of(booked, places) }
+    unsafe { exported::cephlouk_thousandths(booked, places) }
 }

@@ -5,7 +5,8 @@
 //! written back out, and finds a good activation order for its steps. A panel
 //! that has no plan asks [`fullness`] of two numbers.
 //!
-//! A command is one byte and operands of fixed width, lowest byte first:
+//! A plan is given a [`Command`] by its name. What is stored and sent is its
+//! bytes, one and operands of fixed width, lowest byte first:
 //!
 //! | byte | operands | meaning |
 //! |---|---|---|
@@ -21,19 +22,19 @@
 //! Two salads go into one bowl, and the cold room has 7 places:
 //!
 //! ```
-//! use cephlouk::{Phase, Plan, Reason, Refusal};
+//! use cephlouk::{Command, Phase, Plan, Reason, Refusal};
 //!
 //! let mut plan = Plan::new();
-//! plan.command(&[0x01, 3, 0, 2, 7, 0, 0, 0])?; // 3 steps, 2 stations, 7 places
-//! plan.command(&[0x02, 3, 0, 5, 0, 1, 0])?; // step 1 feeds 3, work 5, out 1
-//! plan.command(&[0x02, 3, 0, 5, 0, 1, 0])?; // step 2 too
-//! plan.command(&[0x02, 0, 0, 0, 0, 1, 0])?; // step 3 is the last
+//! plan.apply(Command::Plan { steps: 3, stations: 2, places: 7 })?;
+//! plan.apply(Command::Step { parent: 3, work: 5, out: 1 })?;
+//! plan.apply(Command::Step { parent: 3, work: 5, out: 1 })?;
+//! plan.apply(Command::Step { parent: 0, work: 0, out: 1 })?;
 //! for step in 1..=3 {
-//!     plan.command(&[0x03, step, 0])?;
-//!     plan.command(&[0x04, step, 0])?;
+//!     plan.apply(Command::Activation(step))?;
+//!     plan.apply(Command::Execution(step))?;
 //! }
 //!
-//! let begun = plan.command(&[0x05])?;
+//! let begun = plan.apply(Command::Begin)?;
 //! assert_eq!((begun.peak, begun.by), (7, 2)); // 7 places, while step 2 runs
 //! assert_eq!(begun.starts, [1]);
 //! assert_eq!(plan.booked(), 6);
@@ -41,30 +42,31 @@
 //!
 //! // Step 2 has to wait: it lacks 5 places. What is refused changes nothing.
 //! assert_eq!(plan.why(2), Ok(Reason::NotBooked { first: 2, lack: 5 }));
-//! assert_eq!(plan.command(&[0x06, 2, 0]), Err(Refusal::NotRunning));
+//! assert_eq!(plan.apply(Command::Done(2)), Err(Refusal::NotRunning));
 //!
 //! // With a shelf more it starts at once. The shelf cannot go while it is booked,
 //! // nor may there ever be fewer places than the peak.
-//! assert_eq!(plan.command(&[0x08, 12, 0, 0, 0])?.starts, [2]);
-//! assert_eq!(plan.command(&[0x08, 11, 0, 0, 0]), Err(Refusal::BoundBelowBooked));
-//! assert_eq!(plan.command(&[0x08, 6, 0, 0, 0]), Err(Refusal::PeakAboveBound));
+//! assert_eq!(plan.apply(Command::Places(12))?.starts, [2]);
+//! assert_eq!(plan.apply(Command::Places(11)), Err(Refusal::BoundBelowBooked));
+//! assert_eq!(plan.apply(Command::Places(6)), Err(Refusal::PeakAboveBound));
 //!
-//! assert_eq!(plan.command(&[0x06, 1, 0])?.starts, []);
-//! assert_eq!(plan.command(&[0x08, 7, 0, 0, 0])?.starts, []); // the shelf is out again
+//! assert_eq!(plan.apply(Command::Done(1))?.starts, []);
+//! assert_eq!(plan.apply(Command::Places(7))?.starts, []); // the shelf is out again
 //! assert_eq!(plan.fullness(), 1000);
-//! assert_eq!(plan.command(&[0x06, 2, 0])?.starts, [3]);
-//! assert_eq!(plan.command(&[0x06, 3, 0])?.starts, []);
+//! assert_eq!(plan.apply(Command::Done(2))?.starts, [3]);
+//! assert_eq!(plan.apply(Command::Done(3))?.starts, []);
 //!
 //! // The bowl keeps its tray until it is fetched.
 //! assert_eq!(plan.phase(), Phase::Ready);
 //! assert_eq!(plan.booked(), 1);
-//! plan.command(&[0x07])?;
+//! plan.apply(Command::Fetch)?;
 //! assert_eq!(plan.phase(), Phase::Over);
 //! assert_eq!(plan.booked(), 0);
 //! # Ok::<(), Refusal>(())
 //! ```
 
 mod answer;
+mod command;
 mod desk;
 mod exported;
 mod fullness;
@@ -74,9 +76,15 @@ mod reason;
 mod refusal;
 
 pub use answer::{Accepted, Answer, Wrote};
+pub use command::{Command, Encoded};
 pub use desk::{desk_peak, desk_peak_in, DeskPeak, TaskRecord};
 pub use fullness::fullness;
 pub use phase::{Phase, Standing};
 pub use plan::Plan;
 pub use reason::Reason;
 pub use refusal::Refusal;
+
+/// The Rust in docs/EMBEDDING.md, tried as the examples here are.
+#[cfg(doctest)]
+#[doc = include_str!("../../docs/EMBEDDING.md")]
+struct Embedding;

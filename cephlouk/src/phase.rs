@@ -1,6 +1,7 @@
 //! Phases and standings.
 
-/// The phase of a plan.
+/// The phase of a plan. Later versions may have more.
+#[non_exhaustive]
 #[derive(Clone, Copy, Debug, PartialEq, Eq, Hash)]
 pub enum Phase {
     /// No plan was opened.
@@ -27,7 +28,8 @@ impl Phase {
             2 => Phase::Orders,
             3 => Phase::Running,
             4 => Phase::Over,
-            _ => Phase::Ready,
+            5 => Phase::Ready,
+            _ => unreachable!("the library tells no phase {number}"),
         }
     }
 }

@@ -2,7 +2,9 @@
 
 use crate::refusal::Refusal;
 
-/// What keeps a step from starting, the first that is true in this order.
+/// What keeps a step from starting, the first that is true in this order. Later
+/// versions may have more.
+#[non_exhaustive]
 #[derive(Clone, Copy, Debug, PartialEq, Eq, Hash)]
 pub enum Reason {
     /// It has ended.

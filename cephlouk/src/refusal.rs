@@ -7,13 +7,16 @@ use std::fmt::{Display, Formatter, Result};
 /// changed then.
 ///
 /// ```
-/// use cephlouk::{Plan, Refusal};
+/// use cephlouk::{Command, Plan, Refusal};
 ///
-/// let refusal = Plan::new().command(&[0x05]).unwrap_err();
+/// let refusal = Plan::new().apply(Command::Begin).unwrap_err();
 /// assert_eq!(refusal, Refusal::OutOfTurn);
 /// assert_eq!(refusal.number(), 3);
 /// assert_eq!(refusal.to_string(), "not in turn");
 /// ```
+///
+/// Later versions may have more.
+#[non_exhaustive]
 #[derive(Clone, Copy, Debug, PartialEq, Eq, Hash)]
 #[repr(u8)]
 pub enum Refusal {
@@ -70,6 +73,7 @@ impl Refusal {
     ];
 
     /// Its number, 1 to 13.
+    #[must_use]
     pub fn number(self) -> u8 {
         self as u8
     }

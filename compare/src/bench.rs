@@ -36,6 +36,19 @@ fn main() {
         readings,
         programs,
     );
+    print_command(programs::times_of_command());
+}
+
+/// What the command for planners takes.
+fn print_command([run, drawn]: [[f64; 2]; 2]) {
+    for (what, aim, [user, system]) in [
+        ("a day of 1,024 steps from text, by the command", 10, run),
+        ("its picture as a page", 100, drawn),
+    ] {
+        println!(
+            "| {what}, mean of {RUNS} runs | at most {aim} ms | {user:.1} ms, and {system:.1} ms of the system |"
+        );
+    }
 }
 
 /// How the figures come about.

@@ -1,8 +1,8 @@
 //! A day printer's program fed with streams and plan texts, beside what the
 //! peer prints.
 
+use kitchen::text::stream;
 use peer::listening::{listen, PATIENCE};
-use peer::plan_text::Translator;
 use std::fs::File;
 use std::io::{ErrorKind, Write};
 use std::process::{Child, ChildStdin, Command, Stdio};
@@ -11,9 +11,9 @@ use std::thread;
 use std::time::Duration;
 
 const PROVED: &str = concat!(env!("CARGO_MANIFEST_DIR"), "/../target/bin/printer");
-const PLAN_TEXT: &str = concat!(
+const KITCHEN: &str = concat!(
     env!("CARGO_MANIFEST_DIR"),
-    "/../peer/target/release/plan-text"
+    "/../kitchen/target/release/cephlouk"
 );
 
 /// After a piece, so that the next one comes by itself.
@@ -29,6 +29,16 @@ pub struct Program {
 /// The proved one.
 pub const PRINTER: Program = Program {
     command: || Command::new(PROVED),
+    patience: PATIENCE,
+};
+
+/// The command for planners, printing as the proved one does.
+pub const COMMAND: Program = Program {
+    command: || {
+        let mut command = Command::new(KITCHEN);
+        command.args(["run", "--plain"]);
+        command
+    },
     patience: PATIENCE,
 };
 
@@ -69,21 +79,19 @@ pub fn in_pieces(program: &Program, pieces: &[&[u8]]) -> Option<Difference> {
     printer.answers(input, pieces)
 }
 
-/// Types a plan text into `plan-text` line by line, the printer behind it, and
-/// waits after each line for the printer's answer.
+/// Types a plan text line by line into a program that reads it, and waits after
+/// each line for the answer.
 pub fn typed(program: &Program, text: &str) -> Option<Difference> {
-    let mut plan_text = start(&mut Command::new(PLAN_TEXT), Stdio::piped());
-    let input = plan_text.stdin.take().expect("a pipe to write to");
-    let between = plan_text.stdout.take().expect("a pipe to read from");
-    let mut translator = Translator::default();
+    let mut printer = Printer::start(program, Stdio::piped());
+    let input = printer.child.stdin.take().expect("a pipe to write to");
+    let (mut typed, mut known) = (String::new(), 0);
     let lines = text.split_inclusive('\n').map(|line| {
-        let bytes = translator.line(line).expect("a line of a plan text");
+        typed += line;
+        let bytes = stream(&typed).0.split_off(known);
+        known += bytes.len();
         (line.as_bytes(), bytes)
     });
-    let difference = Printer::start(program, between.into()).answers(input, lines);
-    let status = plan_text.wait().expect("plan-text ends");
-    assert!(status.success(), "plan-text ends well: {status}");
-    difference
+    printer.answers(input, lines)
 }
 
 /// Gives the printer a stream as a file, so that each read is as long as the

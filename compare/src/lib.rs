@@ -1,9 +1,12 @@
 //! What the comparisons share: inputs, both sides of each, and how a
 //! difference is told.
 
+pub mod activation;
 pub mod answered;
 pub mod bounds;
 pub mod clock;
+pub mod commanding;
+pub mod commands;
 pub mod day;
 pub mod feeding;
 pub mod fence;
@@ -23,6 +26,7 @@ pub mod records;
 #[cfg(test)]
 mod stand_in;
 pub mod streams;
+pub mod synthetic;
 pub mod table;
 pub mod tally;
 pub mod tool;

@@ -1,9 +1,8 @@
 //! The day printer beside the peer's: `printer [STREAMS]`, 2,000 unless it says
 //! otherwise. Both get the same streams, and must print the same bytes: at once,
-//! in pieces, as a file, and with another day fed after a refusal. The plan
-//! texts of examples/ are typed line by line, with `plan-text` in between.
+//! in pieces, as a file, and with another day fed after a refusal.
 
-use compare::feeding::{expected, from_file, in_pieces, typed, Difference, PRINTER};
+use compare::feeding::{expected, from_file, in_pieces, Difference, PRINTER};
 use compare::streams::{another_day, streams};
 use peer::generate::{stream, Random};
 use std::process::ExitCode;
@@ -17,15 +16,6 @@ const FEW_BYTES: usize = 9;
 /// The sizes of the largest pieces of a long stream: many are whole at once, or
 /// fill the printer's room more than once.
 const LARGE_PIECES: [usize; 3] = [5_000, 30_000, 100_000];
-
-const TEXTS: [(&str, &str); 3] = [
-    ("plan-a.plan", include_str!("../../examples/plan-a.plan")),
-    ("lunch.plan", include_str!("../../examples/lunch.plan")),
-    (
-        "breakfast.plan",
-        include_str!("../../examples/breakfast.plan"),
-    ),
-];
 
 /// What was compared.
 #[derive(Default)]
@@ -95,9 +85,6 @@ impl Tally {
     }
 
     fn compare(&mut self, count: u64) -> Result<(), (String, Difference)> {
-        for (name, text) in TEXTS {
-            check(typed(&PRINTER, text), || format!("{name}, typed"))?;
-        }
         for (name, bytes) in streams() {
             self.compare_made(name, &bytes)?;
         }
@@ -140,15 +127,14 @@ fn main() -> ExitCode {
     }
     println!(
         "printer: {count} streams, the same {} lines, {} of them of FETCH and {} of 08, {} refusals, {} with another day fed behind; \
-         {} streams in pieces too; {} long ones as files; {} texts typed",
+         {} streams in pieces too; {} long ones as files",
         tally.lines,
         tally.fetched,
         tally.places,
         tally.refusals,
         tally.after_refusals,
         tally.in_pieces,
-        tally.as_files,
-        TEXTS.len()
+        tally.as_files
     );
     ExitCode::SUCCESS
 }

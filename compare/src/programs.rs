@@ -1,14 +1,19 @@
-//! The day printer and the peer's program, timed on one long stream.
+//! The day printer and the peer's program, timed on one long stream, and the command
+//! for planners on the text of a day.
 
+use crate::commanding::text_of;
 use crate::day::Day;
 use peer::generate::Shape;
 use peer::Plan;
 use std::fs::File;
-use std::path::Path;
 use std::process::{Command, Stdio};
 
 const PRINTER: &str = concat!(env!("CARGO_MANIFEST_DIR"), "/../target/bin/printer");
 const PEER: &str = concat!(env!("CARGO_MANIFEST_DIR"), "/../peer/target/release/peer");
+const KITCHEN: &str = concat!(
+    env!("CARGO_MANIFEST_DIR"),
+    "/../kitchen/target/release/cephlouk"
+);
 
 /// How many commands the stream has, at least.
 pub const COMMANDS: usize = 200_000;
@@ -25,12 +30,38 @@ pub fn times() -> [Times; 2] {
     let mut times = [[0.0; 2]; 2];
     for _ in 0..RUNS {
         for (program, times) in [PRINTER, PEER].into_iter().zip(&mut times) {
-            let [user, system] = run(program, &path);
+            let input = File::open(&path).expect("the file of the stream");
+            let [user, system] = run(Command::new(program).stdin(input));
             times[0] += user / f64::from(RUNS);
             times[1] += system / f64::from(RUNS);
         }
     }
     std::fs::remove_file(&path).expect("the file goes");
+    times
+}
+
+/// The times of the command on the text of a day of the most tasks: run, and drawn as
+/// a page.
+pub fn times_of_command() -> [Times; 2] {
+    let folder = std::env::temp_dir();
+    let path = folder.join(format!("bench-{}.plan", std::process::id()));
+    let page = path.with_extension("html");
+    let day = Day::new(Shape::Random, Plan::TASKS, 4, 2);
+    std::fs::write(&path, text_of(&day.bytes)).expect("a file of the text");
+    let mut times = [[0.0; 2]; 2];
+    for _ in 0..RUNS {
+        let mut asked = [Command::new(KITCHEN), Command::new(KITCHEN)];
+        asked[0].arg("run").arg(&path);
+        asked[1].arg("picture").arg(&path).arg("-o").arg(&page);
+        for (command, times) in asked.iter_mut().zip(&mut times) {
+            let [user, system] = run(command);
+            times[0] += user / f64::from(RUNS);
+            times[1] += system / f64::from(RUNS);
+        }
+    }
+    for file in [path, page] {
+        std::fs::remove_file(file).expect("the file goes");
+    }
     times
 }
 
@@ -49,15 +80,12 @@ fn stream() -> Vec<u8> {
     stream
 }
 
-/// Runs a program on a file and drops what it prints.
-fn run(program: &str, input: &Path) -> Times {
+/// Runs a program and drops what it prints.
+fn run(command: &mut Command) -> Times {
     let before = of_children();
-    let status = Command::new(program)
-        .stdin(File::open(input).expect("the file of the stream"))
-        .stdout(Stdio::null())
-        .status()
-        .unwrap_or_else(|error| panic!("{program}: {error}"));
-    assert!(status.success(), "{program} ends well: {status}");
+    let status = command.stdout(Stdio::null()).status();
+    let status = status.unwrap_or_else(|error| panic!("{command:?}: {error}"));
+    assert!(status.success(), "{command:?} ends well: {status}");
     let after = of_children();
     [after[0] - before[0], after[1] - before[1]]
 }

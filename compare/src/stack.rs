@@ -46,15 +46,15 @@ impl Depths {
             place += used;
             self.note_questions(plan);
         }
-        self.note("cephlouk_command, refused", || {
+        self.note("cephlouk_plan_command, refused", || {
             black_box(plan.command_with(&day.bytes, place, &mut starts));
         });
         let mut list = vec![0; Plan::MOST_BYTES];
-        self.note("cephlouk_write", || {
+        self.note("cephlouk_plan_write", || {
             black_box(plan.write(&mut list)).expect("a written plan");
         });
         let mut order = [0; Plan::MAX_TASKS];
-        self.note("cephlouk_find_order", || {
+        self.note("cephlouk_plan_find_order", || {
             black_box(plan.find_order(&mut order)).expect("an order");
         });
     }
@@ -78,29 +78,45 @@ impl Depths {
     }
 
     fn note_questions(&mut self, plan: &Plan) {
-        self.note("cephlouk_phase", || {
+        self.note("cephlouk_plan_phase", || {
             black_box(plan.phase());
         });
-        self.note("cephlouk_booked", || {
+        self.note("cephlouk_plan_booked", || {
             black_box(plan.booked());
         });
-        self.note("cephlouk_in_use", || {
+        self.note("cephlouk_plan_in_use", || {
             black_box(plan.in_use());
         });
-        self.note("cephlouk_fullness", || {
+        self.note("cephlouk_plan_fullness", || {
             black_box(plan.fullness());
         });
-        self.note("cephlouk_fullness_of", || {
+        self.note("cephlouk_thousandths", || {
             black_box(fullness(black_box(u32::MAX - 1), u32::MAX));
         });
-        self.note("cephlouk_standing", || {
+        self.note("cephlouk_plan_standing", || {
             black_box(plan.standing());
         });
         for task in [1, Plan::MAX_TASKS as u16] {
-            self.note("cephlouk_why", || {
+            self.note("cephlouk_plan_why", || {
                 let _ = black_box(plan.why(task));
             });
         }
+    }
+
+    /// PLAN made bytes of, and read from them: no command has more.
+    fn note_bytes(&mut self) {
+        let command = black_box(cephlouk::Command::Plan {
+            steps: 1,
+            stations: 1,
+            places: 1,
+        });
+        self.note("cephlouk_encode", || {
+            black_box(command.encode());
+        });
+        let bytes = command.encode();
+        self.note("cephlouk_decode", || {
+            black_box(cephlouk::Command::decode(&bytes)).expect("a command");
+        });
     }
 
     /// A star of the most tasks, at the desk.
@@ -116,7 +132,7 @@ impl Depths {
         records[Plan::MAX_TASKS - 1].parent = 0;
         let activation: Vec<u16> = (1..=Plan::MAX_TASKS as u16).collect();
         let mut room = Box::new([0; Plan::WORDS]);
-        self.note("cephlouk_desk_peak", || {
+        self.note("cephlouk_records_peak", || {
             black_box(desk_peak_in(&records, &activation, &mut room)).expect("a peak");
         });
     }
@@ -124,14 +140,14 @@ impl Depths {
 
 fn name(byte: u8) -> &'static str {
     match byte {
-        0x01 => "cephlouk_command, PLAN",
-        0x02 => "cephlouk_command, STEP",
-        0x03 => "cephlouk_command, 03",
-        0x04 => "cephlouk_command, 04",
-        0x05 => "cephlouk_command, BEGIN",
-        0x06 => "cephlouk_command, DONE",
-        0x07 => "cephlouk_command, FETCH",
-        _ => "cephlouk_command, 08",
+        0x01 => "cephlouk_plan_command, PLAN",
+        0x02 => "cephlouk_plan_command, STEP",
+        0x03 => "cephlouk_plan_command, 03",
+        0x04 => "cephlouk_plan_command, 04",
+        0x05 => "cephlouk_plan_command, BEGIN",
+        0x06 => "cephlouk_plan_command, DONE",
+        0x07 => "cephlouk_plan_command, FETCH",
+        _ => "cephlouk_plan_command, 08",
     }
 }
 
@@ -164,7 +180,8 @@ fn depths() -> Depths {
         depths.note_one_order(&day);
         depths.note_bound(&day);
     }
-    depths.note("cephlouk_empty", || plan.clear());
+    depths.note("cephlouk_plan_empty", || plan.clear());
+    depths.note_bytes();
     depths.note_desk();
     depths
 }

@@ -5,10 +5,12 @@
 
 mod desk;
 mod find;
+mod named;
 mod why;
 mod write;
 mod written;
 
+use compare::commands::compare_commands;
 use compare::lists::Desk;
 use compare::orders::FindOrder;
 use compare::pairs::compare_readings;
@@ -21,7 +23,11 @@ use std::process::ExitCode;
 type Comparison = fn(u64) -> Result<String, String>;
 
 /// Each tool.
-const TOOLS: [(&str, Comparison); 5] = [
+const TOOLS: [(&str, Comparison); 6] = [
+    ("commands", |cases| {
+        compare_commands(named::read, cases)?;
+        Ok(format!("{cases} lists of bytes, the same commands"))
+    }),
     ("desk", |cases| {
         compare::<Desk>(desk::peak, cases).map(|tally| answers(cases, &tally))
     }),

@@ -24,5 +24,6 @@ fn told(reason: Result<cephlouk::Reason, Refusal>) -> Reason {
         Ok(cephlouk::Reason::NotBooked { first, lack }) => Reason::NotBooked { first, lack },
         Ok(cephlouk::Reason::Unfed(child)) => Reason::Unfed(child),
         Ok(cephlouk::Reason::NoProcessor) => Reason::NoProcessor,
+        Ok(other) => unreachable!("the peer has no {other:?}"),
     }
 }

@@ -31,7 +31,6 @@ mod peak;
 mod phase;
 mod places;
 mod plan;
-pub mod plan_text;
 mod postorder;
 pub mod printer;
 mod record;

@@ -9,11 +9,12 @@ use std::io;
 const LEAD: &str = "\
 Written by `make guarantees` from the crates, as they stand there; `make test` fails where this page is stale. Each wrong edit that the check must
 refuse, with the function or the statement whose text it changes. The last column is the first line of the edit's comment: what is right, or what the
-edit gets wrong. `make test` tries those of its name, `make edits` all.";
+edit gets wrong. `make test` tries those of its name, some in a group that shares a check, `make edits` all, each by itself.";
 
 /// Who tries the edits of a folder.
-const TRIED: [(&str, &str); 2] = [
+const TRIED: [(&str, &str); 3] = [
     ("must-fail", "`make test`"),
+    ("must-fail/grouped", "`make test`, in a group"),
     ("must-fail/more", "`make edits`"),
 ];
 
@@ -89,8 +90,10 @@ pub fn page(tree: &Tree) -> io::Result<Page> {
 fn rows(tree: &Tree, one: &Crate) -> io::Result<Vec<[String; 5]>> {
     let mut rows = Vec::new();
     for (folder, tried) in TRIED {
-        for text in files(&format!("crates/{}/{folder}", one.name), ".edit")? {
-            let edit = Edit::of(&text);
+        let mut texts = files(&format!("crates/{}/{folder}", one.name), ".edit")?;
+        texts.retain(|text| !text.stem().starts_with("group_"));
+        for text in &texts {
+            let edit = Edit::of(text);
             let aim = edit.aim(tree.text(&format!("crates/{}/{}", one.name, edit.file)))?;
             let [name, aim, file] = [edit.name, &aim, edit.file].map(|word| format!("`{word}`"));
             rows.push([name, tried.to_string(), aim, file, edit.comment.to_string()]);

@@ -1,2 +1,4 @@
 pub mod ReasonKind
 pub mod Flat
+pub mod Abi
+pub mod FlatCommand

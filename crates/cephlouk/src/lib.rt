@@ -1,4 +1,8 @@
 // The library for programs in C, C++ and Rust: a plan that the caller keeps as an array of words.
+mod abi;
+mod command;
+mod records;
+
 ghost use mathlib.Core.Path.{_≡_};
 ghost use lib.ListN.{replicate};
 ghost use Rattle.postorders.specs.Find as orders;
@@ -24,18 +28,9 @@ use reason::why;
 use words::plan::Plan;
 use writer::write;
 
-// How many words a plan has.
-#[no_mangle]
-pub extern "C" fn cephlouk_plan_words() -> usize
-    ensures { λ r. ⌜ r ≡ words ⌝ }
-{
-    let count = Plan::WORDS;
-    count
-}
-
 // The words become the empty plan.
 #[no_mangle]
-pub extern "C" fn cephlouk_empty(plan: &mut [u32; Plan::WORDS])
+pub extern "C" fn cephlouk_plan_empty(plan: &mut [u32; Plan::WORDS])
     ensures { λ _. ⌜ now (plan .exit) ≡ replicate words 0 ⌝ }
 {
     *plan = [0u32; Plan::WORDS];
@@ -43,7 +38,7 @@ pub extern "C" fn cephlouk_empty(plan: &mut [u32; Plan::WORDS])
 
 // One command, asked in bytes.
 #[no_mangle]
-pub extern "C" fn cephlouk_command(
+pub extern "C" fn cephlouk_plan_command(
     plan: &mut [u32; Plan::WORDS],
     stream: &[u8],
     place: usize,
@@ -57,7 +52,7 @@ pub extern "C" fn cephlouk_command(
 
 // "Phases: empty, steps, orders, running, over": 0 to 4.
 #[no_mangle]
-pub extern "C" fn cephlouk_phase(plan: &[u32; Plan::WORDS]) -> u32
+pub extern "C" fn cephlouk_plan_phase(plan: &[u32; Plan::WORDS]) -> u32
     ensures { λ r. ⌜ r ≡ planOf (now (plan .entry)) .phase ⌝ }
 {
     phase(plan)
@@ -66,7 +61,7 @@ pub extern "C" fn cephlouk_phase(plan: &[u32; Plan::WORDS]) -> u32
 // "Booked trays, trays in use and fullness can be asked of the plan at any time, and are 0 outside
 // running."
 #[no_mangle]
-pub extern "C" fn cephlouk_booked(plan: &[u32; Plan::WORDS]) -> u32
+pub extern "C" fn cephlouk_plan_booked(plan: &[u32; Plan::WORDS]) -> u32
     requires { ⌜ ValidPlan (now plan) ⌝ }
     ensures { λ r. ⌜ r ≡ questions.booked (planOf (now (plan .entry))) ⌝ }
 {
@@ -74,7 +69,7 @@ pub extern "C" fn cephlouk_booked(plan: &[u32; Plan::WORDS]) -> u32
 }
 
 #[no_mangle]
-pub extern "C" fn cephlouk_in_use(plan: &[u32; Plan::WORDS]) -> u32
+pub extern "C" fn cephlouk_plan_in_use(plan: &[u32; Plan::WORDS]) -> u32
     requires { ⌜ ValidPlan (now plan) ⌝ }
     ensures { λ r. ⌜ r ≡ questions.inUse (planOf (now (plan .entry))) ⌝ }
 {
@@ -82,7 +77,7 @@ pub extern "C" fn cephlouk_in_use(plan: &[u32; Plan::WORDS]) -> u32
 }
 
 #[no_mangle]
-pub extern "C" fn cephlouk_fullness(plan: &[u32; Plan::WORDS]) -> u32
+pub extern "C" fn cephlouk_plan_fullness(plan: &[u32; Plan::WORDS]) -> u32
     requires { ⌜ ValidPlan (now plan) ⌝ }
     ensures { λ r. ⌜ r ≡ questions.fullness (planOf (now (plan .entry))) ⌝ }
 {
@@ -92,7 +87,7 @@ pub extern "C" fn cephlouk_fullness(plan: &[u32; Plan::WORDS]) -> u32
 // "Fullness of b in M, both 32-bit", of any two numbers and no plan. No number in it is wider than 32
 // bits, as the maker of a door panel asks of code that draws.
 #[no_mangle]
-pub extern "C" fn cephlouk_fullness_of(booked: u32, bound: u32) -> u32
+pub extern "C" fn cephlouk_thousandths(booked: u32, bound: u32) -> u32
     ensures { λ r. ⌜ r ≡ questions.fullnessOf booked bound ⌝ }
 {
     measure::fullness(booked, bound)
@@ -105,7 +100,7 @@ pub struct Standing {
 }
 
 #[no_mangle]
-pub extern "C" fn cephlouk_standing(plan: &[u32; Plan::WORDS]) -> Standing
+pub extern "C" fn cephlouk_plan_standing(plan: &[u32; Plan::WORDS]) -> Standing
     requires { ⌜ ValidPlan (now plan) ⌝ }
     ensures { λ r. ⌜ r .counts ≡ questions.standing (planOf (now (plan .entry))) ⌝ }
 {
@@ -171,7 +166,7 @@ fn flatten(reason: Reason) -> FlatReason
 
 // "Given a step in the running phase, the tool says the first that is true".
 #[no_mangle]
-pub extern "C" fn cephlouk_why(plan: &[u32; Plan::WORDS], task: u16) -> FlatReason
+pub extern "C" fn cephlouk_plan_why(plan: &[u32; Plan::WORDS], task: u16) -> FlatReason
     requires { ⌜ ValidPlan (now plan) ⌝ }
     ensures { λ r. ⌜ r ≡ flat (reasons.why (planOf (now (plan .entry))) task) ⌝ }
 {
@@ -181,7 +176,7 @@ pub extern "C" fn cephlouk_why(plan: &[u32; Plan::WORDS], task: u16) -> FlatReas
 
 // "Write a plan back out": to the front of a lent list of bytes, which a refusal leaves as it was.
 #[no_mangle]
-pub extern "C" fn cephlouk_write(plan: &[u32; Plan::WORDS], list: &mut [u8]) -> Wrote
+pub extern "C" fn cephlouk_plan_write(plan: &[u32; Plan::WORDS], list: &mut [u8]) -> Wrote
     requires { ⌜ ValidPlan (now plan) ⌝ }
     ensures { λ r. ⌜ wroteOf r (now (list .exit)) ≡ writing.write (planOf (now (plan .entry))) (now (list .entry)) ⌝ }
 {
@@ -191,7 +186,7 @@ pub extern "C" fn cephlouk_write(plan: &[u32; Plan::WORDS], list: &mut [u8]) -> 
 // "Find a good activation order": to the front of a lent list of step numbers, which a refusal leaves as
 // it was.
 #[no_mangle]
-pub extern "C" fn cephlouk_find_order(plan: &[u32; Plan::WORDS], list: &mut [u16]) -> Wrote
+pub extern "C" fn cephlouk_plan_find_order(plan: &[u32; Plan::WORDS], list: &mut [u16]) -> Wrote
     requires { ⌜ ValidPlan (now plan) ⌝ }
     ensures { λ r. ⌜ wroteOf r (now (list .exit)) ≡ orders.findOrder (planOf (now (plan .entry))) (now (list .entry)) ⌝ }
 {

@@ -118,15 +118,9 @@ fn assess(
 }
 
 // "The planners' desk may ask the peak of its own list of step records, one record a step, with an
-// activation list beside it. .. Both lists are only read." For C and Rust each list is a pointer and
-// a length. The rows of a plan are laid out in the room that the caller lends; whatever was there,
-// it is left empty.
-#[no_mangle]
-pub extern "C" fn cephlouk_desk_peak(
-    records: &[TaskRecord],
-    activation: &[u16],
-    room: &mut [u32; Plan::WORDS],
-) -> DeskAnswer
+// activation list beside it. .. Both lists are only read." The rows of a plan are laid out in the room
+// that the caller lends; whatever was there, it is left empty.
+pub fn peak(records: &[TaskRecord], activation: &[u16], room: &mut [u32; Plan::WORDS]) -> DeskAnswer
     ensures { λ r. ⌜ (desk (stepRecords (now (records .entry))) (now (activation .entry))
         ≡ answerOf r) × (now (room .exit) ≡ replicate words 0) ⌝ }
 {

@@ -8,7 +8,6 @@ use crate::plan_a;
 use crate::printer::printed;
 use crate::watch::Watch;
 use peer::generate::{askings, many_askings, stream, Asking};
-use peer::plan_text::to_bytes;
 use peer::{desk_peak, Answer, Plan};
 
 /// A plan, what its accepted commands say, and what was seen of its peaks.
@@ -152,14 +151,6 @@ fn begin_lines() {
 }
 
 #[test]
-fn begin_lines_of_the_examples() {
+fn the_begin_line_of_plan_a() {
     assert_eq!(check_lines(&hex(plan_a::BYTES)), 1);
-    for text in [
-        include_str!("../../../examples/plan-a.plan"),
-        include_str!("../../../examples/breakfast.plan"),
-        include_str!("../../../examples/lunch.plan"),
-        include_str!("../../../examples/cleaning.plan"),
-    ] {
-        assert_eq!(check_lines(&to_bytes(text).unwrap()), 1);
-    }
 }
