@@ -15,9 +15,9 @@ use Rattle.tree.specs.Need.{need}
 use Rattle.rules.specs.Phase
 use Rattle.rules.specs.State.{needs}
 use Rattle.books.specs.Booking.{Terms}
-use Rattle.rules.specs.Obey.{booksOf, termsOf}
+use Rattle.rules.specs.Obey.{books_of, terms_of}
 use Rattle.rules.specs.Reachable.{Reachable}
-use Rattle.tree.specs.Tree.{Valid, rankIn}
+use Rattle.tree.specs.Tree.{Valid, rank_in}
 use Rattle.books.specs.Invariant.{Roomy, Good}
 use Rattle.numbers.proofs.Tests.{le-or-lt}
 use Rattle.numbers.proofs.Sums.{only-true}
@@ -25,12 +25,12 @@ use Rattle.rules.proofs.InDay.{Going, still-going, needs-roomy}
 use Rattle.rules.proofs.Reaching.{lives}
 use Rattle.words.specs.Contents.{Contents}
 use Rattle.words.proofs.Contents.{Lengths}
-use Rattle.store.specs.Rows.{rows_of, books, termsIn, activationOf}
+use Rattle.store.specs.Rows.{rows_of, books, terms_in, activation_of}
 use Rattle.store.specs.Cached.{Cached}
 use Rattle.store.specs.Kept.{Kept}
 use Rattle.store.proofs.Rows.{rows_is}
 use Rattle.store.proofs.InStore.{by_kind}
-use Rattle.answer.specs.Meaning.{dayRows, meaning}
+use Rattle.answer.specs.Meaning.{day_rows, meaning}
 use Rattle.answer.specs.Sound.{Unused, Sound}
 
 -- the entries given so far are all that a column says
@@ -83,7 +83,7 @@ module _ (c : Contents) (sound : Sound c) (long : Lengths c) where
       (let f = sound.execution.few in let s = sound.small in let l = long.execution in omega arith)
 
 -- in a day its columns have an entry for each task, and one for nobody
-pub day-rows : (c : Contents) → Phase.running ≤ c.phase → dayRows c ≡ suc c.size
+pub day-rows : (c : Contents) → Phase.running ≤ c.phase → day_rows c ≡ suc c.size
 day-rows c day = only-true (leb Phase.running c.phase) (suc c.size) (le-leb Phase.running c.phase day)
 
 module _ (c : Contents) (sound : Sound c) (day : Phase.running ≤ c.phase) where
@@ -94,12 +94,12 @@ module _ (c : Contents) (sound : Sound c) (day : Phase.running ≤ c.phase) wher
   pub booked-rows : (meaning c).stores.chilled.booked ≡ rows_of c.size c.stores.chilled.booked
   booked-rows = ap (λ (r : ℕ). take r c.stores.chilled.booked) (day-rows c day)
 
-  pub books-rows : booksOf (meaning c) ≡ books c
+  pub books-rows : books_of (meaning c) ≡ books c
   books-rows = rw (day-rows c day)
 
   -- the activation order is whole
-  pub activation-meant : (meaning c).activation ≡ activationOf c
-  activation-meant = ap (λ (k : ℕ). take k c.activation) (sound.day day).ranked-all
+  pub activation-meant : (meaning c).activation ≡ activation_of c
+  activation-meant = ap (λ (k : ℕ). take k c.activation) (sound.day day).ranked_all
 
 -- its activation order holds each task once, before its parent
 pub order-valid :
@@ -107,7 +107,7 @@ pub order-valid :
     → Reachable (meaning c)
     → Sound c
     → Phase.running ≤ c.phase
-    → Valid c.size (at c.parents) (activationOf c)
+    → Valid c.size (at c.parents) (activation_of c)
 order-valid c reached sound day =
     rw (parents-meant c sound, activation-meant c sound day) at ((lives reached).day day).1.planned.valid
 
@@ -121,17 +121,17 @@ module _ (c : Contents) (sound : Sound c) (now : c.phase ≡ Phase.running) wher
 
   -- the lists of the day have for each task what the columns have
   pub standings-meant : at (meaning c).standings ≡ at c.standings
-  standings-meant = ap at (standings-rows c sound in-running) ∙ rows_is c.size c.standings cached-now.standings-zero
+  standings-meant = ap at (standings-rows c sound in-running) ∙ rows_is c.size c.standings cached-now.standings_zero
 
   -- the needs are those that were weighed
   pub needs-meant : needs (meaning c) ≡ at c.stores.chilled.needs
   needs-meant = needs-columns c sound ∙ sym (fun_ext (cached-now.stores chilled).needed)
 
   -- what booking finds of each store is what its columns have
-  pub terms-meant : termsOf (meaning c) ≡ termsIn c
+  pub terms-meant : terms_of (meaning c) ≡ terms_in c
   terms-meant =
       fun_ext
-      (by_kind (λ k. termsOf (meaning c) k ≡ termsIn c k)
+      (by_kind (λ k. terms_of (meaning c) k ≡ terms_in c k)
       (λ i. record { bound = c.stores.chilled.bound; need = needs-meant i; out = outs-meant c sound i }))
 
 -- a running plan that commands led to
@@ -162,7 +162,7 @@ module _ (c : Contents) (reached : Reachable (meaning c)) (sound : Sound c) (now
                   (subst (λ (out : ℕ → ℕ). Roomy c.size (at (meaning c).parents) (needs (meaning c)) out) (outs-meant c sound)
                   (needs-roomy (meaning c) (meaning c).stores.chilled))));
               good =
-                  subst (λ (e : Kind → Terms). Good c.size (at c.parents) (rankIn (activationOf c)) e (books c)) (terms-meant c sound now)
+                  subst (λ (e : Kind → Terms). Good c.size (at c.parents) (rank_in (activation_of c)) e (books c)) (terms-meant c sound now)
                   (rw (parents-meant c sound, activation-meant c sound day, books-rows c sound day) at going.settled.good);
             };
         cached = cached-now c sound now;

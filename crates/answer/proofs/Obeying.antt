@@ -3,13 +3,13 @@ use mathlib.Core.Path.{◌≡◌, refl, sym, ap, subst, ◌∙◌}
 use mathlib.Core.List.{List}
 use Prim.Native.Nat.{ℕ}
 use Rattle.format.specs.Command as rules
-use Rattle.rules.specs.Grounds.{ground}
+use Rattle.rules.specs.Grounds.{ground_for}
 use Rattle.rules.specs.Obey.{Outcome, plain, obey}
 use Rattle.rules.specs.Answer as answers
 use Rattle.rules.proofs.Judging.{judge-refused, judge-accepted}
 use Rattle.words.specs.Contents.{Contents, contents}
 use Rattle.answer.specs.declared.Answer.{Answer}
-use Rattle.answer.specs.Meaning.{meaning, plan_of, answeredOf}
+use Rattle.answer.specs.Meaning.{meaning, plan_of, answered_of}
 use Rattle.answer.specs.Sound.{Sound}
 use Rattle.answer.specs.ValidPlan.{Judged, Obeyed}
 
@@ -24,9 +24,9 @@ accepted used = record { number = 0; used = used; starts = 0; peak = 0; by = 0; 
 pub refuses :
     (c : Contents) (k : ℕ) (list : List ℕ) (a : Answer)
     → a ≡ refused k
-    → answeredOf a c list ≡ answers.refuse k (meaning c) list
+    → answered_of a c list ≡ answers.refuse k (meaning c) list
 unfolding answers.refuse
-refuses c k list a e = ap (λ (b : Answer). answeredOf b c list) e
+refuses c k list a e = ap (λ (b : Answer). answered_of b c list) e
 
 -- by the ground of the rules
 pub refusal :
@@ -34,7 +34,7 @@ pub refusal :
     → Sound (contents w)
     → a ≡ refused k
     → (k ≡ 0 → ⊥)
-    → ground (plan_of w) c ≡ k
+    → ground_for (plan_of w) c ≡ k
     → Obeyed w c used a w
 refusal {w = w} {c = c} {used = used} {a = a} k sound said some why list =
     record {
@@ -46,7 +46,7 @@ refusal {w = w} {c = c} {used = used} {a = a} k sound said some why list =
 -- a plain answer with the plan that the rules leave
 pub acceptance :
     {w w' : List ℕ} {c : rules.Command} {used : ℕ} {a : Answer} {left : Contents}
-    → ground (plan_of w) c ≡ 0
+    → ground_for (plan_of w) c ≡ 0
     → a ≡ accepted used
     → contents w' ≡ left
     → obey (plan_of w) c ≡ plain (meaning left)
@@ -56,8 +56,8 @@ unfolding answers.accept answers.front
 acceptance {w = w} {w' = w'} {c = c} {used = used} {a = a} none said is means sound list =
     record {
       same =
-          ap (λ (b : Answer). answeredOf b (contents w') list) said
-          ∙ ap (λ (l : Contents). answeredOf (accepted used) l list) is
+          ap (λ (b : Answer). answered_of b (contents w') list) said
+          ∙ ap (λ (l : Contents). answered_of (accepted used) l list) is
           ∙ sym
           (judge-accepted (plan_of w) c used list none
           ∙ ap (λ (o : Outcome). answers.accept o used list) means);
@@ -68,9 +68,9 @@ acceptance {w = w} {w' = w'} {c = c} {used = used} {a = a} none said is means so
 -- an accepted command that may start tasks
 pub judged :
     {w w' : List ℕ} {c : rules.Command} {used : ℕ} {list list' : List ℕ} {a : Answer}
-    → ground (plan_of w) c ≡ 0
+    → ground_for (plan_of w) c ≡ 0
     → a.number ≡ 0
-    → answeredOf a (contents w') list' ≡ answers.accept (obey (plan_of w) c) used list
+    → answered_of a (contents w') list' ≡ answers.accept (obey (plan_of w) c) used list
     → Sound (contents w')
     → Judged w c used list a w' list'
 judged {w = w} {c = c} {used = used} {list = list} none accepts same sound =

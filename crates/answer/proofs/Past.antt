@@ -35,7 +35,7 @@ module _ (c : Contents) (sound : Sound c) (reached : Reachable (meaning c)) wher
       (λ (h : Phase.orders ≤ c.phase). let g = sound.given.whole h in omega arith)
       (λ (h : c.phase < Phase.orders).
       ⊎_elim
-      (λ (s : Phase.steps ≤ c.phase). let g = sound.given.in-steps (omega arith) in omega (arith, g))
+      (λ (s : Phase.steps ≤ c.phase). let g = sound.given.in_steps (omega arith) in omega (arith, g))
       (λ (s : c.phase < Phase.steps). let g = sound.given.unopened (omega arith) in omega arith)
       (le-or-lt Phase.steps c.phase))
       (le-or-lt Phase.orders c.phase)
@@ -48,8 +48,8 @@ module _ (c : Contents) (sound : Sound c) (reached : Reachable (meaning c)) wher
   running-past now =
       let k = cached-now c sound now in
       record {
-        unended = k.unended-zero;
-        standings = k.standings-zero;
+        unended = k.unended_zero;
+        standings = k.standings_zero;
         needs =
             λ a past.
             let needed = (k.stores chilled).needed a in
@@ -59,6 +59,6 @@ module _ (c : Contents) (sound : Sound c) (reached : Reachable (meaning c)) wher
             let work = unused-past c.stores.chilled.works sound.works a past in
             let out = unused-past c.stores.chilled.outs sound.outs a past in
             omega arith;
-        booked = (k.stores chilled).booked-zero;
-        figures = (k.stores chilled).figures-zero;
+        booked = (k.stores chilled).booked_zero;
+        figures = (k.stores chilled).figures_zero;
       }

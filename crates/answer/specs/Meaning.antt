@@ -11,8 +11,8 @@ use Rattle.answer.specs.declared.Answer.{Answer}
 use Rattle.answer.specs.declared.Wrote.{Wrote}
 
 -- how many entries the columns of a day have: one for nobody and one for each task, from BEGIN on
-abbrev pub dayRows : Contents → ℕ
-dayRows c = only (leb Phase.running c.phase) (suc c.size)
+abbrev pub day_rows : Contents → ℕ
+day_rows c = only (leb Phase.running c.phase) (suc c.size)
 
 -- the plan of the rules whose lists are the entries given so far
 abbrev pub meaning : Contents → State
@@ -24,7 +24,7 @@ meaning c =
       parents = take c.given c.parents;
       activation = take c.ranked c.activation;
       execution = take c.placed c.execution;
-      standings = take (dayRows c) c.standings;
+      standings = take (day_rows c) c.standings;
       stores =
           each
           (λ k.
@@ -32,7 +32,7 @@ meaning c =
             bound = (of c.stores k).bound;
             works = take c.given (of c.stores k).works;
             outs = take c.given (of c.stores k).outs;
-            booked = take (dayRows c) (of c.stores k).booked;
+            booked = take (day_rows c) (of c.stores k).booked;
           });
     }
 
@@ -51,9 +51,9 @@ answer_of a =
     }
 
 -- an answer, with the plan and the start list afterwards
-abbrev pub answeredOf : Answer → Contents → List ℕ → rules.Answered
-answeredOf a c list = record { answer = answer_of a; state = meaning c; list = list }
+abbrev pub answered_of : Answer → Contents → List ℕ → rules.Answered
+answered_of a c list = record { answer = answer_of a; state = meaning c; list = list }
 
 -- what was written, with the lent list afterwards
-abbrev pub wroteOf : Wrote → List ℕ → writing.Wrote
-wroteOf r list = record { number = r.number; count = r.count; list = list }
+abbrev pub wrote_of : Wrote → List ℕ → writing.Wrote
+wrote_of r list = record { number = r.number; count = r.count; list = list }

@@ -1,6 +1,6 @@
 -- What holds of the words of a plan beyond their meaning: unused entries, noted places, and the figures kept of its day.
 use Rattle.std.specs.Prelude.{◌≡◌, List, ℕ, suc, ◌^◌, ◌≤◌, ◌<◌}
-use Rattle.numbers.specs.Limits.{maxTasks, maxProcessors, maxCount}
+use Rattle.numbers.specs.Limits.{max_tasks, max_processors, max_count}
 use Rattle.numbers.specs.Lists.{at}
 use Rattle.rules.specs.Phase
 use Rattle.books.specs.Booking.{total}
@@ -18,7 +18,7 @@ pub record Unused (given : ℕ) (column : List ℕ) : Type 0 where
 -- how many entries are given in each phase
 pub record Given (c : Contents) : Type 0 where
   pub unopened : c.phase ≡ Phase.empty → c.given ≡ 0
-  pub in-steps : c.phase ≡ Phase.steps → (1 ≤ c.given) × (c.given ≤ c.size)
+  pub in_steps : c.phase ≡ Phase.steps → (1 ≤ c.given) × (c.given ≤ c.size)
   pub whole : Phase.orders ≤ c.phase → c.given ≡ suc c.size
   pub some : Phase.orders ≤ c.phase → 1 ≤ c.size
 
@@ -46,18 +46,18 @@ pub record Closed (c : Contents) : Type 0 where
 
 -- what is kept of a day: all its figures while it runs
 pub record InDay (c : Contents) : Type 0 where
-  pub ranked-all : c.ranked ≡ c.size
-  pub placed-all : c.placed ≡ c.size
+  pub ranked_all : c.ranked ≡ c.size
+  pub placed_all : c.placed ≡ c.size
   pub cached : c.phase ≡ Phase.running → Cached c
   pub closed : Phase.running < c.phase → Closed c
 
 pub record Sound (c : Contents) : Type 0 where
   pub long : c.extent ≡ words
   pub named : c.phase ≤ Phase.ready
-  pub small : c.size ≤ maxTasks
-  pub few : c.processors ≤ maxProcessors
+  pub small : c.size ≤ max_tasks
+  pub few : c.processors ≤ max_processors
   pub bounded : c.stores.chilled.bound < 2 ^ 32
-  pub light : (i : ℕ) → (at c.stores.chilled.works i ≤ maxCount) × (at c.stores.chilled.outs i ≤ maxCount)
+  pub light : (i : ℕ) → (at c.stores.chilled.works i ≤ max_count) × (at c.stores.chilled.outs i ≤ max_count)
   pub parents : Unused c.given c.parents
   pub works : Unused c.given c.stores.chilled.works
   pub outs : Unused c.given c.stores.chilled.outs

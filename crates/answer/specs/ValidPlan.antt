@@ -6,7 +6,7 @@ use Rattle.rules.specs.Answer as answers
 use Rattle.words.specs.Layout.{words}
 use Rattle.words.specs.Contents.{contents}
 use Rattle.answer.specs.declared.Answer.{Answer}
-use Rattle.answer.specs.Meaning.{plan_of, answeredOf}
+use Rattle.answer.specs.Meaning.{plan_of, answered_of}
 use Rattle.answer.specs.Sound.{Sound}
 
 -- "commands led to the plan": it is what commands leave of an empty plan, and what its words keep beside agrees with it
@@ -20,7 +20,7 @@ NewPlan w = w ≡ replicate words 0
 
 -- a whole command: the answer, the plan and the start list are those of the rules, and a refused one leaves the very words
 pub record Judged (w : List ℕ) (c : rules.Command) (used : ℕ) (list : List ℕ) (a : Answer) (w' list' : List ℕ) : Type 0 where
-  pub same : answeredOf a (contents w') list' ≡ answers.judge (plan_of w) c used list
+  pub same : answered_of a (contents w') list' ≡ answers.judge (plan_of w) c used list
   pub sound : Sound (contents w')
   pub refused : (a.number ≡ 0 → ⊥) → w' ≡ w
 
@@ -30,14 +30,14 @@ Obeyed w c used a w' = (list : List ℕ) → Judged w c used list a w' list
 
 -- what was decoded, with a start list
 pub record Responded (w : List ℕ) (d : rules.Decoded) (list : List ℕ) (a : Answer) (w' list' : List ℕ) : Type 0 where
-  pub same : answeredOf a (contents w') list' ≡ answers.respond (plan_of w) d list
+  pub same : answered_of a (contents w') list' ≡ answers.respond (plan_of w) d list
   pub valid : ValidPlan w'
   pub refused : (a.number ≡ 0 → ⊥) → w' ≡ w
 
 -- any command, asked in bytes: all that its caller receives
 pub record Commanded (w : List ℕ) (asking : answers.Asking) (a : Answer) (w' list' : List ℕ) : Type 0 where
   -- the number, bytes used, starts, the peak with its task, offers, the plan and the whole start list are those of the rules
-  pub same : answeredOf a (contents w') list' ≡ answers.command (plan_of w) asking
+  pub same : answered_of a (contents w') list' ≡ answers.command (plan_of w) asking
   -- commands led to the plan that is left
   pub valid : ValidPlan w'
   -- a refused command leaves the very words

@@ -12,7 +12,7 @@ use Rattle.numbers.specs.Lists.{at}
 use Rattle.books.specs.Standing.{activated}
 use Rattle.numbers.proofs.Tests.{same_or_not}
 use Rattle.words.specs.Layout.{row, place, unended, standing}
-use Rattle.words.specs.Contents.{Contents, contents, withCell, withReady}
+use Rattle.words.specs.Contents.{Contents, contents, with_cell, with_ready}
 use Rattle.words.specs.Marks.{Marks, changed, MayChange, Changed}
 use Rattle.words.proofs.Views.{column-at}
 use Rattle.words.proofs.Contents.{contents-cell}
@@ -20,30 +20,30 @@ use Rattle.ready.proofs.Marks.{marks-same}
 use Rattle.booking.specs.Booked.{MayActivate, DidActivate}
 
 module _ (w : List ℕ) {w' : List ℕ} {x : ℕ} (may : MayActivate x (contents w)) (written : w' ≡ set w (row * x + standing) activated) where
-  pub stood : contents w' ≡ withCell standing x activated (contents w)
+  pub stood : contents w' ≡ with_cell standing x activated (contents w)
   unfolding contents
-  stood = ap contents written ∙ contents-cell w may.absent.long standing x activated (omega arith) may.task-in
+  stood = ap contents written ∙ contents-cell w may.absent.long standing x activated (omega arith) may.task_in
 
   pub unended-read : at w' (row * x + unended) ≡ at (contents w).unended x
   unfolding contents
   unended-read =
       ap (λ (l : List ℕ). at l (row * x + unended)) written
       ∙ get_or-set_other w (row * x + standing) (row * x + unended) activated 0 (λ e. omega arith)
-      ∙ column-at unended w x may.task-in
+      ∙ column-at unended w x may.task_in
 
   pub place_read : at w' (row * x + place) ≡ at (contents w).places x
   unfolding contents
   place_read =
       ap (λ (l : List ℕ). at l (row * x + place)) written
       ∙ get_or-set_other w (row * x + standing) (row * x + place) activated 0 (λ e. omega arith)
-      ∙ column-at place w x may.task-in
+      ∙ column-at place w x may.task_in
 
   marks-still : (test : ℕ → Bool) → Marks test (contents w) → Marks test (contents w')
-  unfolding withCell
+  unfolding with_cell
   marks-still test m = subst (Marks test) (sym stood) (record { marked = m.marked; filled = m.filled })
 
   pub may-insert : MayChange (at (contents w).places x) false (contents w')
-  unfolding withCell
+  unfolding with_cell
   may-insert =
       record {
         long = ap (λ (c : Contents). c.extent) stood ∙ may.absent.long;
@@ -61,7 +61,7 @@ module _ (w : List ℕ) {w' : List ℕ} {x : ℕ} (may : MayActivate x (contents
       → DidActivate x (contents w) c
   fed c none inserted =
       record {
-        same = inserted.same ∙ ap (withReady c.ready c.filled) stood;
+        same = inserted.same ∙ ap (with_ready c.ready c.filled) stood;
         marks =
             λ test m there.
             subst (λ (b : Bool). Marks (changed test (at (contents w).places x) b) c)
@@ -71,10 +71,10 @@ module _ (w : List ℕ) {w' : List ℕ} {x : ℕ} (may : MayActivate x (contents
 
   -- some have not
   pub unfed : (at (contents w).unended x ≡ 0 → ⊥) → DidActivate x (contents w) (contents w')
-  unfolding withReady
+  unfolding with_ready
   unfed some =
       record {
-        same = ap (withReady (contents w').ready (contents w').filled) stood;
+        same = ap (with_ready (contents w').ready (contents w').filled) stood;
         marks =
             λ test m there.
             marks-same

@@ -13,8 +13,8 @@ use Rattle.numbers.specs.Sums.{Task, only, within}
 use Rattle.books.specs.Kind.{Kind, each, all}
 use Rattle.numbers.specs.Lists.{at}
 use Rattle.books.specs.Standing.{waiting, activated, finished}
-use Rattle.books.specs.Booking.{Terms, Books, bookedIn, total, missing, misses, allowsIn, allows, book, ready, fed}
-use Rattle.tree.specs.Tree.{rankIn, Tree}
+use Rattle.books.specs.Booking.{Terms, Books, booked_in, total, missing, misses, allows_in, allows, book, ready, fed}
+use Rattle.tree.specs.Tree.{rank_in, Tree}
 use Rattle.books.specs.Invariant.{FirstWaiting, StockedBy, Good}
 use Rattle.numbers.proofs.Tests.{same_or_not}
 use Rattle.books.proofs.EachStore.{of-each, all_same, each_same}
@@ -27,7 +27,7 @@ use Rattle.books.proofs.Balance.{missing-is}
 use Rattle.books.proofs.Entries.{moved-by-set}
 use Rattle.books.proofs.Ahead.{book-good}
 use Rattle.words.specs.Layout.{rows}
-use Rattle.store.specs.Rows.{rows_of, booksIn}
+use Rattle.store.specs.Rows.{rows_of, books_in}
 use Rattle.store.specs.Cached.{Figured, Counted, Reached}
 use Rattle.store.specs.Store.{grown}
 use Rattle.store.specs.Kept.{DayInvariant}
@@ -40,10 +40,10 @@ use Rattle.store.proofs.Idle.{Idle}
 -- a task waits still: what is kept of the tasks, as lists
 pub record Turn (n : ℕ) (par : ℕ → ℕ) (terms : Kind → Terms) (order unended standings : List ℕ) (booked figures : Kind → List ℕ) (next : ℕ)
     (sum : Kind → ℕ) : Type 0 where
-  pub invariant : DayInvariant n par terms order (booksIn n standings booked)
+  pub invariant : DayInvariant n par terms order (books_in n standings booked)
   pub figured : (k : Kind) → Figured n par (at (rows_of n standings)) (at (rows_of n (booked k))) (figures k)
-  pub counted : Counted n par (booksIn n standings booked) unended
-  pub reached : Reached n order (booksIn n standings booked) next
+  pub counted : Counted n par (books_in n standings booked) unended
+  pub reached : Reached n order (books_in n standings booked) next
   pub totals : (k : Kind) → sum k ≡ total n (at (rows_of n (booked k)))
   pub standings-long : length standings ≡ rows
   pub booked-long : (k : Kind) → length (booked k) ≡ rows
@@ -71,10 +71,10 @@ module _ {n : ℕ} {par : ℕ → ℕ} {terms : Kind → Terms} {order unended s
   pub task : Task n x
   task = entry-task next turn.more
 
-  pub task-in : x < rows
-  task-in = let s = turn.invariant.small in let h = task.high in omega arith
+  pub task_in : x < rows
+  task_in = let s = turn.invariant.small in let h = task.high in omega arith
 
-  tree : Tree n par (rankIn order)
+  tree : Tree n par (rank_in order)
   tree = tree_of n par order turn.invariant.valid (λ i _. turn.invariant.parents i)
 
   pub parent_in : par x < rows
@@ -88,7 +88,7 @@ module _ {n : ℕ} {par : ℕ → ℕ} {terms : Kind → Terms} {order unended s
   whole = sym (take-append-drop next order) ∙ ap (λ (l : List ℕ). take next order ++ l) rest
 
   -- it is the first that waits
-  pub next-is-first : FirstWaiting n (rankIn order) (at (rows_of n standings)) x
+  pub next-is-first : FirstWaiting n (rank_in order) (at (rows_of n standings)) x
   next-is-first =
       record {
         task = task;
@@ -98,10 +98,10 @@ module _ {n : ℕ} {par : ℕ → ℕ} {terms : Kind → Terms} {order unended s
             let f = in-front n par order turn.invariant.valid (take next order) x (drop (suc next) order) whole j h in
             let size = length-take-le next order (let l = in_order in omega arith) in
             let low = place-lt j (take next order) f in
-            let found : at order (rankIn (take next order) j) ≡ j =
-            sym (get_or-take next order (rankIn (take next order) j) 0 (omega arith)) ∙ place_at j (take next order) f
+            let found : at order (rank_in (take next order) j) ≡ j =
+            sym (get_or-take next order (rank_in (take next order) j) 0 (omega arith)) ∙ place_at j (take next order) f
             in
-            turn.reached.before-next (rankIn (take next order) j) (omega arith) (ap (at (rows_of n standings)) found ∙ w);
+            turn.reached.before_next (rank_in (take next order) j) (omega arith) (ap (at (rows_of n standings)) found ∙ w);
       }
 
   pub waits : at (rows_of n standings) x ≡ waiting
@@ -110,26 +110,26 @@ module _ {n : ℕ} {par : ℕ → ℕ} {terms : Kind → Terms} {order unended s
   no-child-waits : (c : ℕ) → Task n c → par c ≡ x → at (rows_of n standings) c ≡ waiting → ⊥
   no-child-waits c t e =
       next-is-first.first c t
-      (child-before n par (rankIn order) tree (at (rows_of n standings)) turn.invariant.good.shape x c task t e)
+      (child-before n par (rank_in order) tree (at (rows_of n standings)) turn.invariant.good.shape x c task t e)
 
   -- a store as it is kept
   stock : (k : Kind) → StockedBy n par (terms k) (at (rows_of n standings)) (rows_of n (booked k))
   stock k = rw (of-each (λ d. rows_of n (booked d)) k) at (turn.invariant.good.stock k)
 
   -- what it misses by the rules
-  pub misses-it : (k : Kind) → misses n par terms (booksIn n standings booked) k x ≡ m k
+  pub misses-it : (k : Kind) → misses n par terms (books_in n standings booked) k x ≡ m k
   unfolding misses
   misses-it k =
       ap (λ (b : List ℕ). missing n par (terms k).need (at (rows_of n standings)) (at b) x) (of-each (λ d. rows_of n (booked d)) k)
-      ∙ missing-is n par (rankIn order) tree (terms k).need (terms k).out (at (rows_of n standings)) (at (rows_of n (booked k)))
+      ∙ missing-is n par (rank_in order) tree (terms k).need (terms k).out (at (rows_of n standings)) (at (rows_of n (booked k)))
       turn.invariant.good.shape [] 0 (stock k).books x task
       ∙ ap (λ (v : ℕ). (terms k).need x - v)
-      (sym (partial-figure n par (rankIn order) tree (at (rows_of n standings)) (at (rows_of n (booked k))) x task no-child-waits)
+      (sym (partial-figure n par (rank_in order) tree (at (rows_of n standings)) (at (rows_of n (booked k))) x task no-child-waits)
       ∙ sym (turn.figured k x task))
 
   -- whether it may be booked
-  pub allowed-is : all (λ k. leb (sum k + m k) (terms k).bound) ≡ allows n par terms (booksIn n standings booked) x
-  unfolding allows allowsIn
+  pub allowed-is : all (λ k. leb (sum k + m k) (terms k).bound) ≡ allows n par terms (books_in n standings booked) x
+  unfolding allows allows_in
   allowed-is =
       all_same _ _
       (λ k.
@@ -147,24 +147,24 @@ module _ {n : ℕ} {par : ℕ → ℕ} {terms : Kind → Terms} {order unended s
     abbrev figures' : Kind → List ℕ
     figures' k = grown (set (figures k) x (at (figures k) x + m k)) (par x) (at (figures k) x + m k)
 
-    allowed : allows n par terms (booksIn n standings booked) x ≡ true
+    allowed : allows n par terms (books_in n standings booked) x ≡ true
     allowed = sym allowed-is ∙ fits
 
     -- the books of the rules are those of the columns
-    pub books-are : booksIn n standings' booked' ≡ book n par terms (booksIn n standings booked) x
+    pub books-are : books_in n standings' booked' ≡ book n par terms (books_in n standings booked) x
     unfolding book
     books-are =
         let high = task.high in
-        let same : each (λ k. rows_of n (booked' k)) ≡ each (λ k. set (bookedIn (booksIn n standings booked) k) x (at (bookedIn (booksIn n standings booked) k) x + misses n par terms (booksIn n standings booked) k x)) =
+        let same : each (λ k. rows_of n (booked' k)) ≡ each (λ k. set (booked_in (books_in n standings booked) k) x (at (booked_in (books_in n standings booked) k) x + misses n par terms (books_in n standings booked) k x)) =
         each_same _ _
         (λ k.
         rows-set n (booked k) x (at (booked k) x + m k) high
         ∙ ap₂ (λ (a b : ℕ). set (rows_of n (booked k)) x (a + b)) (sym (at_rows n (booked k) x high)) (sym (misses-it k))
-        ∙ ap (λ (l : List ℕ). set l x (at l x + misses n par terms (booksIn n standings booked) k x)) (sym (of-each (λ d. rows_of n (booked d)) k)))
+        ∙ ap (λ (l : List ℕ). set l x (at l x + misses n par terms (books_in n standings booked) k x)) (sym (of-each (λ d. rows_of n (booked d)) k)))
         in
         λ i. record { standings = rows-set n standings x activated high i; booked = same i }
 
-    pub invariant-then : DayInvariant n par terms order (booksIn n standings' booked')
+    pub invariant-then : DayInvariant n par terms order (books_in n standings' booked')
     invariant-then =
         let g = turn.invariant in
         record {
@@ -174,8 +174,8 @@ module _ {n : ℕ} {par : ℕ → ℕ} {terms : Kind → Terms} {order unended s
           parents = g.parents;
           roomy = g.roomy;
           good =
-              subst (λ (b : Books). Good n par (rankIn order) terms b) (sym books-are)
-              (book-good n par order g.valid tree terms g.roomy (booksIn n standings booked) x g.good next-is-first allowed);
+              subst (λ (b : Books). Good n par (rank_in order) terms b) (sym books-are)
+              (book-good n par order g.valid tree terms g.roomy (books_in n standings booked) x g.good next-is-first allowed);
         }
 
     pub stock-then : (k : Kind) → StockedBy n par (terms k) (at (rows_of n standings')) (rows_of n (booked' k))
@@ -203,14 +203,14 @@ module _ {n : ℕ} {par : ℕ → ℕ} {terms : Kind → Terms} {order unended s
     ended_same : (c : ℕ) → Task n c → eqb (at (rows_of n standings') c) finished ≡ eqb (at (rows_of n standings) c) finished
     ended_same = same_ended moved (λ e. let w = waits in omega arith) (λ e. omega arith)
 
-    pub counted-then : Counted n par (booksIn n standings' booked') unended
+    pub counted-then : Counted n par (books_in n standings' booked') unended
     counted-then i t =
         turn.counted i t ∙ sym (unended-same n par (at (rows_of n standings)) (at (rows_of n standings')) i ended_same)
 
     -- whether it is ready, before and after, and the others
-    pub not-ready : ready n par (rows_of n standings) x ≡ false
+    pub not_ready : ready n par (rows_of n standings) x ≡ false
     unfolding ready
-    not-ready =
+    not_ready =
         ap (λ (b : Bool). b && fed n par (at (rows_of n standings)) x)
         (ne_eqb (at (rows_of n standings) x) activated (λ e. let w = waits in omega arith))
 
@@ -249,25 +249,25 @@ module _ {n : ℕ} {par : ℕ → ℕ} {terms : Kind → Terms} {order unended s
     pub figured-then : (k : Kind) → Figured n par (at (rows_of n standings')) (at (rows_of n (booked' k))) (figures' k)
     figured-then k i t =
         let z = turn.figures-long k in
-        let here = task-in in
+        let here = task_in in
         let q = parent_in in
         let l = long k in
         let outer = grown-at (set (figures k) x (at (figures k) x + m k)) (par x) (at (figures k) x + m k) i (omega arith) t.low in
         let inner = set_more (figures k) x (m k) i (omega arith) in
         let was = turn.figured k i t in
         let holds =
-        partial-booked n par (rankIn order) tree (at (rows_of n standings)) (at (rows_of n standings')) (at (rows_of n (booked k)))
+        partial-booked n par (rank_in order) tree (at (rows_of n standings)) (at (rows_of n standings')) (at (rows_of n (booked k)))
         (at (rows_of n (booked' k))) x (m k) i turn.invariant.good.shape task waits moved (gets k).there (gets k).elsewhere t
         in
         let own =
         turn.figured k x task
-        ∙ partial-figure n par (rankIn order) tree (at (rows_of n standings)) (at (rows_of n (booked k))) x task no-child-waits
+        ∙ partial-figure n par (rank_in order) tree (at (rows_of n standings)) (at (rows_of n (booked k))) x task no-child-waits
         in
         let up = ap (λ (v : ℕ). only (eqb (par x) i) (v + m k)) own in
         omega arith
 
     -- how far the order has been booked
-    pub reached_then : Reached n order (booksIn n standings' booked') (next + 1)
+    pub reached_then : Reached n order (books_in n standings' booked') (next + 1)
     reached_then =
         let r = turn.reached in
         let v = turn.invariant.valid in
@@ -275,21 +275,21 @@ module _ {n : ℕ} {par : ℕ → ℕ} {terms : Kind → Terms} {order unended s
         let more = turn.more in
         record {
           within = omega arith;
-          before-next =
+          before_next =
               λ e h w.
               ⊎_elim (λ q. let z = ap (at (rows_of n standings')) q ∙ moved.there in omega arith)
               (λ d.
               let low : e < next =
               ⊎_elim (λ (q : e ≡ next). absurd (d (ap (at order) q))) (λ q. omega arith) (same_or_not e next)
               in
-              r.before-next e low (sym (moved.elsewhere (at order e) (entry-task e (omega arith)) d) ∙ w))
+              r.before_next e low (sym (moved.elsewhere (at order e) (entry-task e (omega arith)) d) ∙ w))
               (same_or_not (at order e) x);
           from_next =
               λ e h l.
               let d : at order e ≡ x → ⊥ =
               λ q.
               let z = place_of order e v.once (let size = v.whole in omega arith) in
-              let p : rankIn order (at order e) ≡ rankIn order x = ap (rankIn order) q in
+              let p : rank_in order (at order e) ≡ rank_in order x = ap (rank_in order) q in
               omega arith
               in
               moved.elsewhere (at order e) (entry-task e l) d ∙ r.from_next e (omega arith) l;
@@ -299,12 +299,12 @@ module _ {n : ℕ} {par : ℕ → ℕ} {terms : Kind → Terms} {order unended s
     within-bound : (k : Kind) → total n (at (rows_of n (booked' k))) < 2 ^ 32
     within-bound k = let w = (stock-then k).within in let most = turn.invariant.bounded k in omega arith
 
-    pub total-fits : (k : Kind) → sum k + m k < 2 ^ 32
-    total-fits k = let e = totals-then k in let w = within-bound k in omega arith
+    pub total_fits : (k : Kind) → sum k + m k < 2 ^ 32
+    total_fits k = let e = totals-then k in let w = within-bound k in omega arith
 
-    pub booked-fits : (k : Kind) → at (booked k) x + m k < 2 ^ 32
+    pub booked_fits : (k : Kind) → at (booked k) x + m k < 2 ^ 32
     unfolding total
-    booked-fits k =
+    booked_fits k =
         let one = term-le (at (rows_of n (booked' k))) n x task in
         let new = (gets k).there in
         let same = at_rows n (booked k) x task.high in
@@ -314,15 +314,15 @@ module _ {n : ℕ} {par : ℕ → ℕ} {terms : Kind → Terms} {order unended s
     figure-small : (k : Kind) (i : ℕ) → Task n i → at (figures' k) i < 2 ^ 32
     figure-small k i t =
         let is = figured-then k i t in
-        let less = partial-le-figure n par (rankIn order) tree (at (rows_of n standings')) (at (rows_of n (booked' k))) i t in
+        let less = partial-le-figure n par (rank_in order) tree (at (rows_of n standings')) (at (rows_of n (booked' k))) i t in
         let all = figure-le-total n par (at (rows_of n (booked' k))) i in
         let w = within-bound k in
         omega arith
 
-    pub figure-fits : (k : Kind) → at (figures k) x + m k < 2 ^ 32
-    figure-fits k =
+    pub figure_fits : (k : Kind) → at (figures k) x + m k < 2 ^ 32
+    figure_fits k =
         let z = turn.figures-long k in
-        let here = task-in in
+        let here = task_in in
         let q = parent_in in
         let l = long k in
         let outer = grown-at (set (figures k) x (at (figures k) x + m k)) (par x) (at (figures k) x + m k) x (omega arith) task.low in
@@ -330,10 +330,10 @@ module _ {n : ℕ} {par : ℕ → ℕ} {terms : Kind → Terms} {order unended s
         let most = figure-small k x task in
         omega arith
 
-    pub parent-fits :
+    pub parent_fits :
         (k : Kind) → (par x ≡ 0 → ⊥) → at (set (figures k) x (at (figures k) x + m k)) (par x) + (at (figures k) x + m k) < 2 ^ 32
-    parent-fits k d =
-        let u = parent-task n par (rankIn order) tree x task d in
+    parent_fits k d =
+        let u = parent-task n par (rank_in order) tree x task d in
         let q = parent_in in
         let l = long k in
         let outer = grown-at (set (figures k) x (at (figures k) x + m k)) (par x) (at (figures k) x + m k) (par x) (omega arith) u.low in

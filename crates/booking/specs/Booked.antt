@@ -4,19 +4,19 @@ use Rattle.numbers.specs.Lists.{at}
 use Rattle.books.specs.Standing.{activated}
 use Rattle.books.specs.Booking.{allows, book, activate}
 use Rattle.words.specs.Layout.{rows, standing}
-use Rattle.words.specs.Contents.{Contents, withCell, withReady}
+use Rattle.words.specs.Contents.{Contents, with_cell, with_ready}
 use Rattle.words.specs.Marks.{Marks, changed, MayChange}
-use Rattle.store.specs.Rows.{books, termsIn, activationOf}
+use Rattle.store.specs.Rows.{books, terms_in, activation_of}
 use Rattle.store.specs.Kept.{Kept, SamePlan}
 
 -- a task x that is not in the ready set
 pub record MayActivate (x : ℕ) (c : Contents) : Type 0 where
-  pub task-in : x < rows
+  pub task_in : x < rows
   pub absent : MayChange (at c.places x) false c
 
 -- "becomes booked": it is in the ready set then where all its children have ended
 pub record DidActivate (x : ℕ) (c c' : Contents) : Type 0 where
-  pub same : c' ≡ withReady c'.ready c'.filled (withCell standing x activated c)
+  pub same : c' ≡ with_ready c'.ready c'.filled (with_cell standing x activated c)
   pub marks :
       (test : ℕ → Bool)
       → Marks test c
@@ -30,9 +30,9 @@ pub record SomeWait (c : Contents) (next : ℕ) : Type 0 where
   pub more : next < c.size
 
 -- "Its missing trays .. If B + missing is at most M": whether the first waiting task may be booked
-abbrev pub allowsNext : Contents → Bool
-allowsNext c =
-    allows c.size (at c.parents) (termsIn c) (books c) (at (activationOf c) c.next)
+abbrev pub allows_next : Contents → Bool
+allows_next c =
+    allows c.size (at c.parents) (terms_in c) (books c) (at (activation_of c) c.next)
 
 -- "it gets them and becomes booked"
 pub record NextBooked (c c' : Contents) : Type 0 where
@@ -40,11 +40,11 @@ pub record NextBooked (c c' : Contents) : Type 0 where
   pub same : SamePlan c c'
   pub onward : c'.next ≡ c.next + 1
   pub books :
-      books c' ≡ book c.size (at c.parents) (termsIn c) (books c) (at (activationOf c) c.next)
+      books c' ≡ book c.size (at c.parents) (terms_in c) (books c) (at (activation_of c) c.next)
 
 -- the first waiting task is booked where it may be, and else nothing changes
 pub record BookedNext (w w' : List ℕ) (c c' : Contents) (done : Bool) : Type 0 where
-  pub tested : done ≡ allowsNext c
+  pub tested : done ≡ allows_next c
   pub booked : done ≡ true → NextBooked c c'
   pub stays : done ≡ false → w' ≡ w
 
@@ -53,4 +53,4 @@ pub record BookedAhead (c c' : Contents) : Type 0 where
   pub kept : Kept c'
   pub same : SamePlan c c'
   pub books :
-      books c' ≡ activate c.size (at c.parents) (termsIn c) (activationOf c) (books c)
+      books c' ≡ activate c.size (at c.parents) (terms_in c) (activation_of c) (books c)

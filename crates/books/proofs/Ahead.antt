@@ -11,8 +11,8 @@ use borrow.Author.Tests.{eqb-true, eqb-false, leb-true}
 use Rattle.books.specs.Kind.{Kind}
 use Rattle.numbers.specs.Lists.{at, mem}
 use Rattle.books.specs.Standing.{waiting, activated}
-use Rattle.books.specs.Booking.{Terms, Books, bookedIn, total, missing, misses, allowsIn, allows, book, activate}
-use Rattle.tree.specs.Tree.{Valid, rankIn, Tree}
+use Rattle.books.specs.Booking.{Terms, Books, booked_in, total, missing, misses, allows_in, allows, book, activate}
+use Rattle.tree.specs.Tree.{Valid, rank_in, Tree}
 use Rattle.books.specs.Invariant.{Shape, FirstWaiting, Roomy, Stocked, Good}
 use Rattle.books.proofs.EachStore.{of-each, all-each}
 use Rattle.numbers.proofs.Tests.{decide, same_or_not, or_cases}
@@ -38,12 +38,12 @@ pub record Activated (n : ℕ) (par rank : ℕ → ℕ) (terms : Kind → Terms)
 -- two tasks that are first to wait are one
 pub first-waiting-one :
     (n : ℕ) (par : ℕ → ℕ) (order : List ℕ) (valid : Valid n par order) (st : ℕ → ℕ) (x y : ℕ)
-    → FirstWaiting n (rankIn order) st x
-    → FirstWaiting n (rankIn order) st y
+    → FirstWaiting n (rank_in order) st x
+    → FirstWaiting n (rank_in order) st y
     → x ≡ y
 first-waiting-one n par order valid st x y v w =
-    let low : rankIn order x < rankIn order y → ⊥ = λ h. w.first x v.task h v.waits in
-    let high : rankIn order y < rankIn order x → ⊥ = λ h. v.first y w.task h w.waits in
+    let low : rank_in order x < rank_in order y → ⊥ = λ h. w.first x v.task h v.waits in
+    let high : rank_in order y < rank_in order x → ⊥ = λ h. v.first y w.task h w.waits in
     same_rank n par order valid x y v.task w.task (omega arith)
 
 -- one store in which x gets what it misses, where that is within the bound
@@ -71,28 +71,28 @@ book-stocked n par rank tree st st' shape x w moved need out bound b roomy stock
       within = (let sum = gains tree t given in omega arith);
     }
 
-module _ (n : ℕ) (par : ℕ → ℕ) (order : List ℕ) (valid : Valid n par order) (tree : Tree n par (rankIn order))
+module _ (n : ℕ) (par : ℕ → ℕ) (order : List ℕ) (valid : Valid n par order) (tree : Tree n par (rank_in order))
     (terms : Kind → Terms) (roomy : (k : Kind) → Roomy n par (terms k).need (terms k).out) where
   -- one task booked
   pub book-good :
       (k : Books) (x : ℕ)
-      → Good n par (rankIn order) terms k
-      → FirstWaiting n (rankIn order) (at k.standings) x
+      → Good n par (rank_in order) terms k
+      → FirstWaiting n (rank_in order) (at k.standings) x
       → allows n par terms k x ≡ true
-      → Good n par (rankIn order) terms (book n par terms k x)
-  unfolding book misses allowsIn allows
+      → Good n par (rank_in order) terms (book n par terms k x)
+  unfolding book misses allows_in allows
   book-good k x good w a =
       let moved = moved-by-set n k.standings x activated good.sized w.task in
       record {
         sized = length-set k.standings x activated ∙ good.sized;
         shape =
-            activating-shape n par (rankIn order) tree (at k.standings) _ good.shape x w.task w.waits w.first moved;
+            activating-shape n par (rank_in order) tree (at k.standings) _ good.shape x w.task w.waits w.first moved;
         stock =
             λ d.
-            rw (of-each (λ e. set (bookedIn k e) x (at (bookedIn k e) x + misses n par terms k e x)) d)
-            (book-stocked n par (rankIn order) tree (at k.standings) _ good.shape x w moved (terms d).need (terms d).out
-            (terms d).bound (bookedIn k d) (roomy d) (good.stock d)
-            (leb-true _ (terms d).bound (all-each (allowsIn n par terms k x) a d)));
+            rw (of-each (λ e. set (booked_in k e) x (at (booked_in k e) x + misses n par terms k e x)) d)
+            (book-stocked n par (rank_in order) tree (at k.standings) _ good.shape x w moved (terms d).need (terms d).out
+            (terms d).bound (booked_in k d) (roomy d) (good.stock d)
+            (leb-true _ (terms d).bound (all-each (allows_in n par terms k x) a d)));
       }
 
   -- who stands in front of the rest of the order, with one more
@@ -115,7 +115,7 @@ module _ (n : ℕ) (par : ℕ → ℕ) (order : List ℕ) (valid : Valid n par o
       (pre : List ℕ) (x : ℕ) (k : Books)
       → Task n x
       → ((j : ℕ) → mem j pre ≡ true → at k.standings j ≡ waiting → ⊥)
-      → Good n par (rankIn order) terms k
+      → Good n par (rank_in order) terms k
       → (j : ℕ)
       → mem j (pre ++ (x ∷ [])) ≡ true
       → at (book n par terms k x).standings j ≡ waiting
@@ -134,10 +134,10 @@ module _ (n : ℕ) (par : ℕ → ℕ) (order : List ℕ) (valid : Valid n par o
   -- what is made of the books with x booked is made of the books before
   after-book :
       (x : ℕ) (k : Books) {k' : Books}
-      → FirstWaiting n (rankIn order) (at k.standings) x
-      → Good n par (rankIn order) terms k
-      → Activated n par (rankIn order) terms (book n par terms k x) k'
-      → Activated n par (rankIn order) terms k k'
+      → FirstWaiting n (rank_in order) (at k.standings) x
+      → Good n par (rank_in order) terms k
+      → Activated n par (rank_in order) terms (book n par terms k x) k'
+      → Activated n par (rank_in order) terms k k'
   unfolding book
   after-book x k first good done =
       let there = at_set n k.standings x activated good.sized first.task in
@@ -167,8 +167,8 @@ module _ (n : ℕ) (par : ℕ → ℕ) (order : List ℕ) (valid : Valid n par o
       (pre later : List ℕ) (k : Books)
       → order ≡ pre ++ later
       → ((j : ℕ) → mem j pre ≡ true → at k.standings j ≡ waiting → ⊥)
-      → Good n par (rankIn order) terms k
-      → Activated n par (rankIn order) terms k (activate n par terms later k)
+      → Good n par (rank_in order) terms k
+      → Activated n par (rank_in order) terms k (activate n par terms later k)
   unfolding activate
   activates pre [] k e busy good =
       record {
@@ -185,7 +185,7 @@ module _ (n : ℕ) (par : ℕ → ℕ) (order : List ℕ) (valid : Valid n par o
       (λ (w : eqb (at k.standings x) waiting ≡ true).
       let waits = eqb-true (at k.standings x) waiting w in
       let t = entry n par order valid pre x later e in
-      let first : FirstWaiting n (rankIn order) (at k.standings) x =
+      let first : FirstWaiting n (rank_in order) (at k.standings) x =
       record {
         task = t;
         waits = waits;

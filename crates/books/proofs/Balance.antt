@@ -10,7 +10,7 @@ use borrow.Author.Tests.{eqb-true, eqb-false, eq-eqb}
 use Rattle.numbers.specs.Sums.{only, sum_to}
 use Rattle.numbers.specs.Lists.{mem}
 use Rattle.tree.specs.Tree.{figure, Tree, up, children}
-use Rattle.books.specs.Booking.{childrenFigure, missing}
+use Rattle.books.specs.Booking.{children_figure, missing}
 use Rattle.books.specs.Standing.{running, finished}
 use Rattle.books.specs.Invariant.{arrived, pending, Active, Balance, Balanced, Shape}
 use Rattle.numbers.proofs.Tests.{decide}
@@ -85,7 +85,7 @@ module _ (n : ℕ) (par rank : ℕ → ℕ) (tree : Tree n par rank)
       → (i : ℕ)
       → Task n i
       → missing n par need st b i ≡ need i - figure n par b i
-  unfolding missing childrenFigure children
+  unfolding missing children_figure children
   missing-is path r books i t =
       ap (λ (x : ℕ). need i - x)
       (ap (λ (x : ℕ). b i + x)

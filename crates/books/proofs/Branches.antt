@@ -10,7 +10,7 @@ use borrow.Author.Tests.{ne_eqb}
 use Rattle.books.specs.Kind.{Kind, Each}
 use Rattle.numbers.specs.Lists.{at, first}
 use Rattle.books.specs.Standing.{waiting, running}
-use Rattle.books.specs.Booking.{Terms, Books, allows, book, activate, ready, starts, Share, spent, passEach, release, offer, climb}
+use Rattle.books.specs.Booking.{Terms, Books, allows, book, activate, ready, starts, Share, spent, pass_each, release, offer, climb}
 
 module _ (n : ℕ) (par : ℕ → ℕ) (terms : Kind → Terms) (i : ℕ) (later : List ℕ) (s : Books) where
   -- booking ahead passes a task that does not wait, books one that is allowed, and stops at one that is not
@@ -67,7 +67,7 @@ module _ (n : ℕ) (par : ℕ → ℕ) (terms : Kind → Terms) (st : ℕ → �
 
   pub climb-offer :
       (eqb (st i) waiting || spent s) ≡ false
-      → climb n par terms st (i ∷ above) s ≡ offer i (climb n par terms st above (passEach n par terms st i s))
+      → climb n par terms st (i ∷ above) s ≡ offer i (climb n par terms st above (pass_each n par terms st i s))
   unfolding climb
   climb-offer e = rw (e, climb)
 

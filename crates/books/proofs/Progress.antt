@@ -22,8 +22,8 @@ use Rattle.books.proofs.Balance.{arrived-pending}
 abbrev pub ended : (ℕ → ℕ) → ℕ → Bool
 ended st i = eqb (st i) finished
 
-abbrev pub endedOr : (ℕ → ℕ) → ℕ → ℕ → Bool
-endedOr st x i = eqb i x || eqb (st i) finished
+abbrev pub ended_or : (ℕ → ℕ) → ℕ → ℕ → Bool
+ended_or st x i = eqb i x || eqb (st i) finished
 
 -- nobody runs, and each booked task has a child that has not ended
 pub record Stuck (n : ℕ) (par st : ℕ → ℕ) : Type 0 where
@@ -56,26 +56,26 @@ module _ (n : ℕ) (par rank : ℕ → ℕ) (tree : Tree n par rank) (st : ℕ �
   -- the trays booked are the outs of ended tasks whose parent waits, so that the sum of the peak at x is what x would make of them
   module _ (need out b : ℕ → ℕ) (roomy : Roomy n par need out) (books : Balanced n par need out st b) (x : ℕ)
       (task : Task n x) (waits : st x ≡ waiting) where
-    held-there : (i : ℕ) → Task n i → (i ≡ x → ⊥) → b i ≡ only (not (endedOr st x i)) (arrived n par out st i)
+    held-there : (i : ℕ) → Task n i → (i ≡ x → ⊥) → b i ≡ only (not (ended_or st x i)) (arrived n par out st i)
     held-there i t d =
         ⊎_elim
         (λ w.
         books.waits i t w
-        ∙ sym (only-true (not (endedOr st x i)) (arrived n par out st i) (rw (ne_eqb i x d, ne_eqb (st i) finished (λ q. omega arith)) refl)))
+        ∙ sym (only-true (not (ended_or st x i)) (arrived n par out st i) (rw (ne_eqb i x d, ne_eqb (st i) finished (λ q. omega arith)) refl)))
         (λ v.
         let e = waits-or-ended i t v in
         books.empty i t e
-        ∙ sym (only-false (not (endedOr st x i)) (arrived n par out st i) (rw (ne_eqb i x d, eq-eqb (st i) finished e) refl)))
+        ∙ sym (only-false (not (ended_or st x i)) (arrived n par out st i) (rw (ne_eqb i x d, eq-eqb (st i) finished e) refl)))
         (same_or_not (st i) waiting)
 
-    pub fits : total n b + missing n par need st b x ≤ need x + resident n par out (ended st) (endedOr st x)
+    pub fits : total n b + missing n par need st b x ≤ need x + resident n par out (ended st) (ended_or st x)
     unfolding total missing arrived
     fits =
-        let resides = resident-by-parent n par out (ended st) (endedOr st x) tree.within in
-        let own : ℕ → ℕ = λ i. only (not (endedOr st x i)) (arrived n par out st i) in
+        let resides = resident-by-parent n par out (ended st) (ended_or st x) tree.within in
+        let own : ℕ → ℕ = λ i. only (not (ended_or st x i)) (arrived n par out st i) in
         let sum =
         sum-change own b n x (b x) task
-        (let z = only-false (not (endedOr st x x)) (arrived n par out st x) (rw (eq-eqb x x refl) refl) in omega arith)
+        (let z = only-false (not (ended_or st x x)) (arrived n par out st x) (rw (eq-eqb x x refl) refl) in omega arith)
         (λ i t d. held-there i t d)
         in
         let held = books.waits x task waits in

@@ -11,7 +11,7 @@ use borrow.Author.Tests.{eqb-true, eqb-false, ne_eqb}
 use Rattle.books.specs.Kind.{Kind, Each, of, each}
 use Rattle.numbers.specs.Lists.{at, mem}
 use Rattle.books.specs.Standing.{waiting, activated, running, finished}
-use Rattle.books.specs.Booking.{Terms, Books, bookedIn, Share, total, spent, gift, pass, release, offer, passEach, climb, dispatch}
+use Rattle.books.specs.Booking.{Terms, Books, booked_in, Share, total, spent, gift, pass, release, offer, pass_each, climb, dispatch}
 use Rattle.tree.specs.Tree.{chain, Tree, up}
 use Rattle.books.specs.Invariant.{Shape, Active, Balance, Balanced, Roomy, Good}
 use Rattle.books.proofs.EachStore.{of-each, all-each}
@@ -145,7 +145,7 @@ module _ (n : ℕ) (par rank : ℕ → ℕ) (tree : Tree n par rank) (terms : Ki
       → ((d : Kind) → OwingBy n par (terms d) st (chain n par k) (of s d))
       → (d : Kind)
       → SharedOutBy n par (terms d) st (of s d) (of (climb n par terms st path s).share d)
-  unfolding climb offer passEach
+  unfolding climb offer pass_each
   climbs [] k s e h idle owing d = past-root n par rank tree st shape (terms d).need (terms d).out (of s d) k (sym e) (owing d)
   climbs (x ∷ above) k s e h idle owing d =
       let task-k : Task n k =
@@ -214,15 +214,15 @@ module _ (n : ℕ) (par rank : ℕ → ℕ) (tree : Tree n par rank) (terms : Ki
       let same = at_other k.standings j finished a a-not in
       omega arith
 
-  abbrev givenUp : Kind → Share
-  givenUp d = release par (terms d).out (bookedIn k d) j
+  abbrev given_up : Kind → Share
+  given_up d = release par (terms d).out (booked_in k d) j
 
   -- what each store gives up
-  gives : (d : Kind) → OwingBy n par (terms d) (at (set k.standings j finished)) (chain n par (par j)) (givenUp d)
-      × (held n (givenUp d) ≡ total n (at (bookedIn k d)))
+  gives : (d : Kind) → OwingBy n par (terms d) (at (set k.standings j finished)) (chain n par (par j)) (given_up d)
+      × (held n (given_up d) ≡ total n (at (booked_in k d)))
   gives d =
       released n par rank tree (at k.standings) _ good.shape j task runs moved higher (terms d).need (terms d).out (roomy d)
-      (bookedIn k d) (good.stock d).sized (good.stock d).books
+      (booked_in k d) (good.stock d).sized (good.stock d).books
 
   -- the books once j has ended
   pub sharing-good :
@@ -234,20 +234,20 @@ module _ (n : ℕ) (par rank : ℕ → ℕ) (tree : Tree n par rank) (terms : Ki
   unfolding dispatch
   sharing-good =
       let shared =
-      climbs n par rank tree terms roomy (at (set k.standings j finished)) shape-after (chain n par (par j)) (par j) (each givenUp) refl
-      (tree.within j task) idle (λ d. rw (of-each givenUp d) (gives d).0)
+      climbs n par rank tree terms roomy (at (set k.standings j finished)) shape-after (chain n par (par j)) (par j) (each given_up) refl
+      (tree.within j task) idle (λ d. rw (of-each given_up d) (gives d).0)
       in
       record {
         sized = length-set k.standings j finished ∙ good.sized;
         shape = shape-after;
         stock =
             λ d.
-            rw (of-each (λ e. (of (climb n par terms (at (set k.standings j finished)) (chain n par (par j)) (each givenUp)).share e).booked) d)
+            rw (of-each (λ e. (of (climb n par terms (at (set k.standings j finished)) (chain n par (par j)) (each given_up)).share e).booked) d)
             (record {
               sized = (shared d).sized;
               books = (shared d).books;
               within =
-                  (let all = (shared d).all ∙ ap (held n) (of-each givenUp d) ∙ (gives d).1 in
+                  (let all = (shared d).all ∙ ap (held n) (of-each given_up d) ∙ (gives d).1 in
                   let w = (good.stock d).within in
                   omega arith);
             });

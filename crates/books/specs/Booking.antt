@@ -4,7 +4,7 @@ use Rattle.std.specs.Prelude.{Bool, true, false, not, ◌&&◌, ◌||◌, List, 
 use Rattle.books.specs.Kind.{Kind, Each, of, each, all}
 use Rattle.numbers.specs.Sums.{only, sum_to, count_to}
 use Rattle.numbers.specs.Lists.{at, first}
-use Rattle.tree.specs.Tree.{isChild, chain, figure}
+use Rattle.tree.specs.Tree.{is_child, chain, figure}
 use Rattle.books.specs.Standing.{waiting, activated, running, finished}
 
 -- "B is the sum of all booked trays."
@@ -12,20 +12,20 @@ unfoldable pub total : (n : ℕ) (b : ℕ → ℕ) → ℕ
 total n b = sum_to b n
 
 -- c is a child of i and has not ended
-abbrev pub isUnendedChild : (par st : ℕ → ℕ) → ℕ → ℕ → Bool
-isUnendedChild par st i c = isChild par i c && not (eqb (st c) finished)
+abbrev pub is_unended_child : (par st : ℕ → ℕ) → ℕ → ℕ → Bool
+is_unended_child par st i c = is_child par i c && not (eqb (st c) finished)
 
 -- the sum of the subtree figures of the children of i; "an ended child's subtree figure is 0"
-unfoldable pub childrenFigure : (n : ℕ) (par st b : ℕ → ℕ) → ℕ → ℕ
-childrenFigure n par st b i = sum_to (λ c. only (isUnendedChild par st i c) (figure n par b c)) n
+unfoldable pub children_figure : (n : ℕ) (par st b : ℕ → ℕ) → ℕ → ℕ
+children_figure n par st b i = sum_to (λ c. only (is_unended_child par st i c) (figure n par b c)) n
 
 -- "Its missing trays are its need less (its own booked trays plus the subtree figures of its children), never below 0"
 unfoldable pub missing : (n : ℕ) (par need st b : ℕ → ℕ) → ℕ → ℕ
-missing n par need st b i = need i - (b i + childrenFigure n par st b i)
+missing n par need st b i = need i - (b i + children_figure n par st b i)
 
 -- "has all its children ended"
 unfoldable pub fed : (n : ℕ) (par st : ℕ → ℕ) → ℕ → Bool
-fed n par st i = eqb (count_to (isUnendedChild par st i) n) 0
+fed n par st i = eqb (count_to (is_unended_child par st i) n) 0
 
 -- a store as booking finds it: its places, and the needs and the outs of the tasks there
 pub record Terms : Type 0 where
@@ -39,28 +39,28 @@ pub record Books : Type 0 where
   pub booked : Each (List ℕ)
 
 -- the booked trays of a store
-abbrev pub bookedIn : Books → Kind → List ℕ
-bookedIn s k = of s.booked k
+abbrev pub booked_in : Books → Kind → List ℕ
+booked_in s k = of s.booked k
 
 module _ (n : ℕ) (par : ℕ → ℕ) (terms : Kind → Terms) where
   -- the missing trays of task i in a store
   unfoldable pub misses : Books → Kind → ℕ → ℕ
-  misses s k i = missing n par (terms k).need (at s.standings) (at (bookedIn s k)) i
+  misses s k i = missing n par (terms k).need (at s.standings) (at (booked_in s k)) i
 
   -- "If B + missing is at most M"
-  unfoldable pub allowsIn : Books → ℕ → Kind → Bool
-  allowsIn s i k = leb (total n (at (bookedIn s k)) + misses s k i) (terms k).bound
+  unfoldable pub allows_in : Books → ℕ → Kind → Bool
+  allows_in s i k = leb (total n (at (booked_in s k)) + misses s k i) (terms k).bound
 
   -- and it is so in every store
   unfoldable pub allows : Books → ℕ → Bool
-  allows s i = all (allowsIn s i)
+  allows s i = all (allows_in s i)
 
   -- "it gets them and becomes booked"
   unfoldable pub book : Books → ℕ → Books
   book s i =
       record {
         standings = set s.standings i activated;
-        booked = each (λ k. set (bookedIn s k) i (at (bookedIn s k) i + misses s k i));
+        booked = each (λ k. set (booked_in s k) i (at (booked_in s k) i + misses s k i));
       }
 
   -- "Booking ahead. Look at the first waiting step in the activation order. .. it gets them and becomes booked, and the next is
@@ -133,8 +133,8 @@ offer i c = record { offered = i ∷ c.offered; share = c.share }
 
 module _ (n : ℕ) (par : ℕ → ℕ) (terms : Kind → Terms) (st : ℕ → ℕ) where
   -- one offer in each store
-  unfoldable pub passEach : ℕ → Each Share → Each Share
-  passEach i s = each (λ k. pass n par (terms k).need i (of s k))
+  unfoldable pub pass_each : ℕ → Each Share → Each Share
+  pass_each i s = each (λ k. pass n par (terms k).need i (of s k))
 
   -- "climb from parent to parent .., ending at the first of: past the root, a step that is waiting, R is 0. .. Each step i on
   -- the way is one offer"
@@ -143,7 +143,7 @@ module _ (n : ℕ) (par : ℕ → ℕ) (terms : Kind → Terms) (st : ℕ → �
   climb (i ∷ above) s =
       elim (eqb (st i) waiting || spent s) [
         | true ↦ record { offered = []; share = s }
-        | false ↦ offer i (climb above (passEach i s))
+        | false ↦ offer i (climb above (pass_each i s))
       ]
 
   -- "Then climb from parent to parent, from j's parent on .. What is left of R is free."

@@ -6,7 +6,7 @@ use Rattle.numbers.specs.Sums.{Task, only, within}
 use Rattle.numbers.specs.Lists.{at, mem}
 use Rattle.tree.specs.Tree.{children, figure}
 use Rattle.books.specs.Standing.{waiting, activated, running, finished}
-use Rattle.books.specs.Booking.{Terms, Books, bookedIn, total}
+use Rattle.books.specs.Booking.{Terms, Books, booked_in, total}
 
 -- what holds of the standings
 pub record Shape (n : ℕ) (par rank st : ℕ → ℕ) : Type 0 where
@@ -70,4 +70,4 @@ StockedBy n par terms st b = Stocked n par terms.need terms.out terms.bound st b
 pub record Good (n : ℕ) (par rank : ℕ → ℕ) (terms : Kind → Terms) (b : Books) : Type 0 where
   pub sized : length b.standings ≡ suc n
   pub shape : Shape n par rank (at b.standings)
-  pub stock : (k : Kind) → StockedBy n par (terms k) (at b.standings) (bookedIn b k)
+  pub stock : (k : Kind) → StockedBy n par (terms k) (at b.standings) (booked_in b k)

@@ -8,9 +8,9 @@ use lib.Dec.{ltb}
 use lib.ListN.{length}
 use borrow.Author.Tests.{lt-ltb, le-ltb}
 use Rattle.format.specs.Command.{Command, plan, task, activation, execution, begin, done, fetch, places, bytes, Decoded, refused, read}
-use Rattle.streams.specs.Write.{Wrote, untouched, atFront}
+use Rattle.streams.specs.Write.{Wrote, untouched, at_front}
 use Rattle.cephlouk.specs.declared.command.FlatCommand.{FlatCommand}
-use Rattle.cephlouk.specs.FlatCommand.{flatCommand, named, known, encode, EveryNameHolds}
+use Rattle.cephlouk.specs.FlatCommand.{flat_command, named, known, encode, EveryNameHolds}
 
 pub every-name-holds : EveryNameHolds
 unfolding named
@@ -26,7 +26,7 @@ every-name-holds (places bound) = refl
 -- what is written of a command that is known, by how many bytes it has
 unfoldable written : Decoded → List ℕ → Wrote
 written (refused k) list = untouched k list
-written (read c used) list = cond (ltb (length list) used) (untouched 11 list) (atFront (bytes c) list)
+written (read c used) list = cond (ltb (length list) used) (untouched 11 list) (at_front (bytes c) list)
 
 encode-known : (f : FlatCommand) (list : List ℕ) → encode f list ≡ written (known (named f)) list
 unfolding encode written known
@@ -34,7 +34,7 @@ encode-known f list = go (named f) where
   go : (m : Option Command)
       → elim m [
         | none ↦ untouched 2 list
-        | some c ↦ cond (ltb (length list) (length (bytes c))) (untouched 11 list) (atFront (bytes c) list)
+        | some c ↦ cond (ltb (length list) (length (bytes c))) (untouched 11 list) (at_front (bytes c) list)
       ]
       ≡ written (known m) list
   go none = refl
@@ -59,7 +59,7 @@ module _ (f : FlatCommand) (list : List ℕ) where
   pub encode-whole : (c : Command) (used : ℕ)
       → read c used ≡ known (named f)
       → used ≤ length list
-      → encode f list ≡ atFront (bytes c) list
+      → encode f list ≡ at_front (bytes c) list
   unfolding written
   encode-whole c used e room = rw (told_is (read c used) e, le-ltb _ _ room)
 

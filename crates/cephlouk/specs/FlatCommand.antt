@@ -2,7 +2,7 @@
 use Rattle.std.specs.Prelude.{◌≡◌, cond, List, ℕ, eqb, ltb, length}
 use Rattle.std.proofs.Math.Option.{Option, none, some}
 use Rattle.format.specs.Command.{Command, plan, task, activation, execution, begin, done, fetch, places, bytes, Decoded, refused, read}
-use Rattle.streams.specs.Write.{Wrote, untouched, atFront}
+use Rattle.streams.specs.Write.{Wrote, untouched, at_front}
 use Rattle.cephlouk.specs.declared.command.FlatCommand.{FlatCommand}
 use Rattle.cephlouk.specs.declared.command.FlatDecoded.{FlatDecoded}
 
@@ -10,27 +10,27 @@ use Rattle.cephlouk.specs.declared.command.FlatDecoded.{FlatDecoded}
 abbrev pub bare : ℕ → FlatCommand
 bare byte = record { byte = byte; p = 0; n = 0; task = 0; parent = 0; work = 0; out = 0; bound = 0 }
 
-abbrev pub ofTask : ℕ → ℕ → FlatCommand
-ofTask byte i = record { byte = byte; p = 0; n = 0; task = i; parent = 0; work = 0; out = 0; bound = 0 }
+abbrev pub of_task : ℕ → ℕ → FlatCommand
+of_task byte i = record { byte = byte; p = 0; n = 0; task = i; parent = 0; work = 0; out = 0; bound = 0 }
 
 -- the numbers of a command; what it does not have is 0
-abbrev pub flatCommand : Command → FlatCommand
-flatCommand (plan n p bound) =
+abbrev pub flat_command : Command → FlatCommand
+flat_command (plan n p bound) =
     record { byte = 1; p = p; n = n; task = 0; parent = 0; work = 0; out = 0; bound = bound }
-flatCommand (task parent work out) =
+flat_command (task parent work out) =
     record { byte = 2; p = 0; n = 0; task = 0; parent = parent; work = work; out = out; bound = 0 }
-flatCommand (activation i) = ofTask 3 i
-flatCommand (execution i) = ofTask 4 i
-flatCommand begin = bare 5
-flatCommand (done i) = ofTask 6 i
-flatCommand fetch = bare 7
-flatCommand (places bound) =
+flat_command (activation i) = of_task 3 i
+flat_command (execution i) = of_task 4 i
+flat_command begin = bare 5
+flat_command (done i) = of_task 6 i
+flat_command fetch = bare 7
+flat_command (places bound) =
     record { byte = 8; p = 0; n = 0; task = 0; parent = 0; work = 0; out = 0; bound = bound }
 
 -- what stands at a place of a stream; in a refusal all but the number is 0
-abbrev pub flatDecoded : Decoded → FlatDecoded
-flatDecoded (refused ground) = record { number = ground; used = 0; command = bare 0 }
-flatDecoded (read c used) = record { number = 0; used = used; command = flatCommand c }
+abbrev pub flat_decoded : Decoded → FlatDecoded
+flat_decoded (refused ground_for) = record { number = ground_for; used = 0; command = bare 0 }
+flat_decoded (read c used) = record { number = 0; used = used; command = flat_command c }
 
 -- the command of a byte and its operands, whatever the other numbers are; none where the byte is unknown
 unfoldable pub named : FlatCommand → Option Command
@@ -53,9 +53,9 @@ unfoldable pub encode : FlatCommand → List ℕ → Wrote
 encode f list =
     elim (named f) [
       | none ↦ untouched 2 list
-      | some c ↦ cond (ltb (length list) (length (bytes c))) (untouched 11 list) (atFront (bytes c) list)
+      | some c ↦ cond (ltb (length list) (length (bytes c))) (untouched 11 list) (at_front (bytes c) list)
     ]
 
 -- what is promised of the numbers of a command: they name it again
 abbrev pub EveryNameHolds : Type 0
-EveryNameHolds = (c : Command) → named (flatCommand c) ≡ some c
+EveryNameHolds = (c : Command) → named (flat_command c) ≡ some c

@@ -10,11 +10,11 @@ ended = 1
 abbrev pub running : ℕ
 running = 2
 
-abbrev pub notBooked : ℕ
-notBooked = 3
+abbrev pub not_booked : ℕ
+not_booked = 3
 
 abbrev pub unfed : ℕ
 unfed = 4
 
-abbrev pub noProcessor : ℕ
-noProcessor = 5
+abbrev pub no_processor : ℕ
+no_processor = 5

@@ -1,8 +1,8 @@
 // Commands as plain numbers: to bytes and back, so that no caller puts bytes together by hand.
 ghost use Rattle.std.specs.Prelude.{◌≡◌};
 ghost use Rattle.format.specs.Command as rules;
-ghost use Rattle.codec.specs.Meaning.{commandOf, decoded};
-ghost use Rattle.answer.specs.Meaning.{wroteOf};
+ghost use Rattle.codec.specs.Meaning.{command_of, decoded};
+ghost use Rattle.answer.specs.Meaning.{wrote_of};
 ghost use Rattle.cephlouk.specs.FlatCommand as flat;
 
 use answer::Wrote;
@@ -52,7 +52,7 @@ impl FlatCommand {
 
     // A byte whose operand is a task.
     fn of_task(byte: u8, task: u16) -> Self
-        ensures { result ≡ flat.ofTask byte task }
+        ensures { result ≡ flat.of_task byte task }
     {
         FlatCommand {
             byte,
@@ -68,7 +68,7 @@ impl FlatCommand {
 
     // The numbers of a command, case by case.
     fn of(command: Command) -> Self
-        ensures { result ≡ flat.flatCommand (commandOf command) }
+        ensures { result ≡ flat.flat_command (command_of command) }
     {
         match command {
             Command::Plan { n, p, bound } => {
@@ -153,7 +153,7 @@ impl FlatCommand {
 // is unknown, then 11 where the list is shorter than the command.
 #[unsafe(no_mangle)]
 pub extern "C" fn cephlouk_encode(command: FlatCommand, list: &mut [u8]) -> Wrote
-    ensures { wroteOf result list.new ≡ flat.encode command list.old }
+    ensures { wrote_of result list.new ≡ flat.encode command list.old }
 {
     let named = command.named();
     match named {
@@ -171,7 +171,7 @@ pub extern "C" fn cephlouk_encode(command: FlatCommand, list: &mut [u8]) -> Wrot
 // The command at a place of a stream.
 #[unsafe(no_mangle)]
 pub extern "C" fn cephlouk_decode(stream: &[u8], place: usize) -> FlatDecoded
-    ensures { result ≡ flat.flatDecoded (rules.decode stream.now place) }
+    ensures { result ≡ flat.flat_decoded (rules.decode stream.now place) }
 {
     let found = decode(stream, place);
     match found {

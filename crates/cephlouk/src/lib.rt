@@ -9,9 +9,9 @@ ghost use Rattle.rules.specs.Question as questions;
 ghost use Rattle.whys.specs.Why as reasons;
 ghost use Rattle.streams.specs.Write as writing;
 ghost use Rattle.words.specs.Layout.{words};
-ghost use Rattle.answer.specs.Meaning.{plan_of, wroteOf};
+ghost use Rattle.answer.specs.Meaning.{plan_of, wrote_of};
 ghost use Rattle.answer.specs.ValidPlan.{ValidPlan, Commanded};
-ghost use Rattle.reason.specs.Meaning.{reasonOf};
+ghost use Rattle.reason.specs.Meaning.{reason_of};
 ghost use Rattle.cephlouk.specs.Flat.{flat};
 
 use answer::{Answer, Wrote};
@@ -65,7 +65,7 @@ pub extern "C" fn cephlouk_plan_booked(plan: &[u32; Plan::WORDS]) -> u32
 #[unsafe(no_mangle)]
 pub extern "C" fn cephlouk_plan_in_use(plan: &[u32; Plan::WORDS]) -> u32
     requires { ValidPlan plan.now }
-    ensures { result ≡ questions.inUse (plan_of plan.now) }
+    ensures { result ≡ questions.in_use (plan_of plan.now) }
 {
     in_use(plan)
 }
@@ -82,7 +82,7 @@ pub extern "C" fn cephlouk_plan_fullness(plan: &[u32; Plan::WORDS]) -> u32
 // bits, as the maker of a door panel asks of code that draws.
 #[unsafe(no_mangle)]
 pub extern "C" fn cephlouk_thousandths(booked: u32, bound: u32) -> u32
-    ensures { result ≡ questions.fullnessOf booked bound }
+    ensures { result ≡ questions.fullness_of booked bound }
 {
     measure::fullness(booked, bound)
 }
@@ -143,7 +143,7 @@ fn told(kind: u8, task: u16, lack: u32) -> FlatReason
 
 // The numbers of a reason, case by case.
 fn flatten(reason: Reason) -> FlatReason
-    ensures { result ≡ flat (reasonOf reason) }
+    ensures { result ≡ flat (reason_of reason) }
 {
     match reason {
         Reason::Refused(number) => FlatReason {
@@ -174,7 +174,7 @@ pub extern "C" fn cephlouk_plan_why(plan: &[u32; Plan::WORDS], task: u16) -> Fla
 #[unsafe(no_mangle)]
 pub extern "C" fn cephlouk_plan_write(plan: &[u32; Plan::WORDS], list: &mut [u8]) -> Wrote
     requires { ValidPlan plan.now }
-    ensures { wroteOf result list.new ≡ writing.write (plan_of plan.now) list.old }
+    ensures { wrote_of result list.new ≡ writing.write (plan_of plan.now) list.old }
 {
     write(plan, list)
 }
@@ -184,7 +184,7 @@ pub extern "C" fn cephlouk_plan_write(plan: &[u32; Plan::WORDS], list: &mut [u8]
 #[unsafe(no_mangle)]
 pub extern "C" fn cephlouk_plan_find_order(plan: &[u32; Plan::WORDS], list: &mut [u16]) -> Wrote
     requires { ValidPlan plan.now }
-    ensures { wroteOf result list.new ≡ orders.findOrder (plan_of plan.now) list.old }
+    ensures { wrote_of result list.new ≡ orders.find_order (plan_of plan.now) list.old }
 {
     find_order(plan, list)
 }

@@ -3,7 +3,7 @@
 ghost use Rattle.std.specs.Prelude.{◌≡◌, replicate};
 ghost use Rattle.peaks.specs.Desk.{desk};
 ghost use Rattle.words.specs.Layout.{words};
-ghost use Rattle.desk.specs.Records.{stepRecords, answer_of};
+ghost use Rattle.desk.specs.Records.{step_records, answer_of};
 
 use desk::{DeskAnswer, TaskRecord, peak};
 use words::plan::Plan;
@@ -15,7 +15,7 @@ pub extern "C" fn cephlouk_records_peak(
     activation: &[u16],
     room: &mut [u32; Plan::WORDS],
 ) -> DeskAnswer
-    ensures { (desk (stepRecords records.now) activation.now
+    ensures { (desk (step_records records.now) activation.now
         ≡ answer_of result) × (room.new ≡ replicate words 0) }
 {
     peak(records, activation, room)

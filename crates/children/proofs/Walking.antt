@@ -8,25 +8,25 @@ use native.Mathlib.Omega.{arith}
 use lib.ListN.{length}
 use Rattle.numbers.specs.Sums.{Task}
 use Rattle.numbers.specs.Lists.{mem}
-use Rattle.numbers.specs.Limits.{maxTasks}
+use Rattle.numbers.specs.Limits.{max_tasks}
 use Rattle.numbers.proofs.Tests.{same_or_not}
 use Rattle.tree.proofs.Orders.{mem-here, mem-more}
 use Rattle.children.specs.Scratch.{tall, first, sibling, field}
 use Rattle.children.specs.Links.{Passes}
-use Rattle.children.specs.Linked.{linkedFrom, linkedIn, Linked}
+use Rattle.children.specs.Linked.{linked_from, linked_in, Linked}
 use Rattle.children.proofs.Following.{passes_same, passes-some, passes_none, passes-follows, follows-few}
 
 -- the children that are left, from `child` on
 pub record Walking (w : List ℕ) (child : ℕ) (rest : List ℕ) : Type 0 where
   pub left : Passes (field sibling w) child rest 0
-  pub task : (x : ℕ) → mem x rest ≡ true → Task maxTasks x
+  pub task : (x : ℕ) → mem x rest ≡ true → Task max_tasks x
   pub few : length rest ≤ tall
 
 -- one of them, and those behind it
 pub record Step (w : List ℕ) (child : ℕ) (rest : List ℕ) : Type 0 where
   pub later : List ℕ
   pub split : rest ≡ child ∷ later
-  pub task : Task maxTasks child
+  pub task : Task max_tasks child
   pub next : (next : ℕ) → next ≡ field sibling w child → Walking w next later
 
 module _ (w : List ℕ) (child : ℕ) (rest : List ℕ) (a : Walking w child rest) where
@@ -36,7 +36,7 @@ module _ (w : List ℕ) (child : ℕ) (rest : List ℕ) (a : Walking w child res
   pub walking-end : child ≡ 0 → rest ≡ []
   walking-end z = passes_none (field sibling w) rest (rw z at a.left) no_one
 
-  pub walking-left : linkedFrom w child ≡ rest
+  pub walking-left : linked_from w child ≡ rest
   walking-left = passes-follows tall (field sibling w) child rest a.left no_one a.few
 
   pub walking-step : (child ≡ 0 → ⊥) → Step w child rest
@@ -56,11 +56,11 @@ module _ (w : List ℕ) (child : ℕ) (rest : List ℕ) (a : Walking w child res
             };
       }
 
-  pub walking-task : (child ≡ 0 → ⊥) → Task maxTasks child
+  pub walking-task : (child ≡ 0 → ⊥) → Task max_tasks child
   walking-task d = (walking-step d).task
 
   -- the next is a task, or nobody
-  pub walking-low : child ≤ maxTasks
+  pub walking-low : child ≤ max_tasks
   walking-low =
       ⊎_elim (λ (z : child ≡ 0). omega arith) (λ d. (walking-step d).task.high) (same_or_not child 0)
 
@@ -70,7 +70,7 @@ pub walking-less :
     → Walking w child rest
     → Walking w' next later
     → rest ≡ child ∷ later
-    → length (linkedFrom w' next) < length (linkedFrom w child)
+    → length (linked_from w' next) < length (linked_from w child)
 walking-less w child rest w' next later a b e =
     let now = ap length (walking-left w child rest a) in
     let then = ap length (walking-left w' next later b) in
@@ -84,12 +84,12 @@ pub walking-falls :
     → (child ≡ 0 → ⊥)
     → (next : ℕ)
     → next ≡ field sibling w child
-    → length (linkedFrom w next) < length (linkedFrom w child)
+    → length (linked_from w next) < length (linked_from w child)
 walking-falls w child rest a d next e =
     let step = walking-step w child rest a d in
     walking-less w child rest w next step.later a (step.next next e) step.split
 
-pub walking-none : (w : List ℕ) (i child : ℕ) → Linked w i → child ≡ field first w i → Walking w child (linkedIn w i)
+pub walking-none : (w : List ℕ) (i child : ℕ) → Linked w i → child ≡ field first w i → Walking w child (linked_in w i)
 walking-none w i child linked e =
     record {
       left = rw e linked.list;
@@ -99,9 +99,9 @@ walking-none w i child linked e =
 
 -- what is linked at a task is what a walk from its first child passes
 pub walking-linked :
-    (w : List ℕ) (i : ℕ) (l : List ℕ) → Task maxTasks i → Walking w (field first w i) l → (linkedIn w i ≡ l) × Linked w i
+    (w : List ℕ) (i : ℕ) (l : List ℕ) → Task max_tasks i → Walking w (field first w i) l → (linked_in w i ≡ l) × Linked w i
 walking-linked w i l t a =
-    let is : linkedIn w i ≡ l = walking-left w (field first w i) l a in
+    let is : linked_in w i ≡ l = walking-left w (field first w i) l a in
     (is, record { task = t; list = rw is a.left; each = λ c m. a.task c (sym (ap (mem c) is) ∙ m) })
 
 -- the walk goes on where the links of those that are left are the same

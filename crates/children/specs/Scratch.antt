@@ -1,11 +1,11 @@
 -- Where the columns of the scratch array begin. The names are those of its constants.
 use Rattle.std.specs.Prelude.{List, ℕ, ◌+◌, ◌*◌}
 use Rattle.numbers.specs.Lists.{at}
-use Rattle.numbers.specs.Limits.{maxTasks}
+use Rattle.numbers.specs.Limits.{max_tasks}
 
 -- a column has an entry for every task and one for nobody
 abbrev pub tall : ℕ
-tall = maxTasks + 1
+tall = max_tasks + 1
 
 abbrev pub first : ℕ
 first = 0
@@ -16,8 +16,8 @@ sibling = tall
 abbrev pub queue : ℕ
 queue = 2 * tall
 
-abbrev pub subtreePeak : ℕ
-subtreePeak = 3 * tall
+abbrev pub subtree_peak : ℕ
+subtree_peak = 3 * tall
 
 abbrev pub head : ℕ
 head = 4 * tall

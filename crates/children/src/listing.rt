@@ -1,7 +1,7 @@
 // The children of every task, as a list of links.
 ghost use Rattle.std.specs.Prelude.{◌≡◌, ◌+◌, ◌≤◌, set};
 ghost use Rattle.numbers.specs.Lists.{at};
-ghost use Rattle.numbers.specs.Limits.{maxTasks};
+ghost use Rattle.numbers.specs.Limits.{max_tasks};
 ghost use Rattle.words.specs.Contents.{contents};
 ghost use Rattle.children.specs.Scratch.{first, sibling};
 ghost use Rattle.children.specs.Listing.{MayList, Listed};
@@ -12,7 +12,7 @@ use words::plan::Plan;
 
 // A child goes to the front of its parent's list.
 fn add_child(scratch: &mut [u32; CELLS], parent: usize, child: usize)
-    requires { (parent ≤ maxTasks) × (child ≤ maxTasks) }
+    requires { (parent ≤ max_tasks) × (child ≤ max_tasks) }
     ensures { scratch.new ≡ set (set scratch.old (sibling + child)
         (at scratch.old (first + parent))) (first + parent) child }
 {

@@ -5,16 +5,16 @@ use Rattle.codec.specs.declared.Command.TheVariants.{Plan, Task, Activation, Exe
 use Rattle.codec.specs.declared.Decoded.{Decoded}
 use Rattle.codec.specs.declared.Decoded.TheVariants.{Refused, Read}
 
-abbrev pub commandOf : Command → rules.Command
-commandOf (Plan n p bound) = rules.plan n p bound
-commandOf (Task parent work out) = rules.task parent work out
-commandOf (Activation i) = rules.activation i
-commandOf (Execution i) = rules.execution i
-commandOf Begin = rules.begin
-commandOf (Done i) = rules.done i
-commandOf Fetch = rules.fetch
-commandOf (Places bound) = rules.places bound
+abbrev pub command_of : Command → rules.Command
+command_of (Plan n p bound) = rules.plan n p bound
+command_of (Task parent work out) = rules.task parent work out
+command_of (Activation i) = rules.activation i
+command_of (Execution i) = rules.execution i
+command_of Begin = rules.begin
+command_of (Done i) = rules.done i
+command_of Fetch = rules.fetch
+command_of (Places bound) = rules.places bound
 
 abbrev pub decoded : Decoded → rules.Decoded
-decoded (Refused ground) = rules.refused ground
-decoded (Read command used) = rules.read (commandOf command) used
+decoded (Refused ground_for) = rules.refused ground_for
+decoded (Read command used) = rules.read (command_of command) used

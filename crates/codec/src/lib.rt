@@ -2,7 +2,7 @@
 ghost use Rattle.std.specs.Prelude.{◌≡◌, ◌∷◌, ◌+◌, ◌*◌, drop};
 ghost use Rattle.format.specs.Command as rules;
 ghost use Rattle.put.specs.Put.{Put};
-ghost use Rattle.codec.specs.Meaning.{commandOf, decoded};
+ghost use Rattle.codec.specs.Meaning.{command_of, decoded};
 
 #[derive(Drop)]
 pub enum Command {
@@ -76,7 +76,7 @@ fn four(given: &[u8]) -> u32
 
 // A command with `width` bytes of operands, or "operands are cut short" (1).
 fn whole(given: &[u8], width: usize, command: Command) -> Decoded
-    ensures { decoded result ≡ rules.whole given.now width (commandOf command) }
+    ensures { decoded result ≡ rules.whole given.now width (command_of command) }
 {
     if given.len() < width {
         return Decoded::Refused(1);
@@ -161,7 +161,7 @@ pub fn encode_execution(task: u16, buffer: &mut [u8], place: usize) -> usize
 }
 
 pub fn encode(command: Command, buffer: &mut [u8], place: usize) -> usize
-    ensures { Put (rules.bytes (commandOf command)) place buffer.old buffer.new result }
+    ensures { Put (rules.bytes (command_of command)) place buffer.old buffer.new result }
 {
     match command {
         Command::Plan { n, p, bound } => {

@@ -12,18 +12,18 @@ use Rattle.rules.specs.Answer.{front}
 use Rattle.tree.proofs.Ranks.{tree_of}
 use Rattle.rules.proofs.Settling as settling
 use Rattle.words.specs.Contents.{Contents}
-use Rattle.store.specs.Rows.{books, termsIn, activationOf, executionOf}
+use Rattle.store.specs.Rows.{books, terms_in, activation_of, execution_of}
 use Rattle.store.proofs.Same.{same-trans}
 use Rattle.booking.specs.Booked.{BookedAhead}
-use Rattle.starting.specs.Started.{MayStart, startedOf, Started}
-use Rattle.day.specs.Advanced.{bookedAhead, startsThen, Advanced}
+use Rattle.starting.specs.Started.{MayStart, started_of, Started}
+use Rattle.day.specs.Advanced.{booked_ahead, starts_then, Advanced}
 
 module _ {c c₁ : Contents} {list : List ℕ} (may : MayStart c list) (booked : BookedAhead c c₁) where
-  standings-are : (books c₁).standings ≡ (bookedAhead c).standings
+  standings-are : (books c₁).standings ≡ (booked_ahead c).standings
   standings-are = ap (λ (k : Books). k.standings) booked.books
 
   -- as many run as before
-  active-is : c₁.active ≡ count c.size (at (bookedAhead c).standings) running
+  active-is : c₁.active ≡ count c.size (at (booked_ahead c).standings) running
   active-is =
       booked.kept.cached.runs ∙ (λ z. count (booked.same.size z) (at (standings-are z)) running)
 
@@ -32,10 +32,10 @@ module _ {c c₁ : Contents} {list : List ℕ} (may : MayStart c list) (booked :
       let i = may.kept.invariant in
       let p = may.kept.cached.placed in
       active-is
-      ∙ settling.running-ahead c.size (at c.parents) (activationOf c) i.valid
-      (tree_of c.size (at c.parents) (activationOf c) i.valid (λ k _. i.parents k)) (termsIn c)
-      i.roomy c.processors (executionOf c) p.inside p.once p.whole (books c)
-      (bookedAhead c) i.good (let r = may.kept.cached.runs in let b = may.busy in omega arith) refl (startsThen c) refl
+      ∙ settling.running-ahead c.size (at c.parents) (activation_of c) i.valid
+      (tree_of c.size (at c.parents) (activation_of c) i.valid (λ k _. i.parents k)) (terms_in c)
+      i.roomy c.processors (execution_of c) p.inside p.once p.whole (books c)
+      (booked_ahead c) i.good (let r = may.kept.cached.runs in let b = may.busy in omega arith) refl (starts_then c) refl
       ∙ sym may.kept.cached.runs
 
   pub then-may-start : MayStart c₁ list
@@ -47,7 +47,7 @@ module _ {c c₁ : Contents} {list : List ℕ} (may : MayStart c list) (booked :
         room = may.room;
       }
 
-  starts-are : startedOf c₁ ≡ startsThen c
+  starts-are : started_of c₁ ≡ starts_then c
   unfolding free
   starts-are =
       λ z.

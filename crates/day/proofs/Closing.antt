@@ -17,28 +17,28 @@ use Rattle.rules.specs.State.{State}
 use Rattle.format.specs.Command.{done}
 use Rattle.rules.specs.Reachable.{Reachable}
 use Rattle.books.specs.Booking.{total}
-use Rattle.rules.specs.Obey.{withBooks, endedStandings, plain, obey}
+use Rattle.rules.specs.Obey.{with_books, ended_standings, plain, obey}
 use Rattle.numbers.proofs.Tests.{same_or_not}
 use Rattle.numbers.proofs.Sums.{sum-cong, count_none, count-all}
 use Rattle.tree.proofs.Orders.{within-task, mem-at, every-mem}
 use Rattle.books.proofs.Entries.{at_other}
 use Rattle.tree.proofs.Trolley.{remains, root-remains}
 use Rattle.rules.proofs.InDay.{Planned, Going}
-use Rattle.rules.proofs.Closing.{readyAfter, all-ended, closes, closing}
+use Rattle.rules.proofs.Closing.{ready_after, all-ended, closes, closing}
 use Rattle.rules.proofs.Reporting.{one_fewer, one-more-ended}
 use Rattle.rules.proofs.Reaching.{lives}
-use Rattle.words.specs.Contents.{Contents, with_head, storeWithHead}
-use Rattle.store.specs.Rows.{rows_of, activationOf}
-use Rattle.store.specs.Store.{withStore, withHoldings, heldAlone}
+use Rattle.words.specs.Contents.{Contents, with_head, store_with_head}
+use Rattle.store.specs.Rows.{rows_of, activation_of}
+use Rattle.store.specs.Store.{with_store, with_holdings, held_alone}
 use Rattle.store.proofs.Rows.{rows-set, zero-set}
-use Rattle.dispatch.specs.Ended.{withProgress, MayEnd, ended}
+use Rattle.dispatch.specs.Ended.{with_progress, MayEnd, ended}
 use Rattle.dispatch.specs.Ended as dispatching
 use Rattle.dispatch.proofs.Ending as ending
 use Rattle.answer.specs.Meaning.{meaning}
 use Rattle.answer.specs.Sound.{Closed, Sound}
 use Rattle.answer.proofs.Meant.{in-running, cached-now, parents-meant, outs-meant, standings-rows, booked-rows, standings-meant, order-valid, going, still_kept}
 use Rattle.answer.proofs.Past.{running-past}
-use Rattle.day.specs.Day.{madeReady}
+use Rattle.day.specs.Day.{made_ready}
 use Rattle.day.proofs.Staying.{in-its-day, phase-same, alone-same, day-sound}
 use Rattle.day.proofs.Reporting.{Accepted}
 
@@ -72,7 +72,7 @@ module _ (c : Contents) (j : ℕ) (reached : Reachable (meaning c)) (sound : Sou
     out-meant = ap (λ (f : ℕ → ℕ). f j) (outs-meant c sound)
 
     all : (i : ℕ) → Task n i → at (set s.standings j finished) i ≡ finished
-    unfolding endedStandings
+    unfolding ended_standings
     all = all-ended s planned day j a.task runs-meant root-meant
 
     -- the lists of the day afterwards
@@ -87,8 +87,8 @@ module _ (c : Contents) (j : ℕ) (reached : Reachable (meaning c)) (sound : Sou
         rows-set n c.stores.chilled.booked j (at c.stores.chilled.outs j) a.task.high
         ∙ ap₂ (λ (l : List ℕ) (v : ℕ). set l j v) (sym (booked-rows c sound on)) (sym out-meant)
 
-    means : meaning (madeReady j c) ≡ readyAfter s j
-    unfolding madeReady dispatching.rootEnded ended withProgress withStore withHoldings heldAlone with_head storeWithHead withBooks endedStandings
+    means : meaning (made_ready j c) ≡ ready_after s j
+    unfolding made_ready dispatching.root_ended ended with_progress with_store with_holdings held_alone with_head store_with_head with_books ended_standings
     means =
         λ z.
         record {
@@ -111,7 +111,7 @@ module _ (c : Contents) (j : ℕ) (reached : Reachable (meaning c)) (sound : Sou
         }
 
     -- what the rules do with the report
-    pub makes-ready : obey s (done j) ≡ plain (meaning (madeReady j c))
+    pub makes-ready : obey s (done j) ≡ plain (meaning (made_ready j c))
     makes-ready = closes s planned day j a.task runs-meant root-meant ∙ ap plain (sym means)
 
     -- nobody waits
@@ -121,11 +121,11 @@ module _ (c : Contents) (j : ℕ) (reached : Reachable (meaning c)) (sound : Sou
         let most = reached-to.within in
         ⊎_elim (λ e. e)
         (λ d.
-        let x = at (activationOf c) c.next in
+        let x = at (activation_of c) c.next in
         let valid = order-valid c reached sound on in
         let whole = valid.whole in
         let task =
-        within-task n x (every-mem (λ i. within i n) (activationOf c) x valid.inside (mem-at (activationOf c) c.next (omega arith)))
+        within-task n x (every-mem (λ i. within i n) (activation_of c) x valid.inside (mem-at (activation_of c) c.next (omega arith)))
         in
         let waits : at s.standings x ≡ waiting =
         ap (λ (l : List ℕ). at l x) (standings-rows c sound on) ∙ reached-to.from_next c.next (omega arith) (omega arith)
@@ -166,7 +166,7 @@ module _ (c : Contents) (j : ℕ) (reached : Reachable (meaning c)) (sound : Sou
     -- its out is all that is booked
     total-then :
         at c.stores.chilled.outs j ≡ total n (at (rows_of n (set c.stores.chilled.booked j (at c.stores.chilled.outs j))))
-    unfolding total withBooks
+    unfolding total with_books
     total-then =
         sym
         (ap (λ (l : List ℕ). total n (at l)) booked-then
@@ -175,8 +175,8 @@ module _ (c : Contents) (j : ℕ) (reached : Reachable (meaning c)) (sound : Sou
         ∙ root-remains n (at s.parents) (at s.stores.chilled.outs) planned.rooted j a.task root-meant
         ∙ out-meant)
 
-    kept_then : Closed (madeReady j c)
-    unfolding madeReady dispatching.rootEnded ended withProgress withStore withHoldings heldAlone with_head storeWithHead
+    kept_then : Closed (made_ready j c)
+    unfolding made_ready dispatching.root_ended ended with_progress with_store with_holdings held_alone with_head store_with_head
     kept_then =
         let past = running-past c sound reached a.now in
         record {
@@ -195,8 +195,8 @@ module _ (c : Contents) (j : ℕ) (reached : Reachable (meaning c)) (sound : Sou
               };
         }
 
-    pub ready-sound : Sound (madeReady j c)
-    unfolding madeReady dispatching.rootEnded ended withProgress withStore withHoldings heldAlone with_head storeWithHead
+    pub ready-sound : Sound (made_ready j c)
+    unfolding made_ready dispatching.root_ended ended with_progress with_store with_holdings held_alone with_head store_with_head
     ready-sound =
         day-sound (in-its-day sound on)
         (phase-same Phase.ready

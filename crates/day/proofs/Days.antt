@@ -9,7 +9,7 @@ use Rattle.numbers.specs.Lists.{at}
 use Rattle.rules.specs.Phase
 use Rattle.books.specs.Standing.{running, finished, count}
 use Rattle.rules.proofs.Reporting.{one_fewer}
-use Rattle.words.specs.Contents.{Contents, with_head, storeWithHead}
+use Rattle.words.specs.Contents.{Contents, with_head, store_with_head}
 use Rattle.store.specs.Rows.{books}
 use Rattle.store.specs.Kept.{Kept}
 use Rattle.store.proofs.Rows.{at_rows}
@@ -19,13 +19,13 @@ use Rattle.starting.specs.Started.{MayStart}
 use Rattle.survey.specs.Prepare.{Prepared}
 use Rattle.dispatch.specs.Finished.{Finished}
 use Rattle.day.specs.Advanced.{Advanced}
-use Rattle.day.specs.Day.{MayBegin, Begun, MayGoOn, WentOn, withBound, MayResize, Resized}
+use Rattle.day.specs.Day.{MayBegin, Begun, MayGoOn, WentOn, with_bound, MayResize, Resized}
 use Rattle.day.proofs.Same.{same-tasks, prepared-same}
 use Rattle.day.proofs.Staying.{head-cached}
 
 -- a running day is in its phase
 same-phase : (d : Contents) → d.phase ≡ Phase.running → d ≡ with_head 0 Phase.running d
-unfolding with_head storeWithHead
+unfolding with_head store_with_head
 same-phase d e = ap (λ (p : ℕ). with_head 0 p d) e
 
 -- a day on which nothing has happened
@@ -99,8 +99,8 @@ module _ {c c₁ : Contents} {j : ℕ} {list : List ℕ} {offers : ℕ} (may : M
 -- a day with another bound
 module _ {c : Contents} {bound : ℕ} {list : List ℕ} (may : MayResize c bound list) where
   -- the books are within it
-  kept-within : Kept (withBound bound c)
-  unfolding withBound with_head storeWithHead
+  kept-within : Kept (with_bound bound c)
+  unfolding with_bound with_head store_with_head
   kept-within =
       let i = may.kept.invariant in
       let booked = (may.kept.cached.stores chilled).totals in
@@ -126,20 +126,20 @@ module _ {c : Contents} {bound : ℕ} {list : List ℕ} (may : MayResize c bound
         cached = head-cached c.phase bound may.kept.cached;
       }
 
-  then-starts : MayStart (withBound bound c) list
-  unfolding withBound with_head storeWithHead
+  then-starts : MayStart (with_bound bound c) list
+  unfolding with_bound with_head store_with_head
   then-starts = record { kept = kept-within; busy = may.busy; few = may.few; room = may.room }
 
   then-resized :
       {c₂ : Contents} {list₂ : List ℕ} {count : ℕ}
-      → Advanced (withBound bound c) c₂ list list₂ count
+      → Advanced (with_bound bound c) c₂ list list₂ count
       → Resized c bound c₂ list list₂ count
-  unfolding withBound with_head storeWithHead
+  unfolding with_bound with_head store_with_head
   then-resized {c₂ = c₂} advanced =
       record {
-        between = withBound bound c;
+        between = with_bound bound c;
         after = c₂;
-        same = same-tasks (same_refl (withBound bound c));
+        same = same-tasks (same_refl (with_bound bound c));
         kept = kept-within;
         books = refl;
         advanced = advanced;
@@ -147,7 +147,7 @@ module _ {c : Contents} {bound : ℕ} {list : List ℕ} (may : MayResize c bound
       }
 
   -- once it is written
-  module _ {c₁ : Contents} (is : c₁ ≡ withBound bound c) where
+  module _ {c₁ : Contents} (is : c₁ ≡ with_bound bound c) where
     pub resize-advances : MayStart c₁ list
     resize-advances = subst (λ (d : Contents). MayStart d list) (sym is) then-starts
 

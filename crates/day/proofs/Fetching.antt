@@ -10,31 +10,31 @@ use Rattle.books.specs.Kind.{chilled, each}
 use Rattle.numbers.specs.Sums.{Task}
 use Rattle.numbers.specs.Lists.{at}
 use Rattle.rules.specs.Phase
-use Rattle.rules.specs.State.{State, rootOf}
+use Rattle.rules.specs.State.{State, root_of}
 use Rattle.format.specs.Command.{fetch}
-use Rattle.rules.specs.Grounds.{in_turn, inLimits, ownGround, ground}
+use Rattle.rules.specs.Grounds.{in_turn, in_limits, own_ground, ground_for}
 use Rattle.rules.specs.Reachable.{Reachable}
 use Rattle.books.specs.Booking.{total}
-use Rattle.rules.specs.Obey.{withBooks, unloaded, plain, obey}
+use Rattle.rules.specs.Obey.{with_books, unloaded, plain, obey}
 use Rattle.numbers.proofs.Sums.{sum-zero}
 use Rattle.rules.proofs.Judging.{ground-turn, ground-own}
 use Rattle.rules.proofs.Formed.{no-ground}
 use Rattle.rules.proofs.InDay.{Planned}
 use Rattle.rules.proofs.Fetching.{root-found, last-is-root, nothing}
 use Rattle.rules.proofs.Reaching.{lives}
-use Rattle.words.specs.Contents.{Contents, with_head, storeWithHead}
+use Rattle.words.specs.Contents.{Contents, with_head, store_with_head}
 use Rattle.store.specs.Rows.{rows_of}
-use Rattle.store.specs.Store.{withStore, withHoldings, heldAlone}
+use Rattle.store.specs.Store.{with_store, with_holdings, held_alone}
 use Rattle.store.proofs.Rows.{rows-set, zero-set}
-use Rattle.dispatch.specs.Ended.{withProgress}
+use Rattle.dispatch.specs.Ended.{with_progress}
 use Rattle.answer.specs.Meaning.{meaning}
 use Rattle.answer.specs.Sound.{Closed, Sound}
 use Rattle.answer.proofs.Meant.{standings-rows, booked-rows, activation-meant}
-use Rattle.day.specs.Day.{madeOver}
+use Rattle.day.specs.Day.{made_over}
 use Rattle.day.proofs.Staying.{in-its-day, phase-same, alone-same, day-sound}
 
 -- out of turn outside ready
-pub fetch-late : (c : Contents) → (c.phase ≡ Phase.ready → ⊥) → ground (meaning c) fetch ≡ 3
+pub fetch-late : (c : Contents) → (c.phase ≡ Phase.ready → ⊥) → ground_for (meaning c) fetch ≡ 3
 unfolding in_turn
 fetch-late c d = ground-turn (meaning c) fetch (ne_eqb c.phase Phase.ready d)
 
@@ -46,7 +46,7 @@ module _ (c : Contents) (reached : Reachable (meaning c)) (sound : Sound c) (now
   n = c.size
 
   abbrev root : ℕ
-  root = rootOf (meaning c)
+  root = root_of (meaning c)
 
   on : Phase.running ≤ c.phase
   on = omega arith
@@ -55,14 +55,14 @@ module _ (c : Contents) (reached : Reachable (meaning c)) (sound : Sound c) (now
   planned = ((lives reached).day on).1.planned
 
   -- and in turn there
-  pub fetch-free : ground (meaning c) fetch ≡ 0
-  unfolding in_turn inLimits ownGround
+  pub fetch-free : ground_for (meaning c) fetch ≡ 0
+  unfolding in_turn in_limits own_ground
   fetch-free = ground-own (meaning c) fetch (eq-eqb c.phase Phase.ready now) refl
 
-  pub root-task : Task c.size (rootOf (meaning c))
+  pub root-task : Task c.size (root_of (meaning c))
   root-task = (root-found s planned).0
 
-  pub last_entry : at c.activation (c.size - 1) ≡ rootOf (meaning c)
+  pub last_entry : at c.activation (c.size - 1) ≡ root_of (meaning c)
   last_entry =
       let t = root-task in
       sym
@@ -75,8 +75,8 @@ module _ (c : Contents) (reached : Reachable (meaning c)) (sound : Sound c) (now
       rows-set n c.stores.chilled.booked root 0 root-task.high
       ∙ ap (λ (l : List ℕ). set l root 0) (sym (booked-rows c sound on))
 
-  means : meaning (madeOver (rootOf (meaning c)) c) ≡ unloaded s
-  unfolding madeOver withStore withHoldings heldAlone with_head storeWithHead unloaded withBooks
+  means : meaning (made_over (root_of (meaning c)) c) ≡ unloaded s
+  unfolding made_over with_store with_holdings held_alone with_head store_with_head unloaded with_books
   means =
       λ z.
       record {
@@ -99,7 +99,7 @@ module _ (c : Contents) (reached : Reachable (meaning c)) (sound : Sound c) (now
       }
 
   -- what the rules do with the fetch
-  pub fetches : obey (meaning c) fetch ≡ plain (meaning (madeOver (rootOf (meaning c)) c))
+  pub fetches : obey (meaning c) fetch ≡ plain (meaning (made_over (root_of (meaning c)) c))
   unfolding obey
   fetches = ap plain (sym means)
 
@@ -112,8 +112,8 @@ module _ (c : Contents) (reached : Reachable (meaning c)) (sound : Sound c) (now
       (ap (λ (l : List ℕ). total n (at l)) booked-then
       ∙ sum-zero (at (set s.stores.chilled.booked root 0)) n (nothing s day.0 day.1 (no-ground s fetch fetch-free) chilled))
 
-  kept_then : Closed (madeOver (rootOf (meaning c)) c)
-  unfolding madeOver withStore withHoldings heldAlone with_head storeWithHead
+  kept_then : Closed (made_over (root_of (meaning c)) c)
+  unfolding made_over with_store with_holdings held_alone with_head store_with_head
   kept_then =
       let was = (sound.day on).closed (omega arith) in
       record {
@@ -132,8 +132,8 @@ module _ (c : Contents) (reached : Reachable (meaning c)) (sound : Sound c) (now
             };
       }
 
-  pub fetch-sound : Sound (madeOver (rootOf (meaning c)) c)
-  unfolding madeOver withProgress withStore withHoldings heldAlone with_head storeWithHead
+  pub fetch-sound : Sound (made_over (root_of (meaning c)) c)
+  unfolding made_over with_progress with_store with_holdings held_alone with_head store_with_head
   fetch-sound =
       day-sound (in-its-day sound on)
       (phase-same Phase.over (alone-same c root 0 c.standings c.unended c.active c.ended))

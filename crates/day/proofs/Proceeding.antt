@@ -13,15 +13,15 @@ use Rattle.tree.specs.Peak.{Peaked}
 use Rattle.rules.specs.Phase
 use Rattle.rules.specs.State.{needs}
 use Rattle.books.specs.Booking.{Books, activate, starts, start}
-use Rattle.rules.specs.Obey.{termsOf, withBooks, ahead, begun, proceed, free}
+use Rattle.rules.specs.Obey.{terms_of, with_books, ahead, begun, proceed, free}
 use Rattle.rules.specs.Answer as rules
-use Rattle.words.specs.Contents.{Contents, with_head, storeWithHead}
-use Rattle.store.specs.Rows.{books, termsIn, activationOf, executionOf}
+use Rattle.words.specs.Contents.{Contents, with_head, store_with_head}
+use Rattle.store.specs.Rows.{books, terms_in, activation_of, execution_of}
 use Rattle.store.specs.Cached.{Cached}
 use Rattle.store.proofs.InStore.{by_kind}
-use Rattle.answer.specs.Meaning.{meaning, answeredOf}
+use Rattle.answer.specs.Meaning.{meaning, answered_of}
 use Rattle.answer.specs.Sound.{Sound}
-use Rattle.day.specs.Advanced.{bookedAhead, startsThen}
+use Rattle.day.specs.Advanced.{booked_ahead, starts_then}
 use Rattle.day.specs.Day.{SameTasks, Proceeded}
 use Rattle.answer.proofs.Meant.{parents-meant, outs-meant, needs-columns}
 use Rattle.day.proofs.Same.{same-tasks, then_same}
@@ -42,10 +42,10 @@ module _ {c : Contents} (whole : Whole c) {k : Books} {c' : Contents} {list list
       need (p.same.size z) (at (p.same.parents z)) (at (p.same.works z)) (at (p.same.outs z))))
 
   -- and what booking finds of each store
-  terms-are : termsOf (meaning c) ≡ termsIn m
+  terms-are : terms_of (meaning c) ≡ terms_in m
   terms-are =
       fun_ext
-      (by_kind (λ d. termsOf (meaning c) d ≡ termsIn m d)
+      (by_kind (λ d. terms_of (meaning c) d ≡ terms_in m d)
       (λ z.
       record {
         bound = sym p.same.bound z;
@@ -53,21 +53,21 @@ module _ {c : Contents} (whole : Whole c) {k : Books} {c' : Contents} {list list
         out = (outs-meant c whole.sound ∙ ap at (sym p.same.outs)) z;
       }))
 
-  order_is : (meaning c).activation ≡ activationOf c
-  order_is = ap (λ (n : ℕ). take n c.activation) whole.ranked-all
+  order_is : (meaning c).activation ≡ activation_of c
+  order_is = ap (λ (n : ℕ). take n c.activation) whole.ranked_all
 
-  execution-is : (meaning c).execution ≡ executionOf c
-  execution-is = ap (λ (n : ℕ). take n c.execution) whole.placed-all
+  execution-is : (meaning c).execution ≡ execution_of c
+  execution-is = ap (λ (n : ℕ). take n c.execution) whole.placed_all
 
   -- booking ahead and starting of the rules, by the words
-  ahead-is : ahead (meaning c) k ≡ bookedAhead m
+  ahead-is : ahead (meaning c) k ≡ booked_ahead m
   unfolding ahead
   ahead-is =
       λ z.
       activate (sym p.same.size z) ((parents-meant c whole.sound ∙ ap at (sym p.same.parents)) z) (terms-are z)
       ((order_is ∙ (λ y. take (sym p.same.size y) (sym p.same.activation y))) z) (sym p.books z)
 
-  begun-is : begun (meaning c) (ahead (meaning c) k) ≡ startsThen m
+  begun-is : begun (meaning c) (ahead (meaning c) k) ≡ starts_then m
   unfolding begun
   begun-is =
       λ z.
@@ -94,7 +94,7 @@ module _ {c : Contents} (whole : Whole c) {k : Books} {c' : Contents} {list list
   then = with_head 0 Phase.running p.after
 
   state-is : (peaks : Each Peaked) (offers : ℕ) → meaning then ≡ (proceed (meaning c) Phase.running k peaks offers).state
-  unfolding proceed withBooks with_head storeWithHead
+  unfolding proceed with_books with_head store_with_head
   state-is peaks offers =
       let t = kept-tasks in
       λ z.
@@ -120,7 +120,7 @@ module _ {c : Contents} (whole : Whole c) {k : Books} {c' : Contents} {list list
   -- all that the caller receives
   pub same :
       (used : ℕ) (peak : Peaked) (offers : ℕ)
-      → answeredOf (record { number = 0; used = used; starts = count; peak = peak.trays; by = peak.task; offers = offers }) c' list'
+      → answered_of (record { number = 0; used = used; starts = count; peak = peak.trays; by = peak.task; offers = offers }) c' list'
       ≡ rules.accept (proceed (meaning c) Phase.running k (each (λ _. peak)) offers) used list
   unfolding rules.accept proceed
   same used peak offers =
@@ -137,11 +137,11 @@ module _ {c : Contents} (whole : Whole c) {k : Books} {c' : Contents} {list list
       }
 
   then-cached : Cached then
-  unfolding with_head storeWithHead
+  unfolding with_head store_with_head
   then-cached = head-cached Phase.running p.after.stores.chilled.bound p.advanced.kept.cached
 
   pub sound-then : Sound c'
-  unfolding with_head storeWithHead
+  unfolding with_head store_with_head
   sound-then =
       subst (λ (d : Contents). Sound d) (sym p.phased)
       (day-sound whole (phase-same Phase.running kept-tasks)

@@ -10,22 +10,22 @@ use borrow.Author.Tests.{eqb-true, eq-eqb, ne_eqb}
 use Rattle.books.specs.Kind.{of, each}
 use Rattle.numbers.specs.Sums.{Task, within}
 use Rattle.numbers.specs.Lists.{at}
-use Rattle.numbers.specs.Limits.{leastStarts}
-use Rattle.tree.specs.Peak.{noPeak}
+use Rattle.numbers.specs.Limits.{least_starts}
+use Rattle.tree.specs.Peak.{no_peak}
 use Rattle.rules.specs.Phase
 use Rattle.books.specs.Standing.{running, finished}
 use Rattle.format.specs.Command.{done}
 use Rattle.rules.specs.Reachable.{Reachable}
-use Rattle.rules.specs.Grounds.{demand, in_turn, inLimits, noPeaks, ownGround, ground}
+use Rattle.rules.specs.Grounds.{demand, in_turn, in_limits, no_peaks, own_ground, ground_for}
 use Rattle.books.specs.Booking.{Climbed, dispatch}
-use Rattle.rules.specs.Obey.{endedStandings, shared, ended, phaseAfter, proceed, obey}
+use Rattle.rules.specs.Obey.{ended_standings, shared, ended, phase_after, proceed, obey}
 use Rattle.rules.specs.Answer.{accept}
 use Rattle.tree.proofs.Orders.{within-task}
 use Rattle.rules.proofs.Formed.{demand-none}
 use Rattle.rules.proofs.Judging.{ground-turn, ground-limits, ground-own}
 use Rattle.words.specs.Contents.{Contents}
 use Rattle.store.specs.Rows.{books}
-use Rattle.dispatch.specs.Finished.{dispatchedFrom}
+use Rattle.dispatch.specs.Finished.{dispatched_from}
 use Rattle.answer.specs.Meaning.{meaning}
 use Rattle.answer.specs.Sound.{Sound}
 use Rattle.day.specs.Day.{MayGoOn, WentOn}
@@ -35,7 +35,7 @@ use Rattle.day.proofs.Proceeding.{same, sound-then}
 
 module _ (c : Contents) (j : ℕ) where
   -- out of turn outside a running day, and in turn in it
-  pub report-late : (c.phase ≡ Phase.running → ⊥) → ground (meaning c) (done j) ≡ 3
+  pub report-late : (c.phase ≡ Phase.running → ⊥) → ground_for (meaning c) (done j) ≡ 3
   unfolding in_turn
   report-late d = ground-turn (meaning c) (done j) (ne_eqb c.phase Phase.running d)
 
@@ -45,23 +45,23 @@ module _ (c : Contents) (j : ℕ) where
     turn = eq-eqb c.phase Phase.running now
 
     -- no task of the plan
-    pub report-outside : within j c.size ≡ false → ground (meaning c) (done j) ≡ 4
-    unfolding inLimits
+    pub report-outside : within j c.size ≡ false → ground_for (meaning c) (done j) ≡ 4
+    unfolding in_limits
     report-outside e = ground-limits (meaning c) (done j) turn e
 
     module _ (sound : Sound c) (inside : within j c.size ≡ true) where
-      own : ground (meaning c) (done j) ≡ demand (eqb (at c.standings j) running) 6 0
-      unfolding inLimits ownGround
+      own : ground_for (meaning c) (done j) ≡ demand (eqb (at c.standings j) running) 6 0
+      unfolding in_limits own_ground
       own =
           ground-own (meaning c) (done j) turn inside
           ∙ ap (λ (f : ℕ → ℕ). demand (eqb (f j) running) 6 0) (standings-meant c sound now)
 
       -- a task that does not run
-      pub report-idle : (at c.standings j ≡ running → ⊥) → ground (meaning c) (done j) ≡ 6
+      pub report-idle : (at c.standings j ≡ running → ⊥) → ground_for (meaning c) (done j) ≡ 6
       report-idle d = own ∙ ap (λ (b : Bool). demand b 6 0) (ne_eqb (at c.standings j) running d)
 
       -- and no ground is left
-      pub report-free : at c.standings j ≡ running → ground (meaning c) (done j) ≡ 0
+      pub report-free : at c.standings j ≡ running → ground_for (meaning c) (done j) ≡ 0
       report-free e = own ∙ ap (λ (b : Bool). demand b 6 0) (eq-eqb (at c.standings j) running e)
 
 -- a report against which there is no ground
@@ -70,8 +70,8 @@ pub record Accepted (c : Contents) (j : ℕ) : Type 0 where
   pub task : Task c.size j
   pub runs : at c.standings j ≡ running
 
-pub accepted : (c : Contents) (j : ℕ) → Sound c → ground (meaning c) (done j) ≡ 0 → Accepted c j
-unfolding ground in_turn inLimits ownGround
+pub accepted : (c : Contents) (j : ℕ) → Sound c → ground_for (meaning c) (done j) ≡ 0 → Accepted c j
+unfolding ground_for in_turn in_limits own_ground
 accepted c j sound none =
     let turn =
     demand-none (eqb c.phase Phase.running) 3
@@ -97,7 +97,7 @@ module _ (c : Contents) (j : ℕ) (reached : Reachable (meaning c)) (sound : Sou
   on = in-running c sound a.now
 
   -- what its parts ask
-  pub may-go-on : (list : List ℕ) → leastStarts ≤ length list → MayGoOn c j list
+  pub may-go-on : (list : List ℕ) → least_starts ≤ length list → MayGoOn c j list
   may-go-on list room =
       record {
         now = a.now;
@@ -117,22 +117,22 @@ module _ (c : Contents) (j : ℕ) (reached : Reachable (meaning c)) (sound : Sou
   whole = in-its-day sound on
 
   -- sharing out of the rules, by the words
-  shared-is : shared (meaning c) j ≡ dispatchedFrom c j
-  unfolding shared endedStandings
+  shared-is : shared (meaning c) j ≡ dispatched_from c j
+  unfolding shared ended_standings
   shared-is =
       λ z.
       dispatch c.size (parents-meant c sound z) (terms-meant c sound a.now z) (at (set (standings-rows c sound on z) j finished))
       (books-rows c sound on z).booked j
 
-  phase-is : phaseAfter (meaning c) j ≡ Phase.running
-  unfolding phaseAfter
-  phase-is =
+  phase_is : phase_after (meaning c) j ≡ Phase.running
+  unfolding phase_after
+  phase_is =
       ap (λ (f : ℕ → ℕ). cond (eqb (f j) 0) Phase.ready Phase.running) (parents-meant c sound)
       ∙ ap (λ (t : Bool). cond t Phase.ready Phase.running) (ne_eqb (at c.parents j) 0 higher)
 
   module _ {c' : Contents} {list list' : List ℕ} {count offers : ℕ} (e : WentOn c j c' list list' count offers) where
     ended_is : books e.left ≡ ended (meaning c) j
-    unfolding ended endedStandings
+    unfolding ended ended_standings
     ended_is =
         e.finished.books
         ∙ (λ z.
@@ -151,17 +151,17 @@ module _ (c : Contents) (j : ℕ) (reached : Reachable (meaning c)) (sound : Sou
     report-same :
         (used : ℕ)
         → accept (obey (meaning c) (done j)) used list
-        ≡ accept (proceed (meaning c) Phase.running (books e.left) noPeaks offers) used list
+        ≡ accept (proceed (meaning c) Phase.running (books e.left) no_peaks offers) used list
     unfolding obey
     report-same used =
-        λ z. accept (proceed (meaning c) (phase-is z) (sym ended_is z) noPeaks (sym offers-are z)) used list
+        λ z. accept (proceed (meaning c) (phase_is z) (sym ended_is z) no_peaks (sym offers-are z)) used list
 
     pub report-answers :
         (used : ℕ)
         → record {
-          answer = record { number = 0; used = used; starts = count; peaks = noPeaks; offers = offers };
+          answer = record { number = 0; used = used; starts = count; peaks = no_peaks; offers = offers };
           state = meaning c';
           list = list';
         }
         ≡ accept (obey (meaning c) (done j)) used list
-    report-answers used = same whole e.proceeded used noPeak offers ∙ sym (report-same used)
+    report-answers used = same whole e.proceeded used no_peak offers ∙ sym (report-same used)

@@ -9,13 +9,13 @@ use lib.ListN.{length}
 use borrow.Author.Tests.{eqb-true, eq-eqb, ne_eqb, le-leb, lt-leb}
 use Rattle.books.specs.Kind.{chilled}
 use Rattle.numbers.specs.Lists.{at}
-use Rattle.numbers.specs.Limits.{maxBound, leastStarts}
-use Rattle.tree.specs.Peak.{Peaked, noPeak}
+use Rattle.numbers.specs.Limits.{max_bound, least_starts}
+use Rattle.tree.specs.Peak.{Peaked, no_peak}
 use Rattle.tree.specs.Tree.{roots}
 use Rattle.rules.specs.Phase
 use Rattle.format.specs.Command.{places}
 use Rattle.rules.specs.Reachable.{Reachable}
-use Rattle.rules.specs.Grounds.{demand, in_turn, inLimits, noPeaks, ownGround, ground}
+use Rattle.rules.specs.Grounds.{demand, in_turn, in_limits, no_peaks, own_ground, ground_for}
 use Rattle.books.specs.Booking.{total}
 use Rattle.rules.specs.Obey as obeying
 use Rattle.rules.specs.Obey.{proceed, obey}
@@ -25,28 +25,28 @@ use Rattle.rules.proofs.InDay.{Planned}
 use Rattle.rules.proofs.Placing.{grounds-fit}
 use Rattle.rules.proofs.Judging.{ground-turn, ground-own}
 use Rattle.rules.proofs.Reaching.{lives}
-use Rattle.words.specs.Contents.{Contents, with_head, storeWithHead}
+use Rattle.words.specs.Contents.{Contents, with_head, store_with_head}
 use Rattle.words.proofs.Contents.{Lengths}
-use Rattle.survey.specs.Survey.{Ordered, orderGround, groundOf, peakedOf}
+use Rattle.survey.specs.Survey.{Ordered, order_ground, ground_of, peaked_of}
 use Rattle.answer.specs.Meaning.{meaning}
 use Rattle.answer.specs.Sound.{Sound}
 use Rattle.answer.proofs.Meant.{in-running, booked-rows, books-rows, cached-now, still_kept, staffed}
-use Rattle.day.specs.Day.{withBound, MayResize, Resized}
+use Rattle.day.specs.Day.{with_bound, MayResize, Resized}
 use Rattle.day.proofs.Staying.{Whole, in-its-day, head-cached}
 use Rattle.day.proofs.Surveying.{whole-order, ground-is, high-is-peak}
 use Rattle.day.proofs.Proceeding.{same, sound-then}
 
 -- out of turn outside a running day
-pub resize-late : (c : Contents) (bound : ℕ) → (c.phase ≡ Phase.running → ⊥) → ground (meaning c) (places bound) ≡ 3
+pub resize-late : (c : Contents) (bound : ℕ) → (c.phase ≡ Phase.running → ⊥) → ground_for (meaning c) (places bound) ≡ 3
 unfolding in_turn
 resize-late c bound d = ground-turn (meaning c) (places bound) (ne_eqb c.phase Phase.running d)
 
 -- B is the total that is kept
-booked-is :
+booked_is :
     (c : Contents) (sound : Sound c)
     → c.phase ≡ Phase.running
     → total c.size (at (meaning c).stores.chilled.booked) ≡ c.stores.chilled.total
-booked-is c sound now =
+booked_is c sound now =
     ap (λ (l : List ℕ). total c.size (at l)) (booked-rows c sound (in-running c sound now))
     ∙ sym ((cached-now c sound now).stores chilled).totals
 
@@ -59,47 +59,47 @@ module _ (c : Contents) (long : Lengths c) (reached : Reachable (meaning c)) (so
 
   -- what the survey asks
   pub may-survey : Ordered c
-  may-survey = whole-order c sound long reached (sound.day on).ranked-all
+  may-survey = whole-order c sound long reached (sound.day on).ranked_all
 
   -- it finds no ground against the activation order of a day
-  fine : groundOf c ≡ 0
-  unfolding orderGround
+  fine : ground_of c ≡ 0
+  unfolding order_ground
   fine =
-      sym (ground-is c sound long reached (sound.day on).ranked-all)
+      sym (ground-is c sound long reached (sound.day on).ranked_all)
       ∙ rw (eq-eqb (roots c.size (at (meaning c).parents)) 1 planned.rooted, planned.valid.upward) refl
 
-  module _ (bound : ℕ) (small : bound < 2 ^ 32) {high : Peaked} (is-high : high ≡ peakedOf c) where
+  module _ (bound : ℕ) (small : bound < 2 ^ 32) {high : Peaked} (is-high : high ≡ peaked_of c) where
     -- what is checked is the peak and B
     own :
-        ground (meaning c) (places bound)
+        ground_for (meaning c) (places bound)
         ≡ demand (leb high.trays bound) 9 (demand (leb c.stores.chilled.total bound) 13 0)
-    unfolding in_turn inLimits ownGround
+    unfolding in_turn in_limits own_ground
     own =
-        ground-own (meaning c) (places bound) (eq-eqb c.phase Phase.running now) (le-leb bound maxBound (omega arith))
+        ground-own (meaning c) (places bound) (eq-eqb c.phase Phase.running now) (le-leb bound max_bound (omega arith))
         ∙ ap₂ (λ (p b : ℕ). demand (leb p bound) 9 (demand (leb b bound) 13 0))
-        (sym (high-is-peak c sound long reached (sound.day on).ranked-all is-high fine)) (booked-is c sound now)
+        (sym (high-is-peak c sound long reached (sound.day on).ranked_all is-high fine)) (booked_is c sound now)
 
     -- 9
-    pub resize-high : bound < high.trays → ground (meaning c) (places bound) ≡ 9
+    pub resize-high : bound < high.trays → ground_for (meaning c) (places bound) ≡ 9
     resize-high h =
         own ∙ ap (λ (b : Bool). demand b 9 (demand (leb c.stores.chilled.total bound) 13 0)) (lt-leb high.trays bound h)
 
     -- 13
     module _ (above : high.trays ≤ bound) where
-      weighed : ground (meaning c) (places bound) ≡ demand (leb c.stores.chilled.total bound) 13 0
+      weighed : ground_for (meaning c) (places bound) ≡ demand (leb c.stores.chilled.total bound) 13 0
       weighed =
           own ∙ ap (λ (b : Bool). demand b 9 (demand (leb c.stores.chilled.total bound) 13 0)) (le-leb high.trays bound above)
 
-      pub resize-booked : bound < c.stores.chilled.total → ground (meaning c) (places bound) ≡ 13
+      pub resize-booked : bound < c.stores.chilled.total → ground_for (meaning c) (places bound) ≡ 13
       resize-booked h = weighed ∙ ap (λ (b : Bool). demand b 13 0) (lt-leb c.stores.chilled.total bound h)
 
       -- none
-      pub resize-free : c.stores.chilled.total ≤ bound → ground (meaning c) (places bound) ≡ 0
+      pub resize-free : c.stores.chilled.total ≤ bound → ground_for (meaning c) (places bound) ≡ 0
       resize-free h = weighed ∙ ap (λ (b : Bool). demand b 13 0) (le-leb c.stores.chilled.total bound h)
 
 -- where there is none
 module _ (c : Contents) (reached : Reachable (meaning c)) (sound : Sound c) (bound : ℕ) (small : bound < 2 ^ 32)
-    (none : ground (meaning c) (places bound) ≡ 0) where
+    (none : ground_for (meaning c) (places bound) ≡ 0) where
   runs : c.phase ≡ Phase.running
   unfolding in_turn
   runs = eqb-true c.phase Phase.running (no-ground (meaning c) (places bound) none).turn
@@ -108,9 +108,9 @@ module _ (c : Contents) (reached : Reachable (meaning c)) (sound : Sound c) (bou
   in-day = in-running c sound runs
 
   -- what its parts ask
-  pub may-resize : (list : List ℕ) → leastStarts ≤ length list → MayResize c bound list
+  pub may-resize : (list : List ℕ) → least_starts ≤ length list → MayResize c bound list
   may-resize list room =
-      let booked = booked-is c sound runs in
+      let booked = booked_is c sound runs in
       let fits = (grounds-fit (meaning c) bound (no-ground (meaning c) (places bound) none).own).booked in
       record {
         now = runs;
@@ -123,8 +123,8 @@ module _ (c : Contents) (reached : Reachable (meaning c)) (sound : Sound c) (bou
       }
 
   -- the plan with the new bound is sound
-  whole : Whole (withBound bound c)
-  unfolding withBound with_head storeWithHead
+  whole : Whole (with_bound bound c)
+  unfolding with_bound with_head store_with_head
   whole =
       let given = sound.given in
       let day = sound.day in-day in
@@ -141,23 +141,23 @@ module _ (c : Contents) (reached : Reachable (meaning c)) (sound : Sound c) (bou
         works = sound.works;
         outs = sound.outs;
         given =
-            record { unopened = given.unopened; in-steps = given.in-steps; whole = given.whole; some = given.some };
+            record { unopened = given.unopened; in_steps = given.in_steps; whole = given.whole; some = given.some };
         activation = sound.activation;
         execution = sound.execution;
         rest = λ early. absurd (omega arith);
         day =
             λ _.
             record {
-              ranked-all = day.ranked-all;
-              placed-all = day.placed-all;
+              ranked_all = day.ranked_all;
+              placed_all = day.placed_all;
               cached = λ e. head-cached c.phase bound (day.cached e);
               closed = λ late. absurd (omega arith);
             };
       })
       in-day
 
-  means : meaning (withBound bound c) ≡ obeying.withBound (meaning c) bound
-  unfolding withBound with_head storeWithHead obeying.withBound
+  means : meaning (with_bound bound c) ≡ obeying.with_bound (meaning c) bound
+  unfolding with_bound with_head store_with_head obeying.with_bound
   means = refl
 
   module _ {c' : Contents} {list list' : List ℕ} {count : ℕ} (r : Resized c bound c' list list' count) where
@@ -168,12 +168,12 @@ module _ (c : Contents) (reached : Reachable (meaning c)) (sound : Sound c) (bou
     pub resize-answers :
         (used : ℕ)
         → record {
-          answer = record { number = 0; used = used; starts = count; peaks = noPeaks; offers = 0 };
+          answer = record { number = 0; used = used; starts = count; peaks = no_peaks; offers = 0 };
           state = meaning c';
           list = list';
         }
         ≡ accept (obey (meaning c) (places bound)) used list
     unfolding obey
     resize-answers used =
-        same whole r used noPeak 0
-        ∙ (λ z. accept (proceed (means z) Phase.running (sym (books-rows c sound in-day) z) noPeaks 0) used list)
+        same whole r used no_peak 0
+        ∙ (λ z. accept (proceed (means z) Phase.running (sym (books-rows c sound in-day) z) no_peaks 0) used list)

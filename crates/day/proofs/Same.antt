@@ -3,7 +3,7 @@ use mathlib.Core.Path.{ap, ◌∙◌}
 use Rattle.books.specs.Kind.{chilled}
 use Rattle.words.specs.Contents.{Contents}
 use Rattle.store.specs.Kept.{SamePlan}
-use Rattle.survey.specs.Prepare.{with_needs, withFigures, Prepared}
+use Rattle.survey.specs.Prepare.{with_needs, with_figures, Prepared}
 use Rattle.day.specs.Day.{SameTasks}
 
 pub same-tasks : {c c' : Contents} → SamePlan c c' → SameTasks c c'
@@ -44,7 +44,7 @@ then_same s t =
 
 -- the figures of a day are no part of what is given
 pub prepared-same : {c c' : Contents} → Prepared c c' → SameTasks c c'
-unfolding withFigures with_needs
+unfolding with_figures with_needs
 prepared-same {c} {c'} p =
     record {
       size = ap (λ (d : Contents). d.size) p.same;

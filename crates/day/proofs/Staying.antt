@@ -7,11 +7,11 @@ use Rattle.books.specs.Kind
 use Rattle.numbers.specs.Lists.{at}
 use Rattle.rules.specs.Phase
 use Rattle.words.specs.Layout.{words, chilled}
-use Rattle.words.specs.Contents.{Contents, with_head, storeWithHead}
+use Rattle.words.specs.Contents.{Contents, with_head, store_with_head}
 use Rattle.store.specs.Cached.{Cached}
-use Rattle.store.specs.Store.{withStore, withHoldings, heldAlone}
+use Rattle.store.specs.Store.{with_store, with_holdings, held_alone}
 use Rattle.store.proofs.InStore.{by_kind}
-use Rattle.dispatch.specs.Ended.{withProgress}
+use Rattle.dispatch.specs.Ended.{with_progress}
 use Rattle.answer.specs.Sound.{Closed, Sound}
 use Rattle.day.specs.Day.{SameTasks}
 
@@ -19,8 +19,8 @@ use Rattle.day.specs.Day.{SameTasks}
 pub record Whole (c : Contents) : Type 0 where
   pub sound : Sound c
   pub given : Phase.orders ≤ c.phase
-  pub ranked-all : c.ranked ≡ c.size
-  pub placed-all : c.placed ≡ c.size
+  pub ranked_all : c.ranked ≡ c.size
+  pub placed_all : c.placed ≡ c.size
 
 -- such a plan in its day
 pub in-its-day : {c : Contents} → Sound c → Phase.running ≤ c.phase → Whole c
@@ -28,13 +28,13 @@ in-its-day sound on =
     record {
       sound = sound;
       given = omega arith;
-      ranked-all = (sound.day on).ranked-all;
-      placed-all = (sound.day on).placed-all;
+      ranked_all = (sound.day on).ranked_all;
+      placed_all = (sound.day on).placed_all;
     }
 
 -- what is given does not hang on the phase
 pub phase-same : {c d : Contents} (phase : ℕ) → SameTasks c d → SameTasks c (with_head 0 phase d)
-unfolding with_head storeWithHead
+unfolding with_head store_with_head
 phase-same phase t =
     record {
       size = t.size;
@@ -54,7 +54,7 @@ phase-same phase t =
 
 -- nor do the figures of a day hang on the phase and the bound
 pub head-cached : {c : Contents} (phase bound : ℕ) → Cached c → Cached (with_head 0 phase (with_head chilled bound c))
-unfolding with_head storeWithHead
+unfolding with_head store_with_head
 head-cached phase bound k =
     record {
       long = k.long;
@@ -64,8 +64,8 @@ head-cached phase bound k =
       runs = k.runs;
       ends = k.ends;
       placed = k.placed;
-      standings-zero = k.standings-zero;
-      unended-zero = k.unended-zero;
+      standings_zero = k.standings_zero;
+      unended_zero = k.unended_zero;
       stores =
           by_kind _
           (let s = k.stores Kind.chilled in
@@ -74,16 +74,16 @@ head-cached phase bound k =
             figured = s.figured;
             totals = s.totals;
             uses = s.uses;
-            booked-zero = s.booked-zero;
-            figures-zero = s.figures-zero;
+            booked_zero = s.booked_zero;
+            figures_zero = s.figures_zero;
           });
     }
 
 -- nor on who runs and has ended, and on what one task holds alone
 pub alone-same :
     (c : Contents) (x units : ℕ) (standings unended : List ℕ) (active ended : ℕ)
-    → SameTasks c (withStore Kind.chilled (heldAlone x units c.stores.chilled) (withProgress standings unended active ended c))
-unfolding withStore heldAlone withHoldings withProgress
+    → SameTasks c (with_store Kind.chilled (held_alone x units c.stores.chilled) (with_progress standings unended active ended c))
+unfolding with_store held_alone with_holdings with_progress
 alone-same c x units standings unended active ended =
     record {
       size = refl;
@@ -131,7 +131,7 @@ day-sound {c = c} {d = d} whole t long on named cached closed =
       given =
           record {
             unopened = λ e. absurd (omega arith);
-            in-steps = λ e. absurd (omega arith);
+            in_steps = λ e. absurd (omega arith);
             whole = λ _. t.given ∙ s.given.whole whole.given ∙ ap suc (sym t.size);
             some = λ _. (let n = t.size in let m = s.given.some whole.given in omega arith);
           };
@@ -141,8 +141,8 @@ day-sound {c = c} {d = d} whole t long on named cached closed =
       day =
           λ _.
           record {
-            ranked-all = t.ranked ∙ whole.ranked-all ∙ sym t.size;
-            placed-all = t.placed ∙ whole.placed-all ∙ sym t.size;
+            ranked_all = t.ranked ∙ whole.ranked_all ∙ sym t.size;
+            placed_all = t.placed ∙ whole.placed_all ∙ sym t.size;
             cached = cached;
             closed = closed;
           };

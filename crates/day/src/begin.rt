@@ -1,7 +1,7 @@
 // BEGIN: the day begins, if the plan is in order and fits.
 ghost use Rattle.std.specs.Prelude.{◌≡◌, ◌≤◌, length};
 ghost use Rattle.format.specs.Command as rules;
-ghost use Rattle.numbers.specs.Limits.{leastStarts};
+ghost use Rattle.numbers.specs.Limits.{least_starts};
 ghost use Rattle.words.specs.Contents.{contents};
 ghost use Rattle.answer.specs.ValidPlan.{ValidPlan, Judged};
 ghost use Rattle.day.specs.Day.{begins, MayBegin, Begun};
@@ -43,7 +43,7 @@ fn start_day(plan: &mut [u32; Plan::WORDS], starts: &mut [u16]) -> usize
 }
 
 pub fn begin(plan: &mut [u32; Plan::WORDS], used: usize, starts: &mut [u16]) -> Answer
-    requires { ValidPlan plan.old × (leastStarts ≤ length starts.old) }
+    requires { ValidPlan plan.old × (least_starts ≤ length starts.old) }
     ensures { Judged plan.old rules.begin used starts.old result plan.new starts.new }
 {
     if !is_in_turn(plan) {

@@ -2,7 +2,7 @@
 ghost use Rattle.std.specs.Prelude.{◌≡◌};
 ghost use Rattle.format.specs.Command as rules;
 ghost use Rattle.rules.specs.Phase;
-ghost use Rattle.rules.specs.State.{rootOf};
+ghost use Rattle.rules.specs.State.{root_of};
 ghost use Rattle.words.specs.Contents.{contents};
 ghost use Rattle.answer.specs.Meaning.{plan_of};
 ghost use Rattle.answer.specs.ValidPlan.{ValidPlan, Obeyed};
@@ -15,7 +15,7 @@ use words::plan::Plan;
 // The root: in the activation order each task stands before its parent, so it is the last.
 fn root(plan: &[u32; Plan::WORDS]) -> usize
     requires { ValidPlan plan.now × ((contents plan.now).phase ≡ Phase.ready) }
-    ensures { result ≡ rootOf (plan_of plan.now) }
+    ensures { result ≡ root_of (plan_of plan.now) }
 {
     let size = cell(plan, Plan::HEAD, Plan::SIZE) as usize;
     entry(plan, Plan::ACTIVATION, size - 1) as usize

@@ -1,13 +1,13 @@
 // DONE: a task has ended.
 ghost use Rattle.std.specs.Prelude.{◌≡◌, ◌≤◌, length};
 ghost use Rattle.format.specs.Command as rules;
-ghost use Rattle.numbers.specs.Limits.{leastStarts};
+ghost use Rattle.numbers.specs.Limits.{least_starts};
 ghost use Rattle.words.specs.Contents.{contents};
 ghost use Rattle.answer.specs.ValidPlan.{ValidPlan, Judged};
-ghost use Rattle.rules.specs.Grounds.{ground};
+ghost use Rattle.rules.specs.Grounds.{ground_for};
 ghost use Rattle.answer.specs.Meaning.{plan_of};
 ghost use Rattle.dispatch.specs.Ended.{MayEnd};
-ghost use Rattle.day.specs.Day.{MayGoOn, WentOn, madeReady};
+ghost use Rattle.day.specs.Day.{MayGoOn, WentOn, made_ready};
 
 use crate::advance::advance;
 use answer::Answer;
@@ -26,7 +26,7 @@ pub(crate) struct Counted {
 // The ground against a report; 0 is none.
 fn report_ground(plan: &[u32; Plan::WORDS], task: usize) -> u8
     requires { ValidPlan plan.now }
-    ensures { result ≡ ground (plan_of plan.now) (rules.done task) }
+    ensures { result ≡ ground_for (plan_of plan.now) (rules.done task) }
 {
     if cell(plan, Plan::HEAD, Plan::PHASE) != Plan::RUNNING {
         return 3;
@@ -56,14 +56,14 @@ fn go_on(plan: &mut [u32; Plan::WORDS], task: usize, starts: &mut [u16]) -> Coun
 // "When the root ends, its out remains booked and in use, and the phase is a new one, ready."
 fn make_ready(plan: &mut [u32; Plan::WORDS], root: usize)
     requires { MayEnd root (contents plan.old) }
-    ensures { contents plan.new ≡ madeReady root (contents plan.old) }
+    ensures { contents plan.new ≡ made_ready root (contents plan.old) }
 {
     end_root(plan, root);
     set_cell(plan, Plan::HEAD, Plan::PHASE, Plan::READY);
 }
 
 pub fn report(plan: &mut [u32; Plan::WORDS], task: u16, used: usize, starts: &mut [u16]) -> Answer
-    requires { ValidPlan plan.old × (leastStarts ≤ length starts.old) }
+    requires { ValidPlan plan.old × (least_starts ≤ length starts.old) }
     ensures { Judged plan.old (rules.done task) used starts.old result plan.new starts.new }
 {
     let ground = report_ground(plan, task as usize);

@@ -1,8 +1,8 @@
 // 08: the cold room has other places, a new M.
 ghost use Rattle.std.specs.Prelude.{◌≡◌, ◌≤◌, length};
 ghost use Rattle.format.specs.Command as rules;
-ghost use Rattle.numbers.specs.Limits.{leastStarts};
-ghost use Rattle.rules.specs.Grounds.{ground};
+ghost use Rattle.numbers.specs.Limits.{least_starts};
+ghost use Rattle.rules.specs.Grounds.{ground_for};
 ghost use Rattle.words.specs.Contents.{contents};
 ghost use Rattle.answer.specs.Meaning.{plan_of};
 ghost use Rattle.answer.specs.ValidPlan.{ValidPlan, Judged};
@@ -18,7 +18,7 @@ use words::plan::Plan;
 // none. The peak is that of the whole activation order, whoever has ended.
 fn resize_ground(plan: &[u32; Plan::WORDS], bound: u32) -> u8
     requires { ValidPlan plan.now }
-    ensures { result ≡ ground (plan_of plan.now) (rules.places bound) }
+    ensures { result ≡ ground_for (plan_of plan.now) (rules.places bound) }
 {
     if cell(plan, Plan::HEAD, Plan::PHASE) != Plan::RUNNING {
         return 3;
@@ -44,7 +44,7 @@ fn advance_within(plan: &mut [u32; Plan::WORDS], bound: u32, starts: &mut [u16])
 
 // "the starts are answered as for DONE, with no offers".
 pub fn resize(plan: &mut [u32; Plan::WORDS], bound: u32, used: usize, starts: &mut [u16]) -> Answer
-    requires { ValidPlan plan.old × (leastStarts ≤ length starts.old) }
+    requires { ValidPlan plan.old × (least_starts ≤ length starts.old) }
     ensures { Judged plan.old (rules.places bound) used starts.old result plan.new starts.new }
 {
     let ground = resize_ground(plan, bound);

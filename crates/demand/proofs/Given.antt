@@ -9,35 +9,35 @@ use borrow.Author.Tests.{eqb-true}
 use Rattle.rules.specs.Phase
 use Rattle.rules.specs.State.{State}
 use Rattle.format.specs.Command.{Command, activation, begin}
-use Rattle.rules.specs.Grounds.{in_turn, ground}
-use Rattle.rules.specs.Obey.{withOrders}
-use Rattle.streams.specs.Stream.{obeyAll, acceptsAll}
+use Rattle.rules.specs.Grounds.{in_turn, ground_for}
+use Rattle.rules.specs.Obey.{with_orders}
+use Rattle.streams.specs.Stream.{obey_all, accepts_all}
 use Rattle.streams.specs.Write.{Wrote}
 use Rattle.postorders.specs.FindHolds.{SameTasks, BeginsUnlessNoneFits, FoundHolds, FindHolds}
 use Rattle.numbers.proofs.Tests.{and-true, and_both}
 use Rattle.answer.specs.Meaning.{plan_of}
-use Rattle.demand.specs.Calls.{Call, CallContract, Calls, leftBy, accepted, allAccepted, Asks, AskEach}
+use Rattle.demand.specs.Calls.{Call, CallContract, Calls, left_by, accepted, all_accepted, Asks, AskEach}
 use Rattle.demand.proofs.Followed.{number_is, followed}
 
 -- calls that ask commands which are accepted in turn
 asked-each :
     (ks : List Command) (calls : List Call) (w : List ℕ)
-    → acceptsAll (plan_of w) ks ≡ true
+    → accepts_all (plan_of w) ks ≡ true
     → Calls w calls
     → AskEach ks calls
-    → (allAccepted calls ≡ true) × (plan_of (leftBy w calls) ≡ obeyAll (plan_of w) ks)
-unfolding acceptsAll obeyAll Calls leftBy allAccepted AskEach
+    → (all_accepted calls ≡ true) × (plan_of (left_by w calls) ≡ obey_all (plan_of w) ks)
+unfolding accepts_all obey_all Calls left_by all_accepted AskEach
 asked-each [] [] w grants e asks = (refl, refl)
 asked-each [] (c ∷ later) w grants e asks = absurd asks
 asked-each (k ∷ ks) [] w grants e asks = absurd asks
 asked-each (k ∷ ks) (c ∷ later) w grants e asks =
-    let granted = and-true (eqb (ground (plan_of w) k) 0) _ grants in
-    let o = followed e.0 asks.0 (eqb-true (ground (plan_of w) k) 0 granted.0) in
+    let granted = and-true (eqb (ground_for (plan_of w) k) 0) _ grants in
+    let o = followed e.0 asks.0 (eqb-true (ground_for (plan_of w) k) 0 granted.0) in
     let next =
-    asked-each ks later c.left (subst (λ (s : State). acceptsAll s ks ≡ true) (sym o.left) granted.1) e.1 asks.1
+    asked-each ks later c.left (subst (λ (s : State). accepts_all s ks ≡ true) (sym o.left) granted.1) e.1 asks.1
     in (
-      and_both (accepted c) (allAccepted later) o.accepts next.0,
-      next.1 ∙ ap (λ (s : State). obeyAll s ks) o.left,
+      and_both (accepted c) (all_accepted later) o.accepts next.0,
+      next.1 ∙ ap (λ (s : State). obey_all s ks) o.left,
     )
 
 -- an answer with which an order is found
@@ -51,8 +51,8 @@ module _ (w list : List ℕ) (r : Wrote) (holds : FindHolds (plan_of w) list r) 
       → (giving : List Call)
       → Calls w giving
       → AskEach (map activation (take r.count r.list)) giving
-      → (allAccepted giving ≡ true)
-      × (plan_of (leftBy w giving) ≡ withOrders (plan_of w) (take r.count r.list) (plan_of w).execution)
+      → (all_accepted giving ≡ true)
+      × (plan_of (left_by w giving) ≡ with_orders (plan_of w) (take r.count r.list) (plan_of w).execution)
   order-given now none giving e asks =
       let takes = order-holds.given now none in
       let both = asked-each (map activation (take r.count r.list)) giving w takes.0 e asks in

@@ -11,9 +11,9 @@ use borrow.Author.Tests.{eqb-true}
 use Rattle.rules.specs.Phase
 use Rattle.rules.specs.State.{State, none}
 use Rattle.format.specs.Command.{Command, bytes, read, decode}
-use Rattle.rules.specs.Grounds.{ground}
-use Rattle.streams.specs.Stream.{obeyAll, acceptsAll}
-use Rattle.streams.specs.Instance.{instanceOf, unbegun, commands, written}
+use Rattle.rules.specs.Grounds.{ground_for}
+use Rattle.streams.specs.Stream.{obey_all, accepts_all}
+use Rattle.streams.specs.Instance.{instance_of, unbegun, commands, written}
 use Rattle.streams.specs.Write.{Wrote, write}
 use Rattle.rules.specs.Reachable.{Reachable}
 use Rattle.streams.specs.WriteHolds.{WriteHolds}
@@ -25,7 +25,7 @@ use Rattle.streams.proofs.Written.{every-write-holds, granted-whole}
 use Rattle.answer.specs.Meaning.{plan_of}
 use Rattle.answer.specs.ValidPlan.{NewPlan}
 use Rattle.plan.proofs.NewPlan.{new-empty}
-use Rattle.demand.specs.Calls.{Call, Calls, leftBy, accepted, allAccepted, Reads}
+use Rattle.demand.specs.Calls.{Call, Calls, left_by, accepted, all_accepted, Reads}
 use Rattle.demand.proofs.Followed.{followed}
 
 -- calls that read the bytes of commands that are accepted in turn, wherever they stand
@@ -33,17 +33,17 @@ through :
     (cs : List Command) (calls : List Call) (w before rest stream : List ℕ)
     → stream ≡ before ++ flat_map bytes cs ++ rest
     → FitAll cs
-    → acceptsAll (plan_of w) cs ≡ true
+    → accepts_all (plan_of w) cs ≡ true
     → Calls w calls
     → Reads stream (length before) (length before + length (flat_map bytes cs)) calls
-    → (allAccepted calls ≡ true) × (plan_of (leftBy w calls) ≡ obeyAll (plan_of w) cs)
-unfolding flat_map bytes acceptsAll obeyAll Calls leftBy allAccepted Reads
+    → (all_accepted calls ≡ true) × (plan_of (left_by w calls) ≡ obey_all (plan_of w) cs)
+unfolding flat_map bytes accepts_all obey_all Calls left_by all_accepted Reads
 through [] [] w before rest stream is fit grants e reads = (refl, refl)
 through [] (c ∷ later) w before rest stream is fit grants e reads = let more = reads.3 in absurd (omega arith)
 through (k ∷ cs) [] w before rest stream is fit grants e reads =
     absurd (omega (arith, reads, length-append (bytes k) (flat_map bytes cs)))
 through (k ∷ cs) (c ∷ later) w before rest stream is fit grants e reads =
-    let granted = and-true (eqb (ground (plan_of w) k) 0) _ grants in
+    let granted = and-true (eqb (ground_for (plan_of w) k) 0) _ grants in
     let split : stream ≡ before ++ bytes k ++ flat_map bytes cs ++ rest =
     is ∙ ap (λ (l : List ℕ). l ++ rest) (sym (append_assoc before (bytes k) (flat_map bytes cs)))
     in
@@ -53,19 +53,19 @@ through (k ∷ cs) (c ∷ later) w before rest stream is fit grants e reads =
     in
     let o =
     followed e.0 (record { used = length (bytes k); bytes = found; long = reads.2 })
-    (eqb-true (ground (plan_of w) k) 0 granted.0)
+    (eqb-true (ground_for (plan_of w) k) 0 granted.0)
     in
     let next =
     through cs later c.left (before ++ bytes k) rest stream split fit.1
-    (subst (λ (s : State). acceptsAll s cs ≡ true) (sym o.left) granted.1)
+    (subst (λ (s : State). accepts_all s cs ≡ true) (sym o.left) granted.1)
     e.1
     (subst₂ (λ (place end : ℕ). Reads stream place end later)
     (ap (λ (u : ℕ). length before + u) o.used-is ∙ sym (length-append before (bytes k)))
     (omega (arith, length-append before (bytes k), length-append (bytes k) (flat_map bytes cs)))
     reads.4)
     in (
-      and_both (accepted c) (allAccepted later) o.accepts next.0,
-      next.1 ∙ ap (λ (s : State). obeyAll s cs) o.left,
+      and_both (accepted c) (all_accepted later) o.accepts next.0,
+      next.1 ∙ ap (λ (s : State). obey_all s cs) o.left,
     )
 
 -- the plan that the writer answers of, from any stream that begins with what was written
@@ -80,10 +80,10 @@ pub read_back :
     → NewPlan w
     → Calls w reading
     → Reads stream 0 r.count reading
-    → (allAccepted reading ≡ true) × (plan_of (leftBy w reading) ≡ unbegun (instanceOf s))
-unfolding written Phase.holdsTrays
+    → (all_accepted reading ≡ true) × (plan_of (left_by w reading) ≡ unbegun (instance_of s))
+unfolding written Phase.holds_trays
 read_back {s} reached list {r} is accepted stream w reading front new e reads =
-    let m = instanceOf s in
+    let m = instance_of s in
     let holds : WriteHolds s list r =
     subst (λ (x : Wrote). WriteHolds s list x) (sym is) (every-write-holds.lists s reached list)
     in
@@ -93,10 +93,10 @@ read_back {s} reached list {r} is accepted stream w reading front new e reads =
     in
     let both =
     through (commands m) reading w [] (drop r.count stream) stream begins leads.fitting
-    (subst (λ (t : State). acceptsAll t (commands m) ≡ true) (sym (new-empty new)) leads.accepted)
+    (subst (λ (t : State). accepts_all t (commands m) ≡ true) (sym (new-empty new)) leads.accepted)
     e
     (subst (λ (end : ℕ). Reads stream 0 end reading) (holds.count accepted ∙ sym (zero-add (length (written m)))) reads)
     in (
       both.0,
-      both.1 ∙ ap (λ (t : State). obeyAll t (commands m)) (new-empty new) ∙ leads.obeyed,
+      both.1 ∙ ap (λ (t : State). obey_all t (commands m)) (new-empty new) ∙ leads.obeyed,
     )

@@ -9,14 +9,14 @@ use Rattle.rules.specs.State.{State}
 use Rattle.format.specs.Command.{plan, bytes, decode}
 use Rattle.rules.specs.Reachable.{Reachable, next}
 use Rattle.rules.specs.Answer as rules
-use Rattle.rules.specs.Day.{inForce}
+use Rattle.rules.specs.Day.{in_force}
 use Rattle.worked.specs.Marked.{ask, reading}
 use Rattle.worked.proofs.Computing.{computing}
-use Rattle.words.specs.Layout.{words, headBase}
+use Rattle.words.specs.Layout.{words, head_base}
 use Rattle.words.specs.Contents.{contents}
 use Rattle.answer.specs.Meaning.{plan_of}
 use Rattle.answer.specs.ValidPlan.{Judged, NewPlan}
-use Rattle.demand.specs.Calls.{Call, CallContract, Calls, Entries, Answers, leftBy, asked, allReceived, nextPlan, history}
+use Rattle.demand.specs.Calls.{Call, CallContract, Calls, Entries, Answers, left_by, asked, all_received, next_plan, history}
 use Rattle.demand.specs.Demand.{OpenedWith, CallsHold}
 use Rattle.answer.proofs.Obeying.{refused, accepted, acceptance}
 use Rattle.opening.proofs.Opening.{opening-contents, opening-sound, opening-means, open_free}
@@ -34,8 +34,8 @@ opens w =
       asking = ask (plan 3 2 7);
       answer = accepted 8;
       left =
-          set (set (set (set (set w (headBase + 0) Phase.steps) (headBase + 1) 3) (headBase + 2) 2) (headBase + 3) 1)
-          (headBase + 5) 7;
+          set (set (set (set (set w (head_base + 0) Phase.steps) (head_base + 1) 3) (head_base + 2) 2) (head_base + 3) 1)
+          (head_base + 5) 7;
       list = replicate 64 0;
     }
 
@@ -48,10 +48,10 @@ module _ {w : List ℕ} (new : NewPlan w) where
   unknown-byte = record { same = refl; valid = new-valid new; refused = λ _. refl }
 
   judged : Judged w (plan 3 2 7) 8 (replicate 64 0) (accepted 8) (opens w).left (replicate 64 0)
-  unfolding opens Phase.holdsTrays
+  unfolding opens Phase.holds_trays
   judged =
       acceptance
-      (open_free (contents w) 3 2 7 (ap (λ (s : State). Phase.holdsTrays s.phase) (new-empty new)) refl refl (omega arith))
+      (open_free (contents w) 3 2 7 (ap (λ (s : State). Phase.holds_trays s.phase) (new-empty new)) refl refl (omega arith))
       refl
       (opening-contents w _ _ _ _ 3 2 7 (new-long new) refl refl refl refl refl)
       (opening-means (contents w) (new-blank new) 3 2 7 (contents w))
@@ -81,19 +81,19 @@ pub worked-hold : CallsHold (replicate words 0) (worked (replicate words 0))
 worked-hold = every-call-holds (replicate words 0) refl (worked (replicate words 0)) (worked-calls refl)
 
 -- the numbers that are answered
-pub worked-numbers : (w : List ℕ) → map (λ r. r.answer.number) (allReceived (worked w)) ≡ 2 ∷ 0 ∷ []
-unfolding allReceived worked unknown opens
+pub worked-numbers : (w : List ℕ) → map (λ r. r.answer.number) (all_received (worked w)) ≡ 2 ∷ 0 ∷ []
+unfolding all_received worked unknown opens
 worked-numbers w = refl
 
 -- the plan is the one that the second call opened
-pub worked-plan : OpenedWith 3 2 7 (plan_of (leftBy (replicate words 0) (worked (replicate words 0))))
-unfolding worked opens ask computing nextPlan history inForce
+pub worked-plan : OpenedWith 3 2 7 (plan_of (left_by (replicate words 0) (worked (replicate words 0))))
+unfolding worked opens ask computing next_plan history in_force
 worked-plan =
     worked-hold.plans (unknown (replicate words 0) ∷ []) (opens (replicate words 0)) [] 3 2 7 8 refl refl refl refl
 
 -- not all tasks are given yet, so no order is found
 pub worked-finds :
-    (q : Answers (leftBy (replicate words 0) (worked (replicate words 0)))) (list : List ℕ)
+    (q : Answers (left_by (replicate words 0) (worked (replicate words 0)))) (list : List ℕ)
     → Entries list
     → (q.found list).number ≡ 3
 unfolding worked unknown opens ask reading asked computing

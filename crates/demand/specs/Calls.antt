@@ -3,15 +3,15 @@ use Rattle.std.specs.Prelude.{◌≡◌, Bool, true, false, ◌&&◌, ◌||◌, 
 use Rattle.format.specs.Command.{Command, read, decode}
 use Rattle.rules.specs.Answer as rules
 use Rattle.rules.specs.Question as questions
-use Rattle.numbers.specs.Limits.{leastStarts}
+use Rattle.numbers.specs.Limits.{least_starts}
 use Rattle.numbers.specs.Lists.{at}
 use Rattle.whys.specs.Why.{Reason, why}
 use Rattle.streams.specs.Write.{Wrote, write}
-use Rattle.postorders.specs.Find.{findOrder}
+use Rattle.postorders.specs.Find.{find_order}
 use Rattle.rules.specs.Day as days
 use Rattle.words.specs.Contents.{contents}
 use Rattle.answer.specs.declared.Answer.{Answer}
-use Rattle.answer.specs.Meaning.{plan_of, answeredOf}
+use Rattle.answer.specs.Meaning.{plan_of, answered_of}
 use Rattle.answer.specs.ValidPlan.{Commanded}
 
 -- one call: what was asked, on any bytes at any place with any start list, and what the caller received: the answer, and the words of
@@ -32,37 +32,37 @@ Calls w [] = Unit {0}
 Calls w (c ∷ later) = CallContract w c × Calls c.left later
 
 -- the words that a list of calls leaves
-unfoldable pub leftBy : List ℕ → List Call → List ℕ
-leftBy w [] = w
-leftBy w (c ∷ later) = leftBy c.left later
+unfoldable pub left_by : List ℕ → List Call → List ℕ
+left_by w [] = w
+left_by w (c ∷ later) = left_by c.left later
 
 -- all that was received with a call, and with a list of calls, and what was asked
 abbrev pub received : Call → rules.Answered
-received c = answeredOf c.answer (contents c.left) c.list
+received c = answered_of c.answer (contents c.left) c.list
 
 unfoldable pub asked : List Call → List rules.Asking
 asked calls = map (λ c. c.asking) calls
 
-unfoldable pub allReceived : List Call → List rules.Answered
-allReceived calls = map received calls
+unfoldable pub all_received : List Call → List rules.Answered
+all_received calls = map received calls
 
 -- a call that is accepted, one that opens a day and one that opens a plan, by the bytes that were asked and what was received
 abbrev pub accepted : Call → Bool
 accepted c = days.accepts (received c)
 
-abbrev pub opensDay : Call → Bool
-opensDay c = days.beginsDay c.asking (received c)
+abbrev pub opens_day : Call → Bool
+opens_day c = days.begins_day c.asking (received c)
 
-abbrev pub opensPlan : Call → Bool
-opensPlan c = days.beginsPlan c.asking (received c)
+abbrev pub opens_plan : Call → Bool
+opens_plan c = days.begins_plan c.asking (received c)
 
-unfoldable pub nextPlan : List Call → Bool
-nextPlan [] = false
-nextPlan (c ∷ later) = opensPlan c || nextPlan later
+unfoldable pub next_plan : List Call → Bool
+next_plan [] = false
+next_plan (c ∷ later) = opens_plan c || next_plan later
 
-unfoldable pub allAccepted : List Call → Bool
-allAccepted [] = true
-allAccepted (c ∷ later) = accepted c && allAccepted later
+unfoldable pub all_accepted : List Call → Bool
+all_accepted [] = true
+all_accepted (c ∷ later) = accepted c && all_accepted later
 
 -- calls that read a stream from a place up to an end, each where the one before has come to, with start lists that are long enough
 unfoldable pub Reads : List ℕ → ℕ → ℕ → List Call → Type 0
@@ -70,7 +70,7 @@ Reads stream place end [] = place ≡ end
 Reads stream place end (c ∷ later) =
     (c.asking.stream ≡ stream)
     × (c.asking.place ≡ place)
-    × (leastStarts ≤ length c.asking.list)
+    × (least_starts ≤ length c.asking.list)
     × (place < end)
     × Reads stream (place + c.answer.used) end later
 
@@ -78,7 +78,7 @@ Reads stream place end (c ∷ later) =
 pub record Asks (k : Command) (c : Call) : Type 0 where
   pub used : ℕ
   pub bytes : decode c.asking.stream c.asking.place ≡ read k used
-  pub long : leastStarts ≤ length c.asking.list
+  pub long : least_starts ≤ length c.asking.list
 
 -- calls that ask these commands, one after another
 unfoldable pub AskEach : List Command → List Call → Type 0
@@ -108,7 +108,7 @@ Entries list = Lent 16 list
 pub record Answers (w : List ℕ) : Type 0 where
   pub phase : ℕ
   pub booked : ℕ
-  pub inUse : ℕ
+  pub in_use : ℕ
   pub fullness : ℕ
   pub standing : List ℕ
   -- why each task is not starting, by its number, which has 16 bits
@@ -117,11 +117,11 @@ pub record Answers (w : List ℕ) : Type 0 where
   pub wrote : List ℕ → Wrote
   -- what the order finder answers and leaves of each list that is lent to it
   pub found : List ℕ → Wrote
-  pub phase-is : phase ≡ (plan_of w).phase
-  pub booked-is : booked ≡ questions.booked (plan_of w)
-  pub in-use-is : inUse ≡ questions.inUse (plan_of w)
-  pub fullness-is : fullness ≡ questions.fullness (plan_of w)
-  pub standing-is : standing ≡ questions.standing (plan_of w)
-  pub reason-is : (i : ℕ) → i < 2 ^ 16 → reason i ≡ why (plan_of w) i
-  pub wrote-is : (list : List ℕ) → Bytes list → wrote list ≡ write (plan_of w) list
-  pub found-is : (list : List ℕ) → Entries list → found list ≡ findOrder (plan_of w) list
+  pub phase_is : phase ≡ (plan_of w).phase
+  pub booked_is : booked ≡ questions.booked (plan_of w)
+  pub in_use_is : in_use ≡ questions.in_use (plan_of w)
+  pub fullness_is : fullness ≡ questions.fullness (plan_of w)
+  pub standing_is : standing ≡ questions.standing (plan_of w)
+  pub reason_is : (i : ℕ) → i < 2 ^ 16 → reason i ≡ why (plan_of w) i
+  pub wrote_is : (list : List ℕ) → Bytes list → wrote list ≡ write (plan_of w) list
+  pub found_is : (list : List ℕ) → Entries list → found list ≡ find_order (plan_of w) list

@@ -7,14 +7,14 @@ use Prim.Native.Nat.{ℕ, zero, suc, ◌≤◌, ◌<◌, min}
 use native.Mathlib.Omega.{arith}
 use lib.ListN.{length, length-map, get_or-eq_default}
 use Rattle.numbers.specs.Lists.{at}
-use Rattle.numbers.specs.Limits.{maxTasks}
+use Rattle.numbers.specs.Limits.{max_tasks}
 use Rattle.numbers.specs.Sums.{within}
-use Rattle.peaks.specs.Desk.{StepRecord, deskAnswer, column, desk}
+use Rattle.peaks.specs.Desk.{StepRecord, desk_answer, column, desk}
 use Rattle.numbers.proofs.Tests.{decide, clash, le-or-lt}
 use Rattle.tree.proofs.Orders.{within-task, task-within}
 use Rattle.desk.specs.declared.TaskRecord.{TaskRecord}
-use Rattle.desk.specs.Records.{stepRecord, stepRecords}
-use Rattle.desk.specs.Columns.{ofTask, columnTasks}
+use Rattle.desk.specs.Records.{step_record, step_records}
+use Rattle.desk.specs.Columns.{of_task, column_tasks}
 use Rattle.desk.proofs.Padding.{padded, getD-padded}
 use Rattle.desk.proofs.Columns.{filled, filled-all}
 use Rattle.desk.proofs.Rowing.{of-task, of_other}
@@ -37,8 +37,8 @@ no-entry field records (suc i) e =
 -- a column that fits is read as it is
 of-column :
     (field : StepRecord → ℕ) (records : List StepRecord)
-    → length records ≤ maxTasks
-    → ofTask (length records) (padded 1025 (column field records)) ≡ at (column field records)
+    → length records ≤ max_tasks
+    → of_task (length records) (padded 1025 (column field records)) ≡ at (column field records)
 unfolding column
 of-column field records fits z i =
     ⊎_elim
@@ -56,42 +56,42 @@ module _ (records : List StepRecord) (activation : List ℕ) where
 
   -- the entries of a column in its array
   abbrev array : (StepRecord → ℕ) → ℕ → ℕ
-  array field = ofTask n (padded 1025 (column field records))
+  array field = of_task n (padded 1025 (column field records))
 
   answers-padded :
-      deskAnswer
+      desk_answer
       (record { size = n; parent = array (λ r. r.parent); work = array (λ r. r.work); out = array (λ r. r.out) }) activation
       ≡ desk records activation
   unfolding desk
   answers-padded =
       ⊎_elim
       (λ t.
-      let fits = (within-task maxTasks n t).high in
+      let fits = (within-task max_tasks n t).high in
       rw (
         of-column (λ r. r.parent) records fits,
         of-column (λ r. r.work) records fits,
         of-column (λ r. r.out) records fits,
       ))
-      (λ e. outside n _ _ _ activation e ∙ sym (outside n _ _ _ activation e)) (decide (within n maxTasks))
+      (λ e. outside n _ _ _ activation e ∙ sym (outside n _ _ _ activation e)) (decide (within n max_tasks))
 
-length-steps : (records : List TaskRecord) → length (stepRecords records) ≡ length records
-unfolding stepRecords
-length-steps records = length-map records stepRecord
+length-steps : (records : List TaskRecord) → length (step_records records) ≡ length records
+unfolding step_records
+length-steps records = length-map records step_record
 
 -- the columns where every record has been copied
 pub answers :
     (records : List TaskRecord) (activation : List ℕ) (c : ℕ)
-    → c ≡ min (length records) maxTasks
-    → deskAnswer
-    (columnTasks (length records) (filled (λ r. r.parent) records c) (filled (λ r. r.work) records c)
+    → c ≡ min (length records) max_tasks
+    → desk_answer
+    (column_tasks (length records) (filled (λ r. r.parent) records c) (filled (λ r. r.work) records c)
     (filled (λ r. r.out) records c))
     activation
-    ≡ desk (stepRecords records) activation
+    ≡ desk (step_records records) activation
 answers records activation c e =
     rw (
       filled-all (λ r. r.parent) records c e,
       filled-all (λ r. r.work) records c e,
       filled-all (λ r. r.out) records c e,
       ← (length-steps records),
-      answers-padded (stepRecords records) activation,
+      answers-padded (step_records records) activation,
     )

@@ -54,38 +54,38 @@ abbrev pub words_val : Width → List ℕ → Val
 words_val w xs = array_val (map (λ x. vint w x) xs)
 
 -- the machine value of n zeros
-abbrev pub zerosVal : Width → ℕ → Val
-zerosVal w n = array_val (replicate n (vint w 0))
+abbrev pub zeros_val : Width → ℕ → Val
+zeros_val w n = array_val (replicate n (vint w 0))
 
 zeros-each : (w : Width) (n : ℕ) → 0 < 2 ^ bits w → shadow (each ℕ (UInt w).own_val (replicate n 0) (replicate n (vint w 0)))
 zeros-each w zero fits = tt
 zeros-each w (suc n) fits = ((refl, fits), zeros-each w n fits)
 
-zeros-are : (w : Width) (n : ℕ) → 0 < 2 ^ bits w → Is (Words w n) (replicate n 0) (zerosVal w n ∷ [])
+zeros-are : (w : Width) (n : ℕ) → 0 < 2 ^ bits w → Is (Words w n) (replicate n 0) (zeros_val w n ∷ [])
 zeros-are w n fits = (replicate n (vint w 0), ((refl, length-replicate n 0), zeros-each w n fits))
 
 module _ {M : Type 1} {𝓤 : Ura M} (𝓛 : Logic 𝓤) (w : Width) (n : ℕ) where
   -- n zeros are a value of the array's type
-  pub zeros-typed : 0 < 2 ^ bits w → T (has_ty (ty_array (ty_int w) n) (zerosVal w n)) × WT (zerosVal w n)
+  pub zeros-typed : 0 < 2 ^ bits w → T (has_ty (ty_array (ty_int w) n) (zeros_val w n)) × WT (zeros_val w n)
   zeros-typed fits =
-      ((Array-Lawful 𝓛 (UInt w) (uint_Lawful 𝓛 w) n).typed (replicate n 0) (zerosVal w n ∷ []) (zeros-are w n fits)).0
+      ((Array-Lawful 𝓛 (UInt w) (uint_Lawful 𝓛 w) n).typed (replicate n 0) (zeros_val w n ∷ []) (zeros-are w n fits)).0
 
   -- n zeros, side by side
   pub zeros-apart :
       (l : ℕ)
       → 0 < 2 ^ bits w
-      → ent 𝓤 (sem 𝓛 (fat full_share (ty_array (ty_int w) n) l 0 (zerosVal w n)))
+      → ent 𝓤 (sem 𝓛 (fat full_share (ty_array (ty_int w) n) l 0 (zeros_val w n)))
       (sem 𝓛 (row (UInt w) full_share (replicate n 0) l 0))
   unfolding part_of
   zeros-apart l fits =
-      qed 𝓛 (‵ (fat full_share (ty_array (ty_int w) n) l 0 (zerosVal w n)) ∷ []) ∵
-      use1 𝓛 (‵ (cell_at full_share (Words w n).mir (zerosVal w n ∷ []) l 0))
-      (𝓛.laws.at_raw full_share (ty_array (ty_int w) n) l 0 (zerosVal w n)) $
+      qed 𝓛 (‵ (fat full_share (ty_array (ty_int w) n) l 0 (zeros_val w n)) ∷ []) ∵
+      use1 𝓛 (‵ (cell_at full_share (Words w n).mir (zeros_val w n ∷ []) l 0))
+      (𝓛.laws.at_raw full_share (ty_array (ty_int w) n) l 0 (zeros_val w n)) $
       owned ! (Words w n) (Is (Words w n)) (Array-Makes 𝓛 (UInt w) (uint_Makes 𝓛 w) n) (replicate n 0)
-      (zerosVal w n ∷ []) (zeros-are w n fits) $
+      (zeros_val w n ∷ []) (zeros-are w n fits) $
       move ! (1 ∷ 0 ∷ []) $ fjoin ! $
       fpack ! (List Val) (λ us. fsep (cell_at full_share (Words w n).mir us l 0) ((Words w n).own (replicate n 0) us))
-      (zerosVal w n ∷ []) $
+      (zeros_val w n ∷ []) $
       use1 𝓛 (‵ ((arr_parts (shares (UInt w)) n).part full_share (replicate n 0) l 0))
       (Array-apart 𝓛 (UInt w) full_share tt n (replicate n 0) l 0) $
       fsplit ! $ drop ! $ done !

@@ -9,12 +9,12 @@ use native.Mathlib.Numerals.{add-one}
 use lib.ListN.{length, take, set, length-set}
 use lib.Seq.{take_all, take-suc-set, get_or-set_same, get_or-set_other}
 use Rattle.numbers.specs.Lists.{at, mem, distinct, place}
-use Rattle.numbers.specs.Limits.{maxTasks}
+use Rattle.numbers.specs.Limits.{max_tasks}
 use Rattle.numbers.proofs.Sums.{Task}
 use Rattle.numbers.proofs.Tests.{fails, same_or_not}
 use Rattle.tree.proofs.Orders.{place-lt, place_at, place_of}
-use Rattle.words.specs.Layout.{row, words, activationBase}
-use Rattle.words.specs.Contents.{Contents, contents, withCell, withOrders, storeWithCell}
+use Rattle.words.specs.Layout.{row, words, activation_base}
+use Rattle.words.specs.Contents.{Contents, contents, with_cell, with_orders, store_with_cell}
 use Rattle.words.proofs.Contents.{contents-activation, lengths, wrote-cell}
 use Rattle.desk.specs.Room.{MayWriteOrder, Ranked, OrderWritten}
 use Rattle.desk.proofs.Listing.{take_more, entry-task}
@@ -65,7 +65,7 @@ writing-none may =
     }
 
 -- the entry of a turn is a task
-pub writing-task : {order w₀ w : List ℕ} {k : ℕ} → Writing order w₀ w k → k < length order → Task maxTasks (at order k)
+pub writing-task : {order w₀ w : List ℕ} {k : ℕ} → Writing order w₀ w k → k < length order → Task max_tasks (at order k)
 writing-task t h =
     let task = entry-task _ _ t.may.listed h in
     let few = t.may.listed.few in
@@ -73,11 +73,11 @@ writing-task t h =
 
 -- what one entry more leaves: the order and the rank of its task are written
 abbrev noting : (k x : ℕ) → Contents → Contents
-noting k x c = withCell 1 x k (withOrders (set c.activation k x) c.execution c)
+noting k x c = with_cell 1 x k (with_orders (set c.activation k x) c.execution c)
 
 module _ {order w₀ w w₁ w₂ : List ℕ} {k x : ℕ} (t : Writing order w₀ w k) (h : k < length order) (is : x ≡ at order k)
-    (entered : w₁ ≡ set w (activationBase + k) x) (ranked : w₂ ≡ set w₁ (row * x + 1) k) where
-  few : Task maxTasks x × (k < maxTasks)
+    (entered : w₁ ≡ set w (activation_base + k) x) (ranked : w₂ ≡ set w₁ (row * x + 1) k) where
+  few : Task max_tasks x × (k < max_tasks)
   few =
       let task = writing-task t h in
       let all = t.may.listed.few in
@@ -85,14 +85,14 @@ module _ {order w₀ w w₁ w₂ : List ℕ} {k x : ℕ} (t : Writing order w₀
 
   noted-is : (contents w₂ ≡ noting k x (contents w)) × (length w₂ ≡ words)
   noted-is =
-      let long : length w₁ ≡ words = ap length entered ∙ length-set w (activationBase + k) x ∙ t.long in
+      let long : length w₁ ≡ words = ap length entered ∙ length-set w (activation_base + k) x ∙ t.long in
       let two = wrote-cell w₁ 1 x k long (omega arith) (omega (arith, few)) ranked in (
-        two.0 ∙ ap (withCell 1 x k) (ap contents entered ∙ contents-activation w t.long k x few.1),
+        two.0 ∙ ap (with_cell 1 x k) (ap contents entered ∙ contents-activation w t.long k x few.1),
         two.1,
       )
 
   pub writing-next : Writing order w₀ w₂ (k + 1)
-  unfolding withCell withOrders storeWithCell
+  unfolding with_cell with_orders store_with_cell
   writing-next =
       let entries = (lengths w).activation in
       let ranks = (lengths w).ranks in

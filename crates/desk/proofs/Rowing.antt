@@ -9,27 +9,27 @@ use lib.Dec.{leb}
 use lib.ListN.{length, set, replicate, length-replicate, get_or-replicate, get_or-eq_default}
 use lib.Seq.{get_or-set_same, get_or-set_other}
 use Rattle.books.specs.Kind.{chilled}
-use Rattle.numbers.specs.Sums.{everyTo, within}
+use Rattle.numbers.specs.Sums.{every_to, within}
 use Rattle.numbers.specs.Lists.{at}
-use Rattle.numbers.specs.Limits.{maxTasks}
+use Rattle.numbers.specs.Limits.{max_tasks}
 use Rattle.numbers.proofs.Tests.{decide, clash, fails, same_or_not, le-or-lt}
 use Rattle.numbers.proofs.Sums.{Task, only-true, only-false, every-to, every_one}
 use Rattle.tree.proofs.Orders.{within-task, task-within}
 use Rattle.words.specs.Layout.{row, rows, words}
 use Rattle.words.specs.Views.{column}
-use Rattle.words.specs.Contents.{Contents, contents, storeContents, withCell, storeWithCell}
+use Rattle.words.specs.Contents.{Contents, contents, store_contents, with_cell, store_with_cell}
 use Rattle.words.proofs.Views.{column-length, column-at}
 use Rattle.words.proofs.Contents.{lengths, wrote-cell}
-use Rattle.desk.specs.Columns.{ofTask}
+use Rattle.desk.specs.Columns.{of_task}
 use Rattle.desk.specs.Room.{AtRow, with_row, RowsWritten}
 
 -- a task has its entry, and nobody else has one
-pub of-task : (n : ℕ) (l : List ℕ) (i : ℕ) → Task n i → ofTask n l i ≡ at l i
-unfolding ofTask
+pub of-task : (n : ℕ) (l : List ℕ) (i : ℕ) → Task n i → of_task n l i ≡ at l i
+unfolding of_task
 of-task n l i t = only-true (within i n) (at l i) (task-within n i t)
 
-pub of_other : (n : ℕ) (l : List ℕ) (i : ℕ) → (Task n i → ⊥) → ofTask n l i ≡ 0
-unfolding ofTask
+pub of_other : (n : ℕ) (l : List ℕ) (i : ℕ) → (Task n i → ⊥) → of_task n l i ≡ 0
+unfolding of_task
 of_other n l i other = only-false (within i n) (at l i) (fails (within i n) (λ e. other (within-task n i e)))
 
 -- one row is written
@@ -45,22 +45,22 @@ row_written w w₁ w₂ w₃ task parent work out may one two three =
     let first = wrote-cell w 0 task parent may.long (omega arith) may.here one in
     let second = wrote-cell w₁ 5 task work first.1 (omega arith) may.here two in
     let third = wrote-cell w₂ 6 task out second.1 (omega arith) may.here three in
-    third.0 ∙ ap (withCell 6 task out) (second.0 ∙ ap (withCell 5 task work) first.0)
+    third.0 ∙ ap (with_cell 6 task out) (second.0 ∙ ap (with_cell 5 task work) first.0)
 
 -- a column of which the entries of i tasks are written gets one more
 column-next :
     (l old : List ℕ) (i : ℕ)
     → length old ≡ rows
     → i + 1 < rows
-    → ((j : ℕ) → at old j ≡ ofTask i l j)
+    → ((j : ℕ) → at old j ≡ of_task i l j)
     → (j : ℕ)
-    → at (set old (i + 1) (at l (i + 1))) j ≡ ofTask (i + 1) l j
+    → at (set old (i + 1) (at l (i + 1))) j ≡ of_task (i + 1) l j
 column-next l old i long fits are j =
     ⊎_elim
     (λ (e : j ≡ i + 1).
     ap (at (set old (i + 1) (at l (i + 1)))) e
     ∙ get_or-set_same old (i + 1) (at l (i + 1)) 0 (omega arith)
-    ∙ sym (ap (ofTask (i + 1) l) e ∙ of-task (i + 1) l (i + 1) (record { low = omega arith; high = omega arith })))
+    ∙ sym (ap (of_task (i + 1) l) e ∙ of-task (i + 1) l (i + 1) (record { low = omega arith; high = omega arith })))
     (λ d.
     get_or-set_other old (i + 1) j (at l (i + 1)) 0 d
     ∙ are j
@@ -92,25 +92,25 @@ column-empty w nothing k i =
 
 -- no task has a row there
 rowed-none : (parents works outs w : List ℕ) → length w ≡ words → ((q : ℕ) → at w q ≡ 0) → RowsWritten 0 parents works outs (contents w)
-unfolding contents storeContents
+unfolding contents store_contents
 rowed-none parents works outs w long nothing =
-    let none : (l : List ℕ) (i : ℕ) → 0 ≡ ofTask 0 l i = λ l i. sym (of_other 0 l i (λ t. omega (arith, t.low, t.high))) in
+    let none : (l : List ℕ) (i : ℕ) → 0 ≡ of_task 0 l i = λ l i. sym (of_other 0 l i (λ t. omega (arith, t.low, t.high))) in
     record {
       long = long;
       parent_is = λ i. column-empty w nothing 0 i ∙ none parents i;
-      work-is = λ i. column-empty w nothing 5 i ∙ none works i;
-      out-is = λ i. column-empty w nothing 6 i ∙ none outs i;
+      work_is = λ i. column-empty w nothing 5 i ∙ none works i;
+      out_is = λ i. column-empty w nothing 6 i ∙ none outs i;
     }
 
 -- the rows of the first i of n tasks are written, and their parents are tasks or nobody
 pub record Rowing (n : ℕ) (parents works outs w : List ℕ) (i : ℕ) : Type 0 where
-  pub small : n ≤ maxTasks
+  pub small : n ≤ max_tasks
   pub passed : i ≤ n
-  pub inside : (j : ℕ) → Task i j → leb (ofTask n parents j) n ≡ true
+  pub inside : (j : ℕ) → Task i j → leb (of_task n parents j) n ≡ true
   pub rowed : RowsWritten i parents works outs (contents w)
 
 pub rowing-none :
-    {n : ℕ} {parents works outs w : List ℕ} → n ≤ maxTasks → w ≡ replicate words 0 → Rowing n parents works outs w 0
+    {n : ℕ} {parents works outs w : List ℕ} → n ≤ max_tasks → w ≡ replicate words 0 → Rowing n parents works outs w 0
 rowing-none {n} {parents} {works} {outs} {w} small empty =
     record {
       small = small;
@@ -133,7 +133,7 @@ module _ {n : ℕ} {parents works outs w : List ℕ} {i : ℕ} (t : Rowing n par
       → contents w' ≡ with_row (i + 1) (at parents (i + 1)) (at works (i + 1)) (at outs (i + 1)) (contents w)
       → leb (at parents (i + 1)) n ≡ true
       → Rowing n parents works outs w' (i + 1)
-  unfolding with_row withCell storeWithCell
+  unfolding with_row with_cell store_with_cell
   rowing-next w' is within-n =
       let small = t.small in
       let fits : i + 1 < rows = omega arith in
@@ -142,7 +142,7 @@ module _ {n : ℕ} {parents works outs w : List ℕ} {i : ℕ} (t : Rowing n par
         passed = omega arith;
         inside =
             λ j u.
-            ⊎_elim (λ (e : j ≡ i + 1). ap (λ (v : ℕ). leb v n) (ap (ofTask n parents) e ∙ of-task n parents (i + 1) next-task) ∙ within-n)
+            ⊎_elim (λ (e : j ≡ i + 1). ap (λ (v : ℕ). leb v n) (ap (of_task n parents) e ∙ of-task n parents (i + 1) next-task) ∙ within-n)
             (λ d. t.inside j (record { low = u.low; high = let high = u.high in omega arith })) (same_or_not j (i + 1));
         rowed =
             record {
@@ -151,24 +151,24 @@ module _ {n : ℕ} {parents works outs w : List ℕ} {i : ℕ} (t : Rowing n par
                   λ j.
                   ap (λ (c : Contents). at c.parents j) is
                   ∙ column-next parents (contents w).parents i (lengths w).parents fits t.rowed.parent_is j;
-              work-is =
+              work_is =
                   λ j.
                   ap (λ (c : Contents). at c.stores.chilled.works j) is
-                  ∙ column-next works (contents w).stores.chilled.works i ((lengths w).works chilled) fits t.rowed.work-is j;
-              out-is =
+                  ∙ column-next works (contents w).stores.chilled.works i ((lengths w).works chilled) fits t.rowed.work_is j;
+              out_is =
                   λ j.
                   ap (λ (c : Contents). at c.stores.chilled.outs j) is
-                  ∙ column-next outs (contents w).stores.chilled.outs i ((lengths w).outs chilled) fits t.rowed.out-is j;
+                  ∙ column-next outs (contents w).stores.chilled.outs i ((lengths w).outs chilled) fits t.rowed.out_is j;
             };
       }
 
   -- a parent above n
-  pub rowing-stray : leb (at parents (i + 1)) n ≡ false → false ≡ everyTo (λ j. leb (ofTask n parents j) n) n
+  pub rowing-stray : leb (at parents (i + 1)) n ≡ false → false ≡ every_to (λ j. leb (of_task n parents j) n) n
   rowing-stray above =
       sym
-      (fails (everyTo (λ j. leb (ofTask n parents j) n) n)
+      (fails (every_to (λ j. leb (of_task n parents j) n) n)
       (λ all.
-      clash (every_one (λ j. leb (ofTask n parents j) n) n (i + 1) all next-task)
+      clash (every_one (λ j. leb (of_task n parents j) n) n (i + 1) all next-task)
       (ap (λ (v : ℕ). leb v n) (of-task n parents (i + 1) next-task) ∙ above)))
 
 -- every row
@@ -176,9 +176,9 @@ pub rowing-all :
     {n : ℕ} {parents works outs w : List ℕ} {i : ℕ}
     → Rowing n parents works outs w i
     → n ≤ i
-    → (true ≡ everyTo (λ j. leb (ofTask n parents j) n) n) × RowsWritten n parents works outs (contents w)
+    → (true ≡ every_to (λ j. leb (of_task n parents j) n) n) × RowsWritten n parents works outs (contents w)
 rowing-all {n} {parents} {works} {outs} {w} {i} t h =
     let end : i ≡ n = let passed = t.passed in omega arith in (
-      sym (every-to (λ j. leb (ofTask n parents j) n) n (λ j u. t.inside j (record { low = u.low; high = let high = u.high in omega arith }))),
+      sym (every-to (λ j. leb (of_task n parents j) n) n (λ j u. t.inside j (record { low = u.low; high = let high = u.high in omega arith }))),
       rw end at t.rowed,
     )

@@ -7,63 +7,63 @@ use native.Mathlib.Omega.{arith}
 use lib.Dec.{eqb, leb}
 use lib.ListN.{length, take, set}
 use borrow.Author.Tests.{leb-true, eq-eqb, ne_eqb}
-use Rattle.numbers.specs.Sums.{everyTo, within}
+use Rattle.numbers.specs.Sums.{every_to, within}
 use Rattle.numbers.specs.Lists.{at, every, distinct}
-use Rattle.numbers.specs.Limits.{maxTasks}
+use Rattle.numbers.specs.Limits.{max_tasks}
 use Rattle.tree.specs.Peak
-use Rattle.peaks.specs.Desk.{deskGround, deskAnswer}
+use Rattle.peaks.specs.Desk.{desk_ground, desk_answer}
 use Rattle.numbers.proofs.Sums.{every_one}
 use Rattle.tree.proofs.Orders.{within-task}
-use Rattle.words.specs.Layout.{words, headBase}
-use Rattle.words.specs.Contents.{Contents, contents, with_head, storeWithHead}
+use Rattle.words.specs.Layout.{words, head_base}
+use Rattle.words.specs.Contents.{Contents, contents, with_head, store_with_head}
 use Rattle.words.proofs.Contents.{wrote-head}
 use Rattle.survey.specs.Survey as survey
-use Rattle.survey.specs.Survey.{RankedIn, orderGround, groundOf, peakedOf}
-use Rattle.desk.specs.Columns.{ofTask}
+use Rattle.survey.specs.Survey.{RankedIn, order_ground, ground_of, peaked_of}
+use Rattle.desk.specs.Columns.{of_task}
 use Rattle.desk.specs.Room.{RowsWritten, MayWriteOrder, Ranked, OrderWritten}
 
 -- n tasks with parents in their limits, and an order of n of them
 pub record InLimits (n : ℕ) (par : ℕ → ℕ) (order : List ℕ) : Type 0 where
   pub whole : length order ≡ n
-  pub sized : within n maxTasks ≡ true
-  pub parents : everyTo (λ i. leb (par i) n) n ≡ true
+  pub sized : within n max_tasks ≡ true
+  pub parents : every_to (λ i. leb (par i) n) n ≡ true
   pub inside : every (λ i. within i n) order ≡ true
 
 module _ (n : ℕ) (par work out : ℕ → ℕ) (order : List ℕ) where
   abbrev pub Answered : ℕ → Peak.Peaked → Type 0
   Answered number peak =
-      deskAnswer (record { size = n; parent = par; work = work; out = out }) order ≡ record { number = number; peak = peak }
+      desk_answer (record { size = n; parent = par; work = work; out = out }) order ≡ record { number = number; peak = peak }
 
   -- 4: each of the four tests that fails
-  pub unequal : (length order ≡ n → ⊥) → Answered 4 Peak.noPeak
-  unfolding deskAnswer deskGround
+  pub unequal : (length order ≡ n → ⊥) → Answered 4 Peak.no_peak
+  unfolding desk_answer desk_ground
   unequal other = rw (ne_eqb (length order) n other)
 
-  pub outside : within n maxTasks ≡ false → Answered 4 Peak.noPeak
-  unfolding deskAnswer deskGround
+  pub outside : within n max_tasks ≡ false → Answered 4 Peak.no_peak
+  unfolding desk_answer desk_ground
   outside e = rw (e, and-false (eqb (length order) n))
 
-  pub strayed : everyTo (λ i. leb (par i) n) n ≡ false → Answered 4 Peak.noPeak
-  unfolding deskAnswer deskGround
-  strayed e = rw (e, and-false (eqb (length order) n && within n maxTasks))
+  pub strayed : every_to (λ i. leb (par i) n) n ≡ false → Answered 4 Peak.no_peak
+  unfolding desk_answer desk_ground
+  strayed e = rw (e, and-false (eqb (length order) n && within n max_tasks))
 
-  pub unlisted : every (λ i. within i n) order ≡ false → Answered 4 Peak.noPeak
-  unfolding deskAnswer deskGround
+  pub unlisted : every (λ i. within i n) order ≡ false → Answered 4 Peak.no_peak
+  unfolding desk_answer desk_ground
   unlisted e =
-      rw (e, and-false (eqb (length order) n && within n maxTasks && everyTo (λ i. leb (par i) n) n))
+      rw (e, and-false (eqb (length order) n && within n max_tasks && every_to (λ i. leb (par i) n) n))
 
   module _ (limits : InLimits n par order) where
     -- 5
-    pub twice : distinct order ≡ false → Answered 5 Peak.noPeak
-    unfolding deskAnswer deskGround
+    pub twice : distinct order ≡ false → Answered 5 Peak.no_peak
+    unfolding desk_answer desk_ground
     twice e = rw (eq-eqb (length order) n limits.whole, limits.sized, limits.parents, limits.inside, e)
 
     -- 7, 8, or none: as at BEGIN
     surveyed :
         distinct order ≡ true
-        → Answered (orderGround n par order)
-        (cond (eqb (orderGround n par order) 0) (Peak.peaked n par work out order) Peak.noPeak)
-    unfolding deskAnswer deskGround orderGround
+        → Answered (order_ground n par order)
+        (cond (eqb (order_ground n par order) 0) (Peak.peaked n par work out order) Peak.no_peak)
+    unfolding desk_answer desk_ground order_ground
     surveyed e =
         rw (
           eq-eqb (length order) n limits.whole,
@@ -92,7 +92,7 @@ module _ (n : ℕ) (par work out : ℕ → ℕ) (order : List ℕ) (c : Contents
       (record {
         parented =
             record {
-              small = (within-task maxTasks n filled.limits.sized).high;
+              small = (within-task max_tasks n filled.limits.sized).high;
               inside =
                   λ i t.
                   let same : at c.parents i ≡ par i = λ z. filled.parents z i in
@@ -112,8 +112,8 @@ module _ (n : ℕ) (par work out : ℕ → ℕ) (order : List ℕ) (c : Contents
   -- and what a survey answers is what the desk is answered
   pub told :
       (number : ℕ) (peak : Peak.Peaked)
-      → number ≡ groundOf c
-      → peak ≡ peakedOf c
+      → number ≡ ground_of c
+      → peak ≡ peaked_of c
       → Answered n par work out order number peak
   told number peak e f =
       surveyed n par work out order filled.limits filled.once
@@ -122,7 +122,7 @@ module _ (n : ℕ) (par work out : ℕ → ℕ) (order : List ℕ) (c : Contents
 
 -- the rows are written, then their number, then the order
 module _ (n : ℕ) (parents works outs order w₁ w₂ : List ℕ) (rowed : RowsWritten n parents works outs (contents w₁))
-    (limits : InLimits n (ofTask n parents) order) (sized : w₂ ≡ set w₁ (headBase + 1) n) where
+    (limits : InLimits n (of_task n parents) order) (sized : w₂ ≡ set w₁ (head_base + 1) n) where
   sized-is : (contents w₂ ≡ with_head 1 n (contents w₁)) × (length w₂ ≡ words)
   unfolding contents
   sized-is = wrote-head w₁ 1 n rowed.long (omega arith) sized
@@ -130,7 +130,7 @@ module _ (n : ℕ) (parents works outs order w₁ w₂ : List ℕ) (rowed : Rows
   pub may-list : MayWriteOrder order (contents w₂)
   unfolding contents
   may-list =
-      let small = (within-task maxTasks n limits.sized).high in
+      let small = (within-task max_tasks n limits.sized).high in
       let whole = limits.whole in
       record {
         long = sized-is.1;
@@ -141,8 +141,8 @@ module _ (n : ℕ) (parents works outs order w₁ w₂ : List ℕ) (rowed : Rows
       (w₃ : List ℕ)
       → OrderWritten order (contents w₂) (contents w₃)
       → distinct order ≡ true
-      → Filled n (ofTask n parents) (ofTask n works) (ofTask n outs) order (contents w₃)
-  unfolding with_head storeWithHead
+      → Filled n (of_task n parents) (of_task n works) (of_task n outs) order (contents w₃)
+  unfolding with_head store_with_head
   fill w₃ ordered once =
       record {
         limits = limits;
@@ -150,8 +150,8 @@ module _ (n : ℕ) (parents works outs order w₁ w₂ : List ℕ) (rowed : Rows
         size = ordered.size ∙ ap (λ (c : Contents). c.size) sized-is.0;
         parents = ap at (ordered.parents ∙ ap (λ (c : Contents). c.parents) sized-is.0) ∙ (λ z i. rowed.parent_is i z);
         works =
-            ap at (ordered.works ∙ ap (λ (c : Contents). c.stores.chilled.works) sized-is.0) ∙ (λ z i. rowed.work-is i z);
-        outs = ap at (ordered.outs ∙ ap (λ (c : Contents). c.stores.chilled.outs) sized-is.0) ∙ (λ z i. rowed.out-is i z);
+            ap at (ordered.works ∙ ap (λ (c : Contents). c.stores.chilled.works) sized-is.0) ∙ (λ z i. rowed.work_is i z);
+        outs = ap at (ordered.outs ∙ ap (λ (c : Contents). c.stores.chilled.outs) sized-is.0) ∙ (λ z i. rowed.out_is i z);
         first = ap (λ (k : ℕ). take k (contents w₃).activation) (sym limits.whole) ∙ ordered.first;
         ranked = ordered.ranked;
       }

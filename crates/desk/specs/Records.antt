@@ -6,11 +6,11 @@ use Rattle.desk.specs.declared.TaskRecord.{TaskRecord}
 use Rattle.desk.specs.declared.DeskAnswer.{DeskAnswer}
 
 -- "A record is parent, work and out"
-abbrev pub stepRecord : TaskRecord → StepRecord
-stepRecord r = record { parent = r.parent; work = r.work; out = r.out }
+abbrev pub step_record : TaskRecord → StepRecord
+step_record r = record { parent = r.parent; work = r.work; out = r.out }
 
-unfoldable pub stepRecords : List TaskRecord → List StepRecord
-stepRecords records = map stepRecord records
+unfoldable pub step_records : List TaskRecord → List StepRecord
+step_records records = map step_record records
 
 -- the peak comes with its task
 abbrev pub answer_of : DeskAnswer → rules.DeskAnswer

@@ -1,11 +1,11 @@
 -- What the desk writes into the room that it is lent: a plan of n tasks with an activation order.
 use Rattle.std.specs.Prelude.{◌≡◌, true, List, ℕ, ◌+◌, ◌≤◌, ◌<◌, length, take}
 use Rattle.numbers.specs.Lists.{at, every, distinct}
-use Rattle.numbers.specs.Limits.{maxTasks}
+use Rattle.numbers.specs.Limits.{max_tasks}
 use Rattle.numbers.specs.Sums.{within}
 use Rattle.words.specs.Layout.{rows, words, chilled}
-use Rattle.words.specs.Contents.{Contents, withCell}
-use Rattle.desk.specs.Columns.{ofTask}
+use Rattle.words.specs.Contents.{Contents, with_cell}
+use Rattle.desk.specs.Columns.{of_task}
 
 -- a row that may be written
 pub record AtRow (task : ℕ) (c : Contents) : Type 0 where
@@ -13,30 +13,30 @@ pub record AtRow (task : ℕ) (c : Contents) : Type 0 where
   pub here : task < rows
 
 -- columns of a row: of the task, and of the store
-abbrev parentColumn : ℕ
-parentColumn = 0
+abbrev parent_column : ℕ
+parent_column = 0
 
-abbrev workColumn : ℕ
-workColumn = chilled
+abbrev work_column : ℕ
+work_column = chilled
 
-abbrev outColumn : ℕ
-outColumn = chilled + 1
+abbrev out_column : ℕ
+out_column = chilled + 1
 
 -- the row of a task has these numbers
 unfoldable pub with_row : (task parent work out : ℕ) → Contents → Contents
 with_row task parent work out c =
-    withCell outColumn task out (withCell workColumn task work (withCell parentColumn task parent c))
+    with_cell out_column task out (with_cell work_column task work (with_cell parent_column task parent c))
 
 -- the rows of n tasks are those of the columns, and the others are empty
 pub record RowsWritten (n : ℕ) (parents works outs : List ℕ) (c : Contents) : Type 0 where
   pub long : c.extent ≡ words
-  pub parent_is : (i : ℕ) → at c.parents i ≡ ofTask n parents i
-  pub work-is : (i : ℕ) → at c.stores.chilled.works i ≡ ofTask n works i
-  pub out-is : (i : ℕ) → at c.stores.chilled.outs i ≡ ofTask n outs i
+  pub parent_is : (i : ℕ) → at c.parents i ≡ of_task n parents i
+  pub work_is : (i : ℕ) → at c.stores.chilled.works i ≡ of_task n works i
+  pub out_is : (i : ℕ) → at c.stores.chilled.outs i ≡ of_task n outs i
 
 -- each entry is one of as many tasks as there are entries
 pub record Listed (order : List ℕ) : Type 0 where
-  pub few : length order ≤ maxTasks
+  pub few : length order ≤ max_tasks
   pub inside : every (λ i. within i (length order)) order ≡ true
 
 -- an order that may be written

@@ -4,11 +4,11 @@
 mod room;
 
 ghost use Rattle.std.specs.Prelude.{◌≡◌, min, replicate};
-ghost use Rattle.numbers.specs.Limits.{maxTasks};
-ghost use Rattle.peaks.specs.Desk.{deskAnswer, desk};
+ghost use Rattle.numbers.specs.Limits.{max_tasks};
+ghost use Rattle.peaks.specs.Desk.{desk_answer, desk};
 ghost use Rattle.words.specs.Layout.{words};
-ghost use Rattle.desk.specs.Records.{stepRecords, answer_of};
-ghost use Rattle.desk.specs.Columns.{columnTasks};
+ghost use Rattle.desk.specs.Records.{step_records, answer_of};
+ghost use Rattle.desk.specs.Columns.{column_tasks};
 
 use cells::set_cell;
 use measure::{is_within, least};
@@ -39,7 +39,7 @@ const ENTRIES: usize = Plan::MAX_TASKS + 1;
 
 // How many of n records are copied: no more than a plan has tasks.
 fn copied(n: usize) -> usize
-    ensures { result ≡ min n maxTasks }
+    ensures { result ≡ min n max_tasks }
 {
     least(n, Plan::MAX_TASKS)
 }
@@ -65,7 +65,7 @@ fn answer<'a>(
     room: &mut [u32; Plan::WORDS],
 ) -> DeskAnswer
     requires { room.old ≡ replicate words 0 }
-    ensures { deskAnswer (columnTasks n parents.now works.now outs.now) activation.now
+    ensures { desk_answer (column_tasks n parents.now works.now outs.now) activation.now
         ≡ answer_of result }
 {
     if activation.len() != n {
@@ -109,7 +109,7 @@ fn assess(
     activation: &[u16],
     room: &mut [u32; Plan::WORDS],
 ) -> DeskAnswer
-    ensures { (deskAnswer (columnTasks n parents works outs) activation.now ≡ answer_of result) × (room.new ≡ replicate words 0) }
+    ensures { (desk_answer (column_tasks n parents works outs) activation.now ≡ answer_of result) × (room.new ≡ replicate words 0) }
 {
     empty(room);
     let answered = answer(n, &parents, &works, &outs, activation, room);
@@ -121,7 +121,7 @@ fn assess(
 // activation list beside it. .. Both lists are only read." The rows of a plan are laid out in the room
 // that the caller lends; whatever was there, it is left empty.
 pub fn peak(records: &[TaskRecord], activation: &[u16], room: &mut [u32; Plan::WORDS]) -> DeskAnswer
-    ensures { (desk (stepRecords records.now) activation.now
+    ensures { (desk (step_records records.now) activation.now
         ≡ answer_of result) × (room.new ≡ replicate words 0) }
 {
     let mut parents = [0u16; ENTRIES];

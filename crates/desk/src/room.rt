@@ -1,12 +1,12 @@
 // The plan of the desk, in the words that the caller lends: the rows of the tasks and the activation
 // order with its ranks. Every pass is one loop.
 ghost use Rattle.std.specs.Prelude.{◌≡◌, true, ◌≤◌, leb, replicate};
-ghost use Rattle.numbers.specs.Sums.{everyTo, within};
+ghost use Rattle.numbers.specs.Sums.{every_to, within};
 ghost use Rattle.numbers.specs.Lists.{every, distinct};
-ghost use Rattle.numbers.specs.Limits.{maxTasks};
+ghost use Rattle.numbers.specs.Limits.{max_tasks};
 ghost use Rattle.words.specs.Layout.{words};
 ghost use Rattle.words.specs.Contents.{contents};
-ghost use Rattle.desk.specs.Columns.{ofTask};
+ghost use Rattle.desk.specs.Columns.{of_task};
 ghost use Rattle.desk.specs.Room.{AtRow, with_row, RowsWritten, MayWriteOrder, Ranked, OrderWritten};
 
 use crate::ENTRIES;
@@ -41,8 +41,8 @@ pub(crate) fn write_rows<'a>(
     works: &'a [u16; ENTRIES],
     outs: &'a [u16; ENTRIES],
 ) -> bool
-    requires { (n ≤ maxTasks) × (room.old ≡ replicate words 0) }
-    ensures { (result ≡ everyTo (λ i. leb (ofTask n parents.now i) n) n)
+    requires { (n ≤ max_tasks) × (room.old ≡ replicate words 0) }
+    ensures { (result ≡ every_to (λ i. leb (of_task n parents.now i) n) n)
         × (result ≡ true → RowsWritten n parents.now works.now outs.now (contents room.new)) }
 {
     let mut i = 0;

@@ -16,7 +16,7 @@ use Rattle.numbers.specs.Lists.{at}
 use Rattle.tree.specs.Need.{need}
 use Rattle.books.specs.Standing.{activated, running, finished, count}
 use Rattle.books.specs.Booking.{Books, Share, Climbed, total, release, climb, dispatch, ready, fed}
-use Rattle.tree.specs.Tree.{chain, figure, Tree, up, rankIn}
+use Rattle.tree.specs.Tree.{chain, figure, Tree, up, rank_in}
 use Rattle.books.specs.Invariant.{Shape, Balance, Balanced, Good}
 use Rattle.numbers.proofs.Tests.{clash, same_or_not, le-or-lt, and_none}
 use Rattle.numbers.proofs.Sums.{count-le, term-le, only-true, only-false}
@@ -34,8 +34,8 @@ use Rattle.words.specs.Layout.{rows}
 use Rattle.words.specs.Contents.{Contents}
 use Rattle.words.specs.Marks.{Marks, changed}
 use Rattle.words.proofs.Contents.{Lengths}
-use Rattle.store.specs.Rows.{rows_of, ZeroPast, booksIn, books, termsIn, activationOf, executionOf}
-use Rattle.store.specs.Cached.{partialFigure, partialFigureWith, unendedChildren, isReadyAt, Reached, inProcessBy}
+use Rattle.store.specs.Rows.{rows_of, ZeroPast, books_in, books, terms_in, activation_of, execution_of}
+use Rattle.store.specs.Cached.{partial_figure, partial_figure_with, unended_children, is_ready_at, Reached, in_process_by}
 use Rattle.store.specs.Kept.{DayInvariant, Kept}
 use Rattle.store.specs.Store.{grown, fewer}
 use Rattle.store.proofs.Rows.{at_rows, rows-set, rows-length, rows_is, zero-set}
@@ -45,12 +45,12 @@ use Rattle.store.proofs.Figures.{partial-taken, partial-taken-there}
 use Rattle.store.proofs.Using.{used-holds, used-ended}
 use Rattle.store.proofs.Ready.{place_in, ready_at, ready-changed}
 use Rattle.dispatch.specs.Climb.{Carrying, share_of, Carried}
-use Rattle.dispatch.specs.Ended.{withProgress, MayEnd, ended, becomesReady, MayFeed, Fed}
-use Rattle.dispatch.specs.Finished.{MayFinish, dispatchedFrom}
+use Rattle.dispatch.specs.Ended.{with_progress, MayEnd, ended, becomes_ready, MayFeed, Fed}
+use Rattle.dispatch.specs.Finished.{MayFinish, dispatched_from}
 
 -- the booked trays once those of j are taken and its parent keeps its out, and what goes up then
-abbrev pub sharedWith : List ℕ → ℕ → ℕ → ℕ → List ℕ
-sharedWith booked j parent out = grown (set booked j 0) parent out
+abbrev pub shared_with : List ℕ → ℕ → ℕ → ℕ → List ℕ
+shared_with booked j parent out = grown (set booked j 0) parent out
 
 abbrev pub rest_of : List ℕ → ℕ → ℕ → ℕ
 rest_of booked j out = at booked j - out
@@ -64,14 +64,14 @@ may-end {c = c} {j = j} kept task runs =
     let small = day.small in
     record {
       long = kept.cached.long;
-      task-in = omega arith;
-      some-run =
+      task_in = omega arith;
+      some_run =
           (let one =
           one_fewer c.size (rows_of c.size c.standings) j day.good.sized task (at_rows c.size c.standings j high ∙ runs)
           in
           let r = kept.cached.runs in
           omega arith);
-      ended-fits =
+      ended_fits =
           (let k = count-le (λ i. eqb (at (rows_of c.size c.standings) i) finished) c.size in
           let e = kept.cached.ends in
           omega arith);
@@ -103,7 +103,7 @@ module _ {c : Contents} {j : ℕ} (may : MayFinish c j) (long : Lengths c) where
   then = set c.standings j finished
 
   abbrev rank : ℕ → ℕ
-  rank = rankIn (activationOf c)
+  rank = rank_in (activation_of c)
 
   -- what its parent keeps, what is booked then, and what goes up
   abbrev given : ℕ
@@ -113,19 +113,19 @@ module _ {c : Contents} {j : ℕ} (may : MayFinish c j) (long : Lengths c) where
   taken = set c.stores.chilled.booked j 0
 
   abbrev shared : List ℕ
-  shared = sharedWith c.stores.chilled.booked j (at c.parents j) (at c.stores.chilled.outs j)
+  shared = shared_with c.stores.chilled.booked j (at c.parents j) (at c.stores.chilled.outs j)
 
   abbrev rest : ℕ
   rest = rest_of c.stores.chilled.booked j (at c.stores.chilled.outs j)
 
-  day : DayInvariant c.size (at c.parents) (termsIn c) (activationOf c) (books c)
+  day : DayInvariant c.size (at c.parents) (terms_in c) (activation_of c) (books c)
   day = may.kept.invariant
 
   tree : Tree n par rank
-  tree = tree_of n par (activationOf c) day.valid (λ i _. day.parents i)
+  tree = tree_of n par (activation_of c) day.valid (λ i _. day.parents i)
 
-  pub task-in : j < rows
-  task-in = let h = may.task.high in let s = day.small in omega arith
+  pub task_in : j < rows
+  task_in = let h = may.task.high in let s = day.small in omega arith
 
   pub parent_in : at c.parents j < rows
   parent_in = let p = day.parents j in let s = day.small in omega arith
@@ -135,10 +135,10 @@ module _ {c : Contents} {j : ℕ} (may : MayFinish c j) (long : Lengths c) where
 
   -- the standings and the books, as functions of the whole columns
   standings-rows : at (rows_of n standings) ≡ at standings
-  standings-rows = rows_is n standings may.kept.cached.standings-zero
+  standings-rows = rows_is n standings may.kept.cached.standings_zero
 
   booked-rows : at (rows_of n booked) ≡ at booked
-  booked-rows = rows_is n booked (may.kept.cached.stores Kind.chilled).booked-zero
+  booked-rows = rows_is n booked (may.kept.cached.stores Kind.chilled).booked_zero
 
   runs-there : at (rows_of n standings) j ≡ running
   runs-there = at_rows n standings j may.task.high ∙ may.runs
@@ -154,13 +154,13 @@ module _ {c : Contents} {j : ℕ} (may : MayFinish c j) (long : Lengths c) where
   moved : Moved n (at standings) (at then) j finished
   moved =
       record {
-        there = get_or-set_same standings j finished 0 (let z = long.standings in let i = task-in in omega arith);
+        there = get_or-set_same standings j finished 0 (let z = long.standings in let i = task_in in omega arith);
         elsewhere = λ i _ d. get_or-set_other standings j i finished 0 d;
       }
 
   -- what is taken, and what the parent keeps
   taken-there : at taken j ≡ 0
-  taken-there = get_or-set_same booked j 0 0 (let z = long.booked Kind.chilled in let i = task-in in omega arith)
+  taken-there = get_or-set_same booked j 0 0 (let z = long.booked Kind.chilled in let i = task_in in omega arith)
 
   taken-others : (i : ℕ) → Task n i → (i ≡ j → ⊥) → at taken i ≡ at booked i
   taken-others i _ d = get_or-set_other booked j i 0 0 d
@@ -176,8 +176,8 @@ module _ {c : Contents} {j : ℕ} (may : MayFinish c j) (long : Lengths c) where
   ends =
       record { taken = record { there = taken-there; elsewhere = taken-others }; gave = gave; rest = refl }
 
-  pub out-held : at c.stores.chilled.outs j ≤ at c.stores.chilled.booked j
-  out-held =
+  pub out_held : at c.stores.chilled.outs j ≤ at c.stores.chilled.booked j
+  out_held =
       out_within n par rank tree (at standings) (at then) shape j may.task may.runs moved may.higher needs outs (at booked) (at taken)
       (at shared) rest (day.roomy Kind.chilled) balanced ends
 
@@ -195,9 +195,9 @@ module _ {c : Contents} {j : ℕ} (may : MayFinish c j) (long : Lengths c) where
       omega arith
 
   -- the parent's trays stay within 32 bits
-  pub parent-fits : at (set c.stores.chilled.booked j 0) (at c.parents j) + at c.stores.chilled.outs j < 2 ^ 32
+  pub parent_fits : at (set c.stores.chilled.booked j 0) (at c.parents j) + at c.stores.chilled.outs j < 2 ^ 32
   unfolding total
-  parent-fits =
+  parent_fits =
       let u = parent-task in
       let g = gave (par j) u in
       let o = only-true (eqb (par j) (par j)) given (eq-eqb (par j) (par j) refl) in
@@ -219,9 +219,9 @@ module _ {c : Contents} {j : ℕ} (may : MayFinish c j) (long : Lengths c) where
       omega arith
 
   -- the figures, as they are while the rest is in the air
-  figures-in-air : (a : ℕ) → Task n a → at (set figures j 0) a ≡ partialFigureWith n par (at then) (at shared) j rest a
+  figures-in-air : (a : ℕ) → Task n a → at (set figures j 0) a ≡ partial_figure_with n par (at then) (at shared) j rest a
   figures-in-air a t =
-      let parts : rest + given ≡ at booked j = (let k = out-held in omega arith) in
+      let parts : rest + given ≡ at booked j = (let k = out_held in omega arith) in
       let before =
       figure-taken n par rank tree (at standings) (at then) shape j may.task may.runs moved may.higher needs outs (at booked)
       (at taken) (at shared) rest (day.roomy Kind.chilled) balanced ends
@@ -235,16 +235,16 @@ module _ {c : Contents} {j : ℕ} (may : MayFinish c j) (long : Lengths c) where
       finished-figure n par rank tree needs outs (at standings) (at booked) shape [] 0 balanced k u
       (shape.fed j k may.task u e (let r = may.runs in omega arith))
       in
-      let was : at figures a ≡ partialFigure n par (at standings) (at booked) a =
+      let was : at figures a ≡ partial_figure n par (at standings) (at booked) a =
       (may.kept.cached.stores Kind.chilled).figured a t
-      ∙ ap₂ (λ (st b : ℕ → ℕ). partialFigure n par st b a) standings-rows booked-rows
+      ∙ ap₂ (λ (st b : ℕ → ℕ). partial_figure n par st b a) standings-rows booked-rows
       in
       ⊎_elim
       (λ e.
       ap (at (set figures j 0)) e
-      ∙ get_or-set_same figures j 0 0 (let z = long.figures Kind.chilled in let i = task-in in omega arith)
+      ∙ get_or-set_same figures j 0 0 (let z = long.figures Kind.chilled in let i = task_in in omega arith)
       ∙ sym
-      (ap (partialFigureWith n par (at then) (at shared) j rest) e
+      (ap (partial_figure_with n par (at then) (at shared) j rest) e
       ∙ partial-taken-there n par rank tree (at standings) (at then) (at booked) (at taken) (at shared) j rest given shape
       may.task may.runs moved taken-there taken-others gave parts before later below))
       (λ d.
@@ -258,7 +258,7 @@ module _ {c : Contents} {j : ℕ} (may : MayFinish c j) (long : Lengths c) where
   -- what is asked of the climb
   pub carrying :
       Carrying c.size (at c.parents) (at c.stores.chilled.needs) (at (set c.standings j finished))
-      (at (sharedWith c.stores.chilled.booked j (at c.parents j) (at c.stores.chilled.outs j))) (at (set c.stores.chilled.figures j 0)) j
+      (at (shared_with c.stores.chilled.booked j (at c.parents j) (at c.stores.chilled.outs j))) (at (set c.stores.chilled.figures j 0)) j
       (rest_of c.stores.chilled.booked j (at c.stores.chilled.outs j))
   carrying =
       record {
@@ -281,12 +281,12 @@ module _ {c : Contents} {j : ℕ} (may : MayFinish c j) (long : Lengths c) where
       }
 
   -- j is a child that its parent waited for
-  counted-there : (i : ℕ) → Task n i → at c.unended i ≡ unendedChildren n par (at standings) i
+  counted-there : (i : ℕ) → Task n i → at c.unended i ≡ unended_children n par (at standings) i
   counted-there i t =
-      may.kept.cached.counted i t ∙ ap (λ (st : ℕ → ℕ). unendedChildren n par st i) standings-rows
+      may.kept.cached.counted i t ∙ ap (λ (st : ℕ → ℕ). unended_children n par st i) standings-rows
 
   one-child :
-      (i : ℕ) → unendedChildren n par (at standings) i ≡ unendedChildren n par (at then) i + only (eqb (par j) i) 1
+      (i : ℕ) → unended_children n par (at standings) i ≡ unended_children n par (at then) i + only (eqb (par j) i) 1
   one-child i =
       unended-one n par (at standings) (at then) j i may.task (λ e. let r = may.runs in omega arith) moved
 
@@ -299,7 +299,7 @@ module _ {c : Contents} {j : ℕ} (may : MayFinish c j) (long : Lengths c) where
 
   -- the standings afterwards say nothing past the tasks
   pub then-zero : ZeroPast c.size (set c.standings j finished)
-  then-zero = zero-set n standings j finished may.task.high may.kept.cached.standings-zero
+  then-zero = zero-set n standings j finished may.task.high may.kept.cached.standings_zero
 
   then-rows : at (rows_of n then) ≡ at then
   then-rows = rows_is n then then-zero
@@ -308,14 +308,14 @@ module _ {c : Contents} {j : ℕ} (may : MayFinish c j) (long : Lengths c) where
       (i : ℕ)
       → Task c.size i
       → at (fewer c.unended (at c.parents j)) i
-      ≡ unendedChildren c.size (at c.parents) (at (rows_of c.size (set c.standings j finished))) i
+      ≡ unended_children c.size (at c.parents) (at (rows_of c.size (set c.standings j finished))) i
   counted-then i t =
       (let f = fewer-at c.unended (par j) i (let z = long.unended in let p = parent_in in omega arith) (some-unended i t) in
       let k = counted-there i t in
       let o = one-child i in
-      let e : at (fewer c.unended (par j)) i ≡ unendedChildren n par (at then) i = omega arith in
+      let e : at (fewer c.unended (par j)) i ≡ unended_children n par (at then) i = omega arith in
       e)
-      ∙ ap (λ (st : ℕ → ℕ). unendedChildren n par st i) (sym then-rows)
+      ∙ ap (λ (st : ℕ → ℕ). unended_children n par st i) (sym then-rows)
 
   -- who is ready looks at the rows of the standings, or at all of them
   ready-rows : (l : List ℕ) (i : ℕ) → at (rows_of n l) ≡ at l → ready n par (rows_of n l) i ≡ ready n par l i
@@ -323,16 +323,16 @@ module _ {c : Contents} {j : ℕ} (may : MayFinish c j) (long : Lengths c) where
   ready-rows l i e = ap (λ (f : ℕ → ℕ). eqb (f i) activated && fed n par f i) e
 
   -- who is not booked is not ready
-  not-ready : (l : List ℕ) (i : ℕ) → (at l i ≡ activated → ⊥) → ready n par l i ≡ false
+  not_ready : (l : List ℕ) (i : ℕ) → (at l i ≡ activated → ⊥) → ready n par l i ≡ false
   unfolding ready
-  not-ready l i d = ap (λ (b : Bool). b && fed n par (at l) i) (ne_eqb (at l i) activated d)
+  not_ready l i d = ap (λ (b : Bool). b && fed n par (at l) i) (ne_eqb (at l i) activated d)
 
   was-not-ready : ready n par (rows_of n standings) j ≡ false
   was-not-ready =
-      ready-rows standings j standings-rows ∙ not-ready standings j (λ q. let r = may.runs in omega arith)
+      ready-rows standings j standings-rows ∙ not_ready standings j (λ q. let r = may.runs in omega arith)
 
   is-not-ready : ready n par (rows_of n then) j ≡ false
-  is-not-ready = ready-rows then j then-rows ∙ not-ready then j (λ q. let m = moved.there in omega arith)
+  is-not-ready = ready-rows then j then-rows ∙ not_ready then j (λ q. let m = moved.there in omega arith)
 
   -- who is ready afterwards: nobody else than before, but the parent perhaps
   ready-others :
@@ -342,7 +342,7 @@ module _ {c : Contents} {j : ℕ} (may : MayFinish c j) (long : Lengths c) where
       ⊎_elim
       (λ e. ap (ready n par (rows_of n then)) e ∙ is-not-ready ∙ sym (ap (ready n par (rows_of n standings)) e ∙ was-not-ready))
       (λ v.
-      let same : unendedChildren n par (at then) i ≡ unendedChildren n par (at standings) i =
+      let same : unended_children n par (at then) i ≡ unended_children n par (at standings) i =
       (let o = one-child i in
       let none = only-false (eqb (par j) i) 1 (ne_eqb (par j) i (λ e. d (sym e))) in
       omega arith)
@@ -363,15 +363,15 @@ module _ {c : Contents} {j : ℕ} (may : MayFinish c j) (long : Lengths c) where
       ready-rows standings (par j) standings-rows
       ∙ ap (λ (b : Bool). eqb (at standings (par j)) activated && b)
       (fed-is n par (at standings) (par j)
-      ∙ ne_eqb (unendedChildren n par (at standings) (par j)) 0 (λ z. omega arith))
+      ∙ ne_eqb (unended_children n par (at standings) (par j)) 0 (λ z. omega arith))
       ∙ and_none (eqb (at standings (par j)) activated)
 
   -- and is ready where it is booked and waits for none
-  parent-ready-then : becomesReady (par j) (ended j c) ≡ ready n par (rows_of n then) (par j)
-  unfolding ready becomesReady ended withProgress
+  parent-ready-then : becomes_ready (par j) (ended j c) ≡ ready n par (rows_of n then) (par j)
+  unfolding ready becomes_ready ended with_progress
   parent-ready-then =
       let u = parent-task in
-      let fewer-left : at c.unended (par j) - 1 ≡ unendedChildren n par (at then) (par j) =
+      let fewer-left : at c.unended (par j) - 1 ≡ unended_children n par (at then) (par j) =
       (let k = counted-there (par j) u in
       let f = one-child (par j) in
       let o = only-true (eqb (par j) (par j)) 1 (eq-eqb (par j) (par j) refl) in
@@ -383,18 +383,18 @@ module _ {c : Contents} {j : ℕ} (may : MayFinish c j) (long : Lengths c) where
 
   -- the ready set before, by the test for ready tasks
   abbrev was : ℕ → Bool
-  was = isReadyAt c.size (at c.parents) (executionOf c) (books c).standings
+  was = is_ready_at c.size (at c.parents) (execution_of c) (books c).standings
 
   abbrev place : ℕ → ℕ
   place = at c.places
 
   still_marked : Marks was (ended j c)
-  unfolding ended withProgress
+  unfolding ended with_progress
   still_marked = let m = may.kept.cached.marks in record { marked = m.marked; filled = m.filled }
 
   -- what is asked of the parent's count
   pub may-feed : MayFeed (at c.parents j) (ended j c)
-  unfolding ended withProgress
+  unfolding ended with_progress
   may-feed =
       record {
         long = may.kept.cached.long;
@@ -406,7 +406,7 @@ module _ {c : Contents} {j : ℕ} (may : MayFinish c j) (long : Lengths c) where
                   (let p = place_in may.kept.cached.placed (par j) parent-task in let s = day.small in omega arith);
               test = was;
               marks = still_marked;
-              not-ready =
+              not_ready =
                   ready_at may.kept.cached.placed par (rows_of n standings) (par j) parent-task ∙ parent-not-ready;
             };
       }
@@ -415,8 +415,8 @@ module _ {c : Contents} {j : ℕ} (may : MayFinish c j) (long : Lengths c) where
   pub marks_then :
       {c₂ : Contents}
       → Fed (at c.parents j) (ended j c) c₂
-      → Marks (isReadyAt c.size (at c.parents) (executionOf c) (rows_of c.size (set c.standings j finished))) c₂
-  unfolding ended withProgress
+      → Marks (is_ready_at c.size (at c.parents) (execution_of c) (rows_of c.size (set c.standings j finished))) c₂
+  unfolding ended with_progress
   marks_then {c₂} fed-parent =
       subst (λ (t : ℕ → Bool). Marks t c₂)
       (ap (changed was (place (par j))) parent-ready-then
@@ -446,8 +446,8 @@ module _ {c : Contents} {j : ℕ} (may : MayFinish c j) (long : Lengths c) where
   same-need = fun_ext (may.kept.cached.stores Kind.chilled).needed
 
   -- its need is in use
-  pub used-has : at c.stores.chilled.needs j ≤ c.stores.chilled.used
-  used-has =
+  pub used_has : at c.stores.chilled.needs j ≤ c.stores.chilled.used
+  used_has =
       let h = used-holds n par works outs (λ i _. day.parents i) (at (rows_of n standings)) j may.task runs-there in
       let u = (may.kept.cached.stores Kind.chilled).uses in
       let e = (may.kept.cached.stores Kind.chilled).needed j in
@@ -464,19 +464,19 @@ module _ {c : Contents} {j : ℕ} (may : MayFinish c j) (long : Lengths c) where
       let g = (day.good.stock Kind.chilled).within in
       omega arith
 
-  pub used-fits :
+  pub used_fits :
       c.stores.chilled.used - at c.stores.chilled.needs j + at c.stores.chilled.outs j < 2 ^ 32
-  used-fits =
+  used_fits =
       let o = day.roomy Kind.chilled j may.task in
       let u = used-within in
       let f = day.bounded Kind.chilled in
-      let e = used-has in
+      let e = used_has in
       omega arith
 
   -- what is in use then
   pub used-then :
       c.stores.chilled.used - at c.stores.chilled.needs j + at c.stores.chilled.outs j
-      ≡ inProcessBy c.size (at c.parents) (at c.stores.chilled.works) (at c.stores.chilled.outs)
+      ≡ in_process_by c.size (at c.parents) (at c.stores.chilled.works) (at c.stores.chilled.outs)
       (at (rows_of c.size (set c.standings j finished)))
   used-then =
       let e =
@@ -485,9 +485,9 @@ module _ {c : Contents} {j : ℕ} (may : MayFinish c j) (long : Lengths c) where
       in
       let u = (may.kept.cached.stores Kind.chilled).uses in
       let m = (may.kept.cached.stores Kind.chilled).needed j in
-      let h = used-has in
-      let there : c.stores.chilled.used - needs j + given ≡ inProcessBy n par works outs (at (set (rows_of n standings) j finished)) = omega arith in
-      there ∙ ap (λ (l : List ℕ). inProcessBy n par works outs (at l)) (sym rows_then)
+      let h = used_has in
+      let there : c.stores.chilled.used - needs j + given ≡ in_process_by n par works outs (at (set (rows_of n standings) j finished)) = omega arith in
+      there ∙ ap (λ (l : List ℕ). in_process_by n par works outs (at l)) (sym rows_then)
 
   -- one fewer runs, and one more has ended
   pub runs_then :
@@ -511,20 +511,20 @@ module _ {c : Contents} {j : ℕ} (may : MayFinish c j) (long : Lengths c) where
   -- booking ahead has come as far as before
   pub reached_then :
       (booked' : List ℕ)
-      → Reached c.size (activationOf c) (booksIn c.size (set c.standings j finished) (λ _. booked')) c.next
+      → Reached c.size (activation_of c) (books_in c.size (set c.standings j finished) (λ _. booked')) c.next
   reached_then booked' =
       record {
         within = may.kept.cached.reached.within;
-        before-next =
+        before_next =
             λ e l w.
-            ⊎_elim (λ (q : at (activationOf c) e ≡ j). let f = ap (at (rows_of n then)) q ∙ there in omega arith)
-            (λ d. may.kept.cached.reached.before-next e l (sym (other (at (activationOf c) e) d) ∙ w))
-            (same_or_not (at (activationOf c) e) j);
+            ⊎_elim (λ (q : at (activation_of c) e ≡ j). let f = ap (at (rows_of n then)) q ∙ there in omega arith)
+            (λ d. may.kept.cached.reached.before_next e l (sym (other (at (activation_of c) e) d) ∙ w))
+            (same_or_not (at (activation_of c) e) j);
         from_next =
             λ e l s.
             let waits = may.kept.cached.reached.from_next e l s in
-            ⊎_elim (λ (q : at (activationOf c) e ≡ j). let r = ap (at (rows_of n standings)) q ∙ runs-there in absurd (omega arith))
-            (λ d. other (at (activationOf c) e) d ∙ waits) (same_or_not (at (activationOf c) e) j);
+            ⊎_elim (λ (q : at (activation_of c) e ≡ j). let r = ap (at (rows_of n standings)) q ∙ runs-there in absurd (omega arith))
+            (λ d. other (at (activation_of c) e) d ∙ waits) (same_or_not (at (activation_of c) e) j);
       }
     where
       other : (i : ℕ) → (i ≡ j → ⊥) → at (rows_of n then) i ≡ at (rows_of n standings) i
@@ -553,33 +553,33 @@ module _ {c : Contents} {j : ℕ} (may : MayFinish c j) (long : Lengths c) where
       ∙ sym (release-child par outs (rows_of n booked) j (ne_eqb (par j) 0 may.higher))
 
   -- and so the climb is that of the rules
-  same-goal : climb n par (termsIn c) (at then) (chain n par (par j)) (share_of n rest shared) ≡ dispatchedFrom c j
+  same-goal : climb n par (terms_in c) (at then) (chain n par (par j)) (share_of n rest shared) ≡ dispatched_from c j
   unfolding dispatch
   same-goal =
-      ap (climb n par (termsIn c) (at then) (chain n par (par j))) (λ i. record { chilled = released i })
-      ∙ ap (λ (f : ℕ → ℕ). dispatch n par (termsIn c) f (books c).booked j) (sym (ap at (sym rows_then) ∙ then-rows))
+      ap (climb n par (terms_in c) (at then) (chain n par (par j))) (λ i. record { chilled = released i })
+      ∙ ap (λ (f : ℕ → ℕ). dispatch n par (terms_in c) f (books c).booked j) (sym (ap at (sym rows_then) ∙ then-rows))
 
   shared-zero : ZeroPast n shared
   shared-zero =
       grown-zero n taken (par j) given (day.parents j)
-      (zero-set n booked j 0 may.task.high (may.kept.cached.stores Kind.chilled).booked-zero)
+      (zero-set n booked j 0 may.task.high (may.kept.cached.stores Kind.chilled).booked_zero)
 
   -- after the climb
   module _ {offers left : ℕ} {booked' figures' : List ℕ}
       (climbed :
       Carried c.size (at c.parents) (at (set c.standings j finished))
-      (climb c.size (at c.parents) (termsIn c) (at (set c.standings j finished))
+      (climb c.size (at c.parents) (terms_in c) (at (set c.standings j finished))
       (chain c.size (at c.parents) (at c.parents j))
       (share_of c.size (rest_of c.stores.chilled.booked j (at c.stores.chilled.outs j))
-      (sharedWith c.stores.chilled.booked j (at c.parents j) (at c.stores.chilled.outs j))))
-      (sharedWith c.stores.chilled.booked j (at c.parents j) (at c.stores.chilled.outs j)) booked' figures' offers left) where
-    pub booked-zero : ZeroPast c.size booked'
-    booked-zero a h = climbed.past a h ∙ shared-zero a h
+      (shared_with c.stores.chilled.booked j (at c.parents j) (at c.stores.chilled.outs j))))
+      (shared_with c.stores.chilled.booked j (at c.parents j) (at c.stores.chilled.outs j)) booked' figures' offers left) where
+    pub booked_zero : ZeroPast c.size booked'
+    booked_zero a h = climbed.past a h ∙ shared-zero a h
 
     -- what goes up is owed to those above
     owing :
         (d : Kind)
-        → Owing n par (termsIn c d).need (termsIn c d).out (at then) (chain n par (par j)) (of (share_of n rest shared) d)
+        → Owing n par (terms_in c d).need (terms_in c d).out (at then) (chain n par (par j)) (of (share_of n rest shared) d)
     unfolding carrying
     owing Kind.chilled =
         let z = shared-size in
@@ -597,7 +597,7 @@ module _ {c : Contents} {j : ℕ} (may : MayFinish c j) (long : Lengths c) where
     total-then =
         let shared-rows = rows_is n shared shared-zero in
         let all =
-        (climbs n par rank tree (termsIn c) day.roomy (at then) carrying.shape (chain n par (par j)) (par j) (share_of n rest shared)
+        (climbs n par rank tree (terms_in c) day.roomy (at then) carrying.shape (chain n par (par j)) (par j) (share_of n rest shared)
         refl (day.parents j) idle owing Kind.chilled
         ).all
         in
@@ -618,28 +618,28 @@ module _ {c : Contents} {j : ℕ} (may : MayFinish c j) (long : Lengths c) where
         (i : ℕ)
         → Task c.size i
         → at figures' i
-        ≡ partialFigure c.size (at c.parents) (at (rows_of c.size (set c.standings j finished))) (at (rows_of c.size booked')) i
+        ≡ partial_figure c.size (at c.parents) (at (rows_of c.size (set c.standings j finished))) (at (rows_of c.size booked')) i
     figured-then i t =
         climbed.figured i t
-        ∙ ap₂ (λ (st b : ℕ → ℕ). partialFigure n par st b i) (sym then-rows) (sym (rows_is n booked' booked-zero))
+        ∙ ap₂ (λ (st b : ℕ → ℕ). partial_figure n par st b i) (sym then-rows) (sym (rows_is n booked' booked_zero))
 
     pub books-then :
-        booksIn c.size (set c.standings j finished) (λ _. booked')
+        books_in c.size (set c.standings j finished) (λ _. booked')
         ≡ record {
           standings = set (books c).standings j finished;
-          booked = each (λ k. (of (dispatchedFrom c j).share k).booked);
+          booked = each (λ k. (of (dispatched_from c j).share k).booked);
         }
     books-then =
         ap₂ (λ (s : List ℕ) (b : Each (List ℕ)). record { standings = s; booked = b }) rows_then
         (ap (λ (s : Each Share). each (λ k. (of s k).booked)) climbed.share
         ∙ ap (λ (goal : Climbed). each (λ k. (of goal.share k).booked)) same-goal)
 
-    pub offers-then : offers ≡ length (dispatchedFrom c j).offered
+    pub offers-then : offers ≡ length (dispatched_from c j).offered
     offers-then = climbed.offered ∙ ap (λ (k : Climbed). length k.offered) same-goal
 
     pub good-then :
-        DayInvariant c.size (at c.parents) (termsIn c) (activationOf c)
-        (booksIn c.size (set c.standings j finished) (λ _. booked'))
+        DayInvariant c.size (at c.parents) (terms_in c) (activation_of c)
+        (books_in c.size (set c.standings j finished) (λ _. booked'))
     good-then =
         record {
           small = day.small;
@@ -648,6 +648,6 @@ module _ {c : Contents} {j : ℕ} (may : MayFinish c j) (long : Lengths c) where
           parents = day.parents;
           roomy = day.roomy;
           good =
-              subst (λ (b : Books). Good n par rank (termsIn c) b) (sym books-then)
-              (sharing-good n par rank tree (termsIn c) day.roomy (books c) day.good j may.task runs-there may.higher);
+              subst (λ (b : Books). Good n par rank (terms_in c) b) (sym books-then)
+              (sharing-good n par rank tree (terms_in c) day.roomy (books c) day.good j may.task runs-there may.higher);
         }

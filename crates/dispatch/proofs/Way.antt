@@ -14,7 +14,7 @@ use Rattle.books.specs.Kind
 use Rattle.numbers.specs.Sums.{Task, only}
 use Rattle.numbers.specs.Lists.{at}
 use Rattle.books.specs.Standing.{waiting}
-use Rattle.books.specs.Booking.{Terms, Climbed, total, spent, gift, pass, passEach, offer, climb}
+use Rattle.books.specs.Booking.{Terms, Climbed, total, spent, gift, pass, pass_each, offer, climb}
 use Rattle.tree.specs.Tree.{chain, figure, up}
 use Rattle.books.specs.Invariant.{Active, Balance}
 use Rattle.numbers.proofs.Tests.{same_or_not, or_left, or_right}
@@ -26,7 +26,7 @@ use Rattle.books.proofs.Climbing.{gift-within, offer-balance, offer-total}
 use Rattle.books.proofs.Branches.{climb-stop, climb-offer}
 use Rattle.words.specs.Layout.{rows}
 use Rattle.store.specs.Rows.{rows_of}
-use Rattle.store.specs.Cached.{partialFigure, partialFigureWith}
+use Rattle.store.specs.Cached.{partial_figure, partial_figure_with}
 use Rattle.store.proofs.Rows.{at_rows, rows-set, figure-rows}
 use Rattle.store.proofs.Figures.{partial-figure, partial-with-nothing, partial-with-own, partial-offered, partial-past-root, partial-at-waiting}
 use Rattle.dispatch.specs.Climb.{Carrying, share_of, Carried}
@@ -80,7 +80,7 @@ module _ {n : ℕ} {par : ℕ → ℕ} {terms : Kind → Terms} {st : ℕ → �
   ends-here :
       climb n par terms st (chain n par i) (share_of n left booked) ≡ record { offered = []; share = share_of n left booked }
       → (figures' : List ℕ)
-      → ((a : ℕ) → Task n a → at figures' a ≡ partialFigure n par st (at booked) a)
+      → ((a : ℕ) → Task n a → at figures' a ≡ partial_figure n par st (at booked) a)
       → Carried n par st goal booked₀ booked figures' offers left
   ends-here e figures' figured =
       record {
@@ -118,7 +118,7 @@ module _ {n : ℕ} {par : ℕ → ℕ} {terms : Kind → Terms} {st : ℕ → �
       ends-here (stops (chain n par i) (λ k. or_right (eqb (st k) waiting) (eqb left 0) (eq-eqb left 0 z))) figures
       (λ a t.
       c.figured a t
-      ∙ ap (λ (r : ℕ). partialFigureWith n par st (at booked) way.x r a) z
+      ∙ ap (λ (r : ℕ). partial_figure_with n par st (at booked) way.x r a) z
       ∙ partial-with-nothing n par st (at booked) way.x a)
 
   module _ (higher : i ≡ 0 → ⊥) where
@@ -135,11 +135,11 @@ module _ {n : ℕ} {par : ℕ → ℕ} {terms : Kind → Terms} {st : ℕ → �
     -- a waiting task
     module _ (waits : st i ≡ waiting) where
       at-waiting :
-          (a : ℕ) → Task n a → partialFigure n par st (at booked) a + only (eqb i a) left ≡ at figures a
+          (a : ℕ) → Task n a → partial_figure n par st (at booked) a + only (eqb i a) left ≡ at figures a
       at-waiting a t =
           let c = way.carrying in
           let p = way.parent in
-          ap (λ (k : ℕ). partialFigure n par st (at booked) a + only (eqb k a) left) (sym p)
+          ap (λ (k : ℕ). partial_figure n par st (at booked) a + only (eqb k a) left) (sym p)
           ∙ partial-at-waiting n par c.rank c.tree st (at booked) way.x left a c.shape c.task c.busy
           (subst (λ (k : ℕ). Task n k) (sym p) task) (ap st p ∙ waits) t
           ∙ sym (c.figured a t)
@@ -191,13 +191,13 @@ module _ {n : ℕ} {par : ℕ → ℕ} {terms : Kind → Terms} {st : ℕ → �
       figure-kept =
           let c = way.carrying in
           let p = way.parent in
-          let with-x : at figures i ≡ partialFigureWith n par st (at booked) way.x left i = c.figured i task in
+          let with-x : at figures i ≡ partial_figure_with n par st (at booked) way.x left i = c.figured i task in
           let lifted =
           partial-offered n par c.rank c.tree st (at booked) (at booked) way.x left 0 i c.task c.busy
           (subst (λ (k : ℕ). Task n k) (sym p) task) (omega arith) (λ k _ _. refl) (omega arith) task
           in
-          let own : partialFigureWith n par st (at booked) (par way.x) (left - 0) i ≡ partialFigure n par st (at booked) i =
-          ap (λ (k : ℕ). partialFigureWith n par st (at booked) k (left - 0) i) p
+          let own : partial_figure_with n par st (at booked) (par way.x) (left - 0) i ≡ partial_figure n par st (at booked) i =
+          ap (λ (k : ℕ). partial_figure_with n par st (at booked) k (left - 0) i) p
           ∙ partial-with-own n par c.rank c.tree st (at booked) i (left - 0) task
           in
           let whole =
@@ -241,9 +241,9 @@ module _ {n : ℕ} {par : ℕ → ℕ} {terms : Kind → Terms} {st : ℕ → �
             omega arith
 
         -- and all stays within 32 bits
-        pub booked-fits : at booked i + g < 2 ^ 32
+        pub booked_fits : at booked i + g < 2 ^ 32
         unfolding total
-        booked-fits =
+        booked_fits =
             let c = way.carrying in
             let one = term-le (at booked) n i task in
             let w = c.within in
@@ -256,17 +256,17 @@ module _ {n : ℕ} {par : ℕ → ℕ} {terms : Kind → Terms} {st : ℕ → �
             (a : ℕ)
             → Task n a
             → at (set figures i ((at figures i - left) + g)) a
-            ≡ partialFigureWith n par st (at (set booked i (at booked i + g))) i (left - g) a
+            ≡ partial_figure_with n par st (at (set booked i (at booked i + g))) i (left - g) a
         refigured a t =
             let c = way.carrying in
             let p = way.parent in
             let lifted :
-            partialFigureWith n par st (at (set booked i (at booked i + g))) i (left - g) a + only (eqb i a) left
-            ≡ partialFigureWith n par st (at booked) way.x left a + only (eqb i a) g =
+            partial_figure_with n par st (at (set booked i (at booked i + g))) i (left - g) a + only (eqb i a) left
+            ≡ partial_figure_with n par st (at booked) way.x left a + only (eqb i a) g =
             subst
             (λ (k : ℕ).
-            partialFigureWith n par st (at (set booked i (at booked i + g))) k (left - g) a + only (eqb k a) left
-            ≡ partialFigureWith n par st (at booked) way.x left a + only (eqb k a) g)
+            partial_figure_with n par st (at (set booked i (at booked i + g))) k (left - g) a + only (eqb k a) left
+            ≡ partial_figure_with n par st (at booked) way.x left a + only (eqb k a) g)
             p
             (partial-offered n par c.rank c.tree st (at booked) (at (set booked i (at booked i + g))) way.x left g a
             c.task c.busy (subst (λ (k : ℕ). Task n k) (sym p) task)
@@ -299,7 +299,7 @@ module _ {n : ℕ} {par : ℕ → ℕ} {terms : Kind → Terms} {st : ℕ → �
             (left ≡ 0 → ⊥)
             → climb n par terms st (chain n par i) (share_of n left booked)
             ≡ offer i (climb n par terms st (chain n par (par i)) (share_of n (left - g) (set booked i (at booked i + g))))
-        unfolding spent all gift pass passEach
+        unfolding spent all gift pass pass_each
         same_turn some =
             let gift-is : gift n par (terms Kind.chilled).need (rows_of n booked) i ≡ g =
             ap (λ (v : ℕ). (terms Kind.chilled).need i - v) (figure-rows n par booked i) ∙ sym given

@@ -4,13 +4,13 @@ use Rattle.books.specs.Kind
 use Rattle.numbers.specs.Lists.{at}
 use Rattle.books.specs.Standing.{activated, finished}
 use Rattle.words.specs.Layout.{words, rows, entries}
-use Rattle.words.specs.Contents.{Contents, withReady}
+use Rattle.words.specs.Contents.{Contents, with_ready}
 use Rattle.words.specs.Marks.{Marks, changed}
-use Rattle.store.specs.Store.{withStore, fewer, heldAlone}
+use Rattle.store.specs.Store.{with_store, fewer, held_alone}
 
 -- the plan with other standings, with other counts of tasks that run and have ended, and of children that have not ended
-unfoldable pub withProgress : (standings unended : List ℕ) (active ended : ℕ) → Contents → Contents
-withProgress standings unended active ended c =
+unfoldable pub with_progress : (standings unended : List ℕ) (active ended : ℕ) → Contents → Contents
+with_progress standings unended active ended c =
     record {
       extent = c.extent;
       phase = c.phase;
@@ -37,16 +37,16 @@ withProgress standings unended active ended c =
 -- task j is an ended one, and one fewer runs
 pub record MayEnd (j : ℕ) (c : Contents) : Type 0 where
   pub long : c.extent ≡ words
-  pub task-in : j < rows
-  pub some-run : 1 ≤ c.active
-  pub ended-fits : c.ended + 1 < 2 ^ 32
+  pub task_in : j < rows
+  pub some_run : 1 ≤ c.active
+  pub ended_fits : c.ended + 1 < 2 ^ 32
 
 unfoldable pub ended : ℕ → Contents → Contents
-ended j c = withProgress (set c.standings j finished) c.unended (c.active - 1) (c.ended + 1) c
+ended j c = with_progress (set c.standings j finished) c.unended (c.active - 1) (c.ended + 1) c
 
 -- the parent waits for one child fewer: whether it is booked, and waits for none then
-unfoldable pub becomesReady : ℕ → Contents → Bool
-becomesReady parent c = eqb (at c.standings parent) activated && eqb (at c.unended parent - 1) 0
+unfoldable pub becomes_ready : ℕ → Contents → Bool
+becomes_ready parent c = eqb (at c.standings parent) activated && eqb (at c.unended parent - 1) 0
 
 -- a parent that waits for a child is not in the ready set
 pub record Unfed (parent : ℕ) (c : Contents) : Type 0 where
@@ -54,7 +54,7 @@ pub record Unfed (parent : ℕ) (c : Contents) : Type 0 where
   pub place_in : at c.places parent < entries
   pub test : ℕ → Bool
   pub marks : Marks test c
-  pub not-ready : test (at c.places parent) ≡ false
+  pub not_ready : test (at c.places parent) ≡ false
 
 pub record MayFeed (parent : ℕ) (c : Contents) : Type 0 where
   pub long : c.extent ≡ words
@@ -63,13 +63,13 @@ pub record MayFeed (parent : ℕ) (c : Contents) : Type 0 where
 
 -- one child fewer, and a parent in the ready set where it becomes ready
 pub record Fed (parent : ℕ) (c c' : Contents) : Type 0 where
-  pub same : c' ≡ withReady c'.ready c'.filled (withProgress c.standings (fewer c.unended parent) c.active c.ended c)
+  pub same : c' ≡ with_ready c'.ready c'.filled (with_progress c.standings (fewer c.unended parent) c.active c.ended c)
   pub marks :
       (test : ℕ → Bool)
       → Marks test c
       → test (at c.places parent) ≡ false
-      → Marks (changed test (at c.places parent) (becomesReady parent c)) c'
+      → Marks (changed test (at c.places parent) (becomes_ready parent c)) c'
 
 -- the root is an ended task: its out remains booked and in use, and nothing else is
-unfoldable pub rootEnded : ℕ → Contents → Contents
-rootEnded j c = withStore Kind.chilled (heldAlone j (at c.stores.chilled.outs j) c.stores.chilled) (ended j c)
+unfoldable pub root_ended : ℕ → Contents → Contents
+root_ended j c = with_store Kind.chilled (held_alone j (at c.stores.chilled.outs j) c.stores.chilled) (ended j c)

@@ -6,7 +6,7 @@ use Rattle.numbers.specs.Lists.{at}
 use Rattle.books.specs.Standing.{running, finished}
 use Rattle.books.specs.Booking.{Climbed, dispatch}
 use Rattle.words.specs.Contents.{Contents}
-use Rattle.store.specs.Rows.{books, termsIn}
+use Rattle.store.specs.Rows.{books, terms_in}
 use Rattle.store.specs.Kept.{Kept, SamePlan}
 
 -- task j runs, and has a parent
@@ -17,9 +17,9 @@ pub record MayFinish (c : Contents) (j : ℕ) : Type 0 where
   pub higher : at c.parents j ≡ 0 → ⊥
 
 -- sharing out of the rules
-abbrev pub dispatchedFrom : Contents → ℕ → Climbed
-dispatchedFrom c j =
-    dispatch c.size (at c.parents) (termsIn c) (at (set (books c).standings j finished)) (books c).booked j
+abbrev pub dispatched_from : Contents → ℕ → Climbed
+dispatched_from c j =
+    dispatch c.size (at c.parents) (terms_in c) (at (set (books c).standings j finished)) (books c).booked j
 
 pub record Finished (c : Contents) (j : ℕ) (c' : Contents) (offers : ℕ) : Type 0 where
   pub kept : Kept c'
@@ -28,6 +28,6 @@ pub record Finished (c : Contents) (j : ℕ) (c' : Contents) (offers : ℕ) : Ty
       books c'
       ≡ record {
         standings = set (books c).standings j finished;
-        booked = each (λ k. (of (dispatchedFrom c j).share k).booked);
+        booked = each (λ k. (of (dispatched_from c j).share k).booked);
       }
-  pub offered : offers ≡ length (dispatchedFrom c j).offered
+  pub offered : offers ≡ length (dispatched_from c j).offered

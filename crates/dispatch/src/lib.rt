@@ -2,7 +2,7 @@
 ghost use Rattle.std.specs.Prelude.{◌≡◌};
 ghost use Rattle.words.specs.Contents.{contents};
 ghost use Rattle.dispatch.specs.Climb.{MayClimb, DidClimb};
-ghost use Rattle.dispatch.specs.Ended.{MayEnd, ended, MayFeed, Fed, rootEnded};
+ghost use Rattle.dispatch.specs.Ended.{MayEnd, ended, MayFeed, Fed, root_ended};
 ghost use Rattle.dispatch.specs.Finished.{MayFinish, Finished};
 
 use cells::{cell, set_cell};
@@ -92,7 +92,7 @@ pub fn finish(plan: &mut [u32; Plan::WORDS], task: usize) -> usize
 // above it to be offered anything.
 pub fn end_root(plan: &mut [u32; Plan::WORDS], task: usize)
     requires { MayEnd task (contents plan.old) }
-    ensures { contents plan.new ≡ rootEnded task (contents plan.old) }
+    ensures { contents plan.new ≡ root_ended task (contents plan.old) }
 {
     end(plan, task);
     let out = cell(plan, task, Plan::CHILLED + Plan::OUT);

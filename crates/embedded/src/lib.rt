@@ -1,6 +1,6 @@
 // An embedder in Rattle, the example of docs/EMBEDDING.md: what a new plan answers to one command.
 ghost use Rattle.std.specs.Prelude.{◌≡◌, replicate};
-ghost use Rattle.numbers.specs.Limits.{leastStarts};
+ghost use Rattle.numbers.specs.Limits.{least_starts};
 ghost use Rattle.rules.specs.State.{none};
 ghost use Rattle.rules.specs.Answer as rules;
 ghost use Rattle.answer.specs.Meaning.{answer_of};
@@ -10,7 +10,7 @@ use plan::command;
 use words::plan::Plan;
 
 pub fn first_answer(bytes: &[u8], place: usize) -> Answer
-    ensures { answer_of result ≡ (rules.command none (record { stream = bytes.now; place = place; list = replicate leastStarts 0 })).answer }
+    ensures { answer_of result ≡ (rules.command none (record { stream = bytes.now; place = place; list = replicate least_starts 0 })).answer }
 {
     let mut plan = Plan::new();
     let mut starts = [0u16; Plan::LEAST_STARTS];

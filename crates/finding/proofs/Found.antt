@@ -8,12 +8,12 @@ use Rattle.numbers.specs.Sums.{Task}
 use Rattle.numbers.specs.Lists.{mem, distinct}
 use Rattle.tree.specs.Peak.{peak}
 use Rattle.tree.specs.Tree.{Tree}
-use Rattle.postorders.specs.Postorder.{bestPostorder}
+use Rattle.postorders.specs.Postorder.{best_postorder}
 use Rattle.numbers.proofs.Tests.{fails}
-use Rattle.tree.proofs.Orders.{mem-left, Apart, distinct_more, distinct_append, sumOver}
+use Rattle.tree.proofs.Orders.{mem-left, Apart, distinct_more, distinct_append, sum_over}
 use Rattle.postorders.proofs.Siblings.{children-along}
 use Rattle.postorders.proofs.Exchange.{cost}
-use Rattle.postorders.proofs.Levels.{foundChildren, found-permuted, found-finishes, found-node}
+use Rattle.postorders.proofs.Levels.{found_children, found-permuted, found-finishes, found-node}
 use Rattle.postorders.proofs.BestOrder.{peak-costs}
 use Rattle.postorders.proofs.BestOrder as best
 use Rattle.postorders.proofs.Taking.{found-subtree}
@@ -21,10 +21,10 @@ use Rattle.postorders.proofs.Taking.{found-subtree}
 module _ (n : ℕ) (par work out rank : ℕ → ℕ) (tree : Tree n par rank) where
   -- the order that is found of each task, and the children in the sequence in which they are taken
   abbrev found : ℕ → List ℕ
-  found = bestPostorder n n par work out
+  found = best_postorder n n par work out
 
   abbrev sequence : ℕ → List ℕ
-  sequence = foundChildren n n par work out
+  sequence = found_children n n par work out
 
   -- its peak is not below the out of its task
   pub found-enough : (i : ℕ) → Task n i → out i ≤ peak n par work out (found i)
@@ -36,8 +36,8 @@ module _ (n : ℕ) (par work out rank : ℕ → ℕ) (tree : Tree n par rank) wh
       (i : ℕ)
       → Task n i
       → peak n par work out (found i)
-      ≡ max (cost (λ c. peak n par work out (found c)) out (sequence i)) (sumOver out (sequence i) + work i + out i)
-  unfolding bestPostorder
+      ≡ max (cost (λ c. peak n par work out (found c)) out (sequence i)) (sum_over out (sequence i) + work i + out i)
+  unfolding best_postorder
   found-peak i t =
       let below = tree.below i t in
       ap (peak n par work out) (found-node n par work out rank tree i t)

@@ -8,13 +8,13 @@ use native.Mathlib.Omega.{arith}
 use lib.ListN.{length, set}
 use Rattle.numbers.specs.Sums.{Task}
 use Rattle.numbers.specs.Lists.{at, mem, distinct}
-use Rattle.numbers.specs.Limits.{maxTasks}
+use Rattle.numbers.specs.Limits.{max_tasks}
 use Rattle.numbers.proofs.Tests.{clash}
 use Rattle.tree.proofs.Orders.{mem-here, mem-more, mem-left, mem-right, Apart, distinct_append}
 use Rattle.tree.proofs.Concatenated.{flatMap-append, mem-flatMap}
 use Rattle.children.specs.Scratch.{first, sibling, head, after, cells, field}
 use Rattle.children.specs.Links.{Passes}
-use Rattle.children.specs.Linked.{linkedFrom, linkedIn, Linked}
+use Rattle.children.specs.Linked.{linked_from, linked_in, Linked}
 use Rattle.children.proofs.Following.{last_of, passes_same, passes_append, last_snoc}
 use Rattle.children.proofs.Storing.{stored, stored_other, stored-length}
 use Rattle.children.proofs.Tails.{none-or-last, last-passes, last-only}
@@ -28,8 +28,8 @@ order-self w c l o =
 
 -- each child has an order, and no task stands in two
 pub record Orders (w : List ℕ) (i : ℕ) (f : ℕ → List ℕ) : Type 0 where
-  pub each : (c : ℕ) → mem c (linkedIn w i) ≡ true → OrderAt w c (f c)
-  pub once : distinct (0 ∷ flat_map f (linkedIn w i)) ≡ true
+  pub each : (c : ℕ) → mem c (linked_in w i) ≡ true → OrderAt w c (f c)
+  pub once : distinct (0 ∷ flat_map f (linked_in w i)) ≡ true
 
 -- the orders of the children passed, one behind the other from nobody's entry on
 pub record Chained (w : List ℕ) (done : List ℕ) (last : ℕ) (f : ℕ → List ℕ) : Type 0 where
@@ -40,7 +40,7 @@ pub record Linking (w₀ w : List ℕ) (i last child : ℕ) : Type 0 where
   pub long : length w ≡ cells
   pub done : List ℕ
   pub rest : List ℕ
-  pub whole : linkedIn w₀ i ≡ done ++ rest
+  pub whole : linked_in w₀ i ≡ done ++ rest
   pub walk : Walking w child rest
   pub last-is : last ≡ last_of 0 done
   pub same :
@@ -55,7 +55,7 @@ linking-none w i child linked long e =
     record {
       long = long;
       done = [];
-      rest = linkedIn w i;
+      rest = linked_in w i;
       whole = refl;
       walk = walking-none w i child linked e;
       last-is = refl;
@@ -64,23 +64,23 @@ linking-none w i child linked long e =
     }
 
 module _ (w₀ w : List ℕ) (i last child : ℕ) (linked : Linked w₀ i) (l : Linking w₀ w i last child) where
-  done-mem : (x : ℕ) → mem x l.done ≡ true → mem x (linkedIn w₀ i) ≡ true
+  done-mem : (x : ℕ) → mem x l.done ≡ true → mem x (linked_in w₀ i) ≡ true
   done-mem x m = ap (mem x) l.whole ∙ mem-left x l.done l.rest m
 
-  rest-mem : (x : ℕ) → mem x l.rest ≡ true → mem x (linkedIn w₀ i) ≡ true
+  rest-mem : (x : ℕ) → mem x l.rest ≡ true → mem x (linked_in w₀ i) ≡ true
   rest-mem x m = ap (mem x) l.whole ∙ mem-right x l.done l.rest m
 
   -- the last one is nobody or one of those passed
   last-passed : (last ≡ 0) ⊎ (mem last l.done ≡ true)
   last-passed = none-or-last last l.done l.last-is
 
-  pub linking-low : last ≤ maxTasks
+  pub linking-low : last ≤ max_tasks
   linking-low = ⊎_elim (λ z. omega arith) (λ m. (linked.each last (done-mem last m)).high) last-passed
 
   -- the orders of those passed and of those left have no task in common
   apart : (f : ℕ → List ℕ) → Orders w₀ i f → Apart (0 ∷ flat_map f l.done) (flat_map f l.rest)
   apart f o =
-      let split : flat_map f (linkedIn w₀ i) ≡ flat_map f l.done ++ flat_map f l.rest
+      let split : flat_map f (linked_in w₀ i) ≡ flat_map f l.done ++ flat_map f l.rest
       = ap (flat_map f) l.whole ∙ flatMap-append f l.done l.rest in
       distinct_append (0 ∷ flat_map f l.done) (flat_map f l.rest)
       (sym (ap (λ (k : List ℕ). distinct (0 ∷ k)) split) ∙ o.once)
@@ -125,7 +125,7 @@ module _ (w₀ w : List ℕ) (i last child : ℕ) (linked : Linked w₀ i) (l : 
         let t = step.task in l.same (head + child) (λ z. omega arith) (λ c m z. omega arith)
 
     module _ (w' : List ℕ) (e : w' ≡ set w (after + last) (field head w child)) (next : ℕ) (n : next ≡ field sibling w' child) where
-      same-link : (x : ℕ) → Task maxTasks x → field sibling w' x ≡ field sibling w x
+      same-link : (x : ℕ) → Task max_tasks x → field sibling w' x ≡ field sibling w x
       same-link x t = stored_other w (after + last) (field head w child) e (sibling + x) (λ z. omega arith)
 
       walk-next : Walking w' next step.later
@@ -184,7 +184,7 @@ module _ (w₀ w : List ℕ) (i last child : ℕ) (linked : Linked w₀ i) (l : 
             chained = chain_next;
           }
 
-      pub linking-less : length (linkedFrom w' next) < length (linkedFrom w child)
+      pub linking-less : length (linked_from w' next) < length (linked_from w child)
       linking-less = walking-less w child l.rest w' next step.later l.walk walk-next step.split
 
   -- all children, and the task behind them
@@ -197,7 +197,7 @@ module _ (w₀ w : List ℕ) (i last child : ℕ) (linked : Linked w₀ i) (l : 
       → Joined w₀ i w₂
   linking-end z w₁ e₁ w₂ e₂ =
       let none : l.rest ≡ [] = walking-end w child l.rest l.walk z in
-      let all : linkedIn w₀ i ≡ l.done = l.whole ∙ ap (λ (k : List ℕ). l.done ++ k) none ∙ append-nil l.done in
+      let all : linked_in w₀ i ≡ l.done = l.whole ∙ ap (λ (k : List ℕ). l.done ++ k) none ∙ append-nil l.done in
       let t = linked.task in
       let long : length w₁ ≡ cells = sized i w₁ e₁ in
       let begins : field head w₂ i ≡ field after w₁ 0 = stored w₁ (head + i) (field after w₁ 0) e₂ (omega arith) in
@@ -205,7 +205,7 @@ module _ (w₀ w : List ℕ) (i last child : ℕ) (linked : Linked w₀ i) (l : 
         long = stored-length w₁ (head + i) (field after w₁ 0) e₂ ∙ long;
         order = λ f each once.
             record {
-              front = flat_map f (linkedIn w₀ i);
+              front = flat_map f (linked_in w₀ i);
               whole = refl;
               links =
                   rw (begins, all)

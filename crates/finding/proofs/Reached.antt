@@ -10,20 +10,20 @@ use lib.ListN.{length, take, drop, set, length-append, take-append-drop, get_or-
 use lib.Seq.{take-suc, take_all, split_at, take-append-le}
 use Rattle.numbers.specs.Sums.{Task}
 use Rattle.numbers.specs.Lists.{at, mem, distinct, place}
-use Rattle.numbers.specs.Limits.{maxTasks}
+use Rattle.numbers.specs.Limits.{max_tasks}
 use Rattle.postorders.proofs.Siblings.{Child, child-there}
 use Rattle.numbers.proofs.Tests.{clash, fails, same_or_not}
 use Rattle.tree.proofs.Orders.{nobody, mem-none, mem-one, mem-here, mem-at, mem-both, mem-left, mem-right, new-behind, place_of, place-first, place-second, length-within, distinct_more, every-within, distinct-join}
 use Rattle.words.specs.Views.{tabulate, view}
 use Rattle.words.proofs.Views.{part_length, part_at}
 use Rattle.children.specs.Scratch.{first, sibling, queue, cells, field}
-use Rattle.children.specs.Listing.{lastFirst, Listed}
-use Rattle.children.specs.Linked.{linkedIn, Linked}
+use Rattle.children.specs.Listing.{last_first, Listed}
+use Rattle.children.specs.Linked.{linked_in, Linked}
 use Rattle.children.proofs.Following.{passes_same}
 use Rattle.children.proofs.Storing.{stored, stored_other, stored-length}
 use Rattle.children.proofs.Walking.{walking-linked}
 use Rattle.children.proofs.Listed.{last-permuted, last-in, last-walk}
-use Rattle.finding.specs.Reaching.{reachedIn, MayAppend, Appended, MayReach, ReachedFrom, Reached}
+use Rattle.finding.specs.Reaching.{reached_in, MayAppend, Appended, MayReach, ReachedFrom, Reached}
 
 -- tasks from the root on, with the children of the first k
 pub record ReachedTo (n : ℕ) (par : ℕ → ℕ) (root : ℕ) (l : List ℕ) (k : ℕ) : Type 0 where
@@ -78,7 +78,7 @@ module _ (n : ℕ) (par : ℕ → ℕ) (root : ℕ) (l : List ℕ) (k : ℕ) (a 
     x = at l k
 
     abbrev kids : List ℕ
-    kids = lastFirst n par x
+    kids = last_first n par x
 
     x-in : mem x l ≡ true
     x-in = mem-at l k h
@@ -110,7 +110,7 @@ module _ (n : ℕ) (par : ℕ → ℕ) (root : ℕ) (l : List ℕ) (k : ℕ) (a 
         (λ d. clash (sym (ap (λ (y : ℕ). mem y (take k l)) child.parent) ∙ a.parent c there d) x-new)
         (same_or_not c root))
 
-    pub reached-next : ReachedTo n par root (l ++ lastFirst n par (at l k)) (k + 1)
+    pub reached-next : ReachedTo n par root (l ++ last_first n par (at l k)) (k + 1)
     reached-next =
         let long = length-append l kids in
         let passed = a.passed in
@@ -148,7 +148,7 @@ module _ (n : ℕ) (par : ℕ → ℕ) (root : ℕ) (l : List ℕ) (k : ℕ) (a 
 -- the lists of children are the same where no link changes
 pub listed_same :
     (n : ℕ) (par : ℕ → ℕ) (w w' : List ℕ)
-    → n ≤ maxTasks
+    → n ≤ max_tasks
     → length w' ≡ cells
     → ((q : ℕ) → q < queue → at w' q ≡ at w q)
     → Listed n par w
@@ -158,27 +158,27 @@ listed_same n par w w' small long same listed =
       long = long;
       lists = λ p h.
           rw (same (first + p) (omega arith))
-          (passes_same (field sibling w) (field sibling w') (field first w p) (lastFirst n par p) 0
+          (passes_same (field sibling w) (field sibling w') (field first w p) (last_first n par p) 0
           (λ x m. let t = (last-in n par p x m).task in same (sibling + x) (omega arith)) (listed.lists p h));
     }
 
 -- what is linked at a task are its children
 listed-linked :
     (n : ℕ) (par : ℕ → ℕ) (w : List ℕ) (i : ℕ)
-    → n ≤ maxTasks
+    → n ≤ max_tasks
     → Task n i
     → Listed n par w
-    → (linkedIn w i ≡ lastFirst n par i) × Linked w i
+    → (linked_in w i ≡ last_first n par i) × Linked w i
 listed-linked n par w i small t listed =
-    walking-linked w i (lastFirst n par i) (omega arith) (last-walk n par w i small (listed.lists i t.high))
+    walking-linked w i (last_first n par i) (omega arith) (last-walk n par w i small (listed.lists i t.high))
 
 -- the queue, and the links
 pub record Reaching (n : ℕ) (par : ℕ → ℕ) (root : ℕ) (w₀ w : List ℕ) (count k : ℕ) : Type 0 where
-  pub small : n ≤ maxTasks
+  pub small : n ≤ max_tasks
   pub listed : Listed n par w
   pub same : (q : ℕ) → q < queue → at w q ≡ at w₀ q
   pub up : par root ≡ 0
-  pub queued : ReachedTo n par root (reachedIn w count) k
+  pub queued : ReachedTo n par root (reached_in w count) k
 
 -- the root is the one task without a parent
 module _ (n : ℕ) (par : ℕ → ℕ) (w : List ℕ) (may : MayReach n par w) (root : ℕ) (is : root ≡ field first w 0) where
@@ -193,7 +193,7 @@ module _ (n : ℕ) (par : ℕ → ℕ) (w : List ℕ) (may : MayReach n par w) (
       let long = may.listed.long in
       let here : field queue w₀ 0 ≡ root
       = stored w (queue + 0) root e (omega arith) in
-      let one : reachedIn w₀ 1 ≡ root ∷ [] = ap (λ (x : ℕ). x ∷ []) here in
+      let one : reached_in w₀ 1 ≡ root ∷ [] = ap (λ (x : ℕ). x ∷ []) here in
       record {
         small = may.parented.small;
         listed =
@@ -206,29 +206,29 @@ module _ (n : ℕ) (par : ℕ → ℕ) (w : List ℕ) (may : MayReach n par w) (
 
 module _ (n : ℕ) (par : ℕ → ℕ) (root : ℕ) (w₀ w : List ℕ) (count k : ℕ) (a : Reaching n par root w₀ w count k) where
   pub reaching-few : count ≤ n
-  reaching-few = let long = part_length queue count w in let few = reached-few n par root (reachedIn w count) k a.queued in omega arith
+  reaching-few = let long = part_length queue count w in let few = reached-few n par root (reached_in w count) k a.queued in omega arith
 
   module _ (h : k < count) where
-    inside : k < length (reachedIn w count)
+    inside : k < length (reached_in w count)
     inside = let long = part_length queue count w in omega arith
 
-    here : at (reachedIn w count) k ≡ field queue w k
+    here : at (reached_in w count) k ≡ field queue w k
     here = sym (part_at queue count w k h)
 
     pub reaching-task : Task n (field queue w k)
     reaching-task =
         a.queued.tasks (field queue w k)
-        (ap (λ (x : ℕ). mem x (reachedIn w count)) (sym here) ∙ mem-at (reachedIn w count) k inside)
+        (ap (λ (x : ℕ). mem x (reached_in w count)) (sym here) ∙ mem-at (reached_in w count) k inside)
 
-    next-list : ReachedTo n par root (reachedIn w count ++ linkedIn w (field queue w k)) (k + 1)
+    next-list : ReachedTo n par root (reached_in w count ++ linked_in w (field queue w k)) (k + 1)
     next-list =
         rw ((listed-linked n par w (field queue w k) a.small reaching-task a.listed).0, ← here)
-        (reached-next n par root (reachedIn w count) k a.queued a.up inside)
+        (reached-next n par root (reached_in w count) k a.queued a.up inside)
 
     pub may-append : MayAppend w (field queue w k) count
     may-append =
-        let few = reached-few n par root (reachedIn w count ++ linkedIn w (field queue w k)) (k + 1) next-list in
-        let both = length-append (reachedIn w count) (linkedIn w (field queue w k)) in
+        let few = reached-few n par root (reached_in w count ++ linked_in w (field queue w k)) (k + 1) next-list in
+        let both = length-append (reached_in w count) (linked_in w (field queue w k)) in
         let long = part_length queue count w in
         let small = a.small in
         record {
@@ -254,7 +254,7 @@ module _ (n : ℕ) (par : ℕ → ℕ) (root : ℕ) (w₀ w : List ℕ) (count k
       record {
         long = a.listed.long;
         queued =
-            rw (← is) (reached-all n par root (reachedIn w count) k a.queued (let long = part_length queue count w in omega arith));
+            rw (← is) (reached-all n par root (reached_in w count) k a.queued (let long = part_length queue count w in omega arith));
         same = λ q l.
             a.same q l ∙ stored_other v (queue + 0) root e q (λ z. omega arith);
       }

@@ -6,12 +6,12 @@ use Prim.Native.Nat.{ℕ, ◌≤◌, ◌<◌}
 use native.Mathlib.Omega.{arith}
 use lib.ListN.{length, drop}
 use borrow.Author.Tests.{le-leb, lt-leb}
-use Rattle.numbers.specs.Sums.{Task, everyTo}
+use Rattle.numbers.specs.Sums.{Task, every_to}
 use Rattle.numbers.specs.Lists.{mem, distinct}
 use Rattle.tree.specs.Tree.{up}
 use Rattle.tree.specs.Tree
-use Rattle.postorders.specs.Postorder.{bestPostorder}
-use Rattle.postorders.specs.Find.{allReach}
+use Rattle.postorders.specs.Postorder.{best_postorder}
+use Rattle.postorders.specs.Find.{all_reach}
 use Rattle.numbers.proofs.Tests.{clash, fails}
 use Rattle.numbers.proofs.Sums.{every-to, every_one}
 use Rattle.tree.proofs.Orders.{nobody, mem-here, mem-more, distinct_cons}
@@ -22,10 +22,10 @@ use Rattle.tree.proofs.Roots
 use Rattle.words.proofs.Views.{part_length, part_at}
 use Rattle.children.specs.Scratch.{first, sibling, queue, field}
 use Rattle.children.specs.Links.{Passes}
-use Rattle.children.specs.Listing.{lastFirst, Listed}
+use Rattle.children.specs.Listing.{last_first, Listed}
 use Rattle.children.proofs.Listed.{last-permuted, last-in}
-use Rattle.finding.specs.Reaching.{reachedIn, MayReach, ReachedFrom, Reached}
-use Rattle.finding.specs.Finding.{AllReached, MayFind, findNumber, Finds}
+use Rattle.finding.specs.Reaching.{reached_in, MayReach, ReachedFrom, Reached}
+use Rattle.finding.specs.Finding.{AllReached, MayFind, find_number, Finds}
 use Rattle.finding.proofs.Reached.{listed_same}
 use Rattle.finding.proofs.Rooted.{all-reached, rank, reached-tree}
 
@@ -50,9 +50,9 @@ module _ (n : ℕ) (par work out : ℕ → ℕ) (may : MayFind n par work out) w
   root-top = Roots.root-parent n par may.one
 
   -- the list of those without a parent has it alone
-  one-listed : lastFirst n par 0 ≡ root ∷ []
+  one-listed : last_first n par 0 ≡ root ∷ []
   one-listed =
-      just-one root (lastFirst n par 0) (child-there n par 0 (lastFirst n par 0) (last-permuted n par 0) root (record { task = root-task; parent = root-top }))
+      just-one root (last_first n par 0) (child-there n par 0 (last_first n par 0) (last-permuted n par 0) root (record { task = root-task; parent = root-top }))
       (last-permuted n par 0).once
       (λ y m.
       let c = last-in n par 0 y m in
@@ -75,41 +75,41 @@ module _ (n : ℕ) (par work out : ℕ → ℕ) (may : MayFind n par work out) w
         }
 
     module _ (w' : List ℕ) (r : ℕ) (a : Reached n par w w' r) where
-      from-root : ReachedFrom n par root (reachedIn w' r)
+      from-root : ReachedFrom n par root (reached_in w' r)
       from-root = rw first-is at a.queued
 
       -- all are reached just where the chain of each reaches the root
-      rooted-yes : r ≡ n → allReach n par ≡ true
-      unfolding allReach
+      rooted-yes : r ≡ n → all_reach n par ≡ true
+      unfolding all_reach
       rooted-yes e =
           let whole = part_length queue r w' ∙ e in
           every-to (λ i. up n par root i) n
-          (root-above n par (rank n par root (reachedIn w' r) from-root may.light.parented root-top whole)
-          (reached-tree n par root (reachedIn w' r) from-root may.light.parented root-top whole) may.one root root-task root-top)
+          (root-above n par (rank n par root (reached_in w' r) from-root may.light.parented root-top whole)
+          (reached-tree n par root (reached_in w' r) from-root may.light.parented root-top whole) may.one root root-task root-top)
 
-      rooted-no : (r ≡ n → ⊥) → allReach n par ≡ false
-      unfolding allReach
+      rooted-no : (r ≡ n → ⊥) → all_reach n par ≡ false
+      unfolding all_reach
       rooted-no d =
-          fails (everyTo (λ i. up n par root i) n)
+          fails (every_to (λ i. up n par root i) n)
           (λ e.
           d
           (sym (part_length queue r w')
-          ∙ all-reached n par root (reachedIn w' r) from-root may.light.parented
+          ∙ all-reached n par root (reached_in w' r) from-root may.light.parented
           (λ i t. every_one (λ k. up n par root k) n i e t)))
 
       module _ (list : List ℕ) where
         pub finds-stray : (r ≡ n → ⊥) → Finds n par work out list list 12
-        unfolding findNumber
+        unfolding find_number
         finds-stray d =
-            let number : findNumber n par (length list) ≡ 12 = rw (rooted-no d) in
-            record { number = sym number; list-is = rw number }
+            let number : find_number n par (length list) ≡ 12 = rw (rooted-no d) in
+            record { number = sym number; list_is = rw number }
 
         module _ (e : r ≡ n) where
           pub finds-short : length list < n → Finds n par work out list list 11
-          unfolding findNumber
+          unfolding find_number
           finds-short h =
-              let number : findNumber n par (length list) ≡ 11 = rw (rooted-yes e, lt-leb n (length list) h) in
-              record { number = sym number; list-is = rw number }
+              let number : find_number n par (length list) ≡ 11 = rw (rooted-yes e, lt-leb n (length list) h) in
+              record { number = sym number; list_is = rw number }
 
           first-queued : field queue w' 0 ≡ root
           first-queued =
@@ -123,19 +123,19 @@ module _ (n : ℕ) (par work out : ℕ → ℕ) (may : MayFind n par work out) w
                 one = may.one;
                 listed = listed_same n par w w' may.light.parented.small a.long a.same listed;
                 top = ap par first-queued ∙ root-top;
-                reached = rw first-queued (subst (λ (k : ℕ). ReachedFrom n par root (reachedIn w' k)) e from-root);
+                reached = rw first-queued (subst (λ (k : ℕ). ReachedFrom n par root (reached_in w' k)) e from-root);
                 room = h;
               }
 
           pub finds :
               (list' : List ℕ)
               → n ≤ length list
-              → list' ≡ bestPostorder n n par work out (field queue w' 0) ++ drop n list
+              → list' ≡ best_postorder n n par work out (field queue w' 0) ++ drop n list
               → Finds n par work out list list' 0
-          unfolding findNumber
+          unfolding find_number
           finds list' h wrote =
-              let number : findNumber n par (length list) ≡ 0 = rw (rooted-yes e, le-leb n (length list) h) in
+              let number : find_number n par (length list) ≡ 0 = rw (rooted-yes e, le-leb n (length list) h) in
               record {
                 number = sym number;
-                list-is = rw number (wrote ∙ ap (λ (x : ℕ). bestPostorder n n par work out x ++ drop n list) first-queued);
+                list_is = rw number (wrote ∙ ap (λ (x : ℕ). best_postorder n n par work out x ++ drop n list) first-queued);
               }

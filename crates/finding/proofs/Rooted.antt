@@ -16,7 +16,7 @@ use Rattle.tree.proofs.Tree.{chain-none, chain_more}
 use Rattle.survey.specs.Checks.{Parented}
 use Rattle.words.proofs.Views.{part_at}
 use Rattle.children.specs.Scratch.{queue, field}
-use Rattle.finding.specs.Reaching.{reachedIn, ReachedFrom}
+use Rattle.finding.specs.Reaching.{reached_in, ReachedFrom}
 use Rattle.finding.specs.Arranging.{Queued}
 
 module _ (n : ℕ) (par : ℕ → ℕ) (root : ℕ) (l : List ℕ) (r : ReachedFrom n par root l) where
@@ -75,7 +75,7 @@ module _ (n : ℕ) (par : ℕ → ℕ) (root : ℕ) (l : List ℕ) (r : ReachedF
   -- and stand in the queue as `arrange` asks
   pub queued :
       (p : Parented n par) (top : par root ≡ 0) (whole : length l ≡ n) (w : List ℕ)
-      → l ≡ reachedIn w n
+      → l ≡ reached_in w n
       → Queued n (rank p top whole) w
   queued p top whole w e =
       let entry : (k : ℕ) → k < n → field queue w k ≡ at l k

@@ -7,23 +7,23 @@ use native.Mathlib.Omega.{arith}
 use lib.ListN.{length, set}
 use Rattle.numbers.specs.Sums.{Task}
 use Rattle.numbers.specs.Lists.{at, mem}
-use Rattle.numbers.specs.Limits.{maxTasks}
+use Rattle.numbers.specs.Limits.{max_tasks}
 use Rattle.tree.specs.Peak.{peak}
-use Rattle.postorders.specs.Postorder.{childrenOf, byFalling, peakLessOut, bestPostorder}
+use Rattle.postorders.specs.Postorder.{children_of, by_falling, peak_less_out, best_postorder}
 use Rattle.postorders.proofs.Siblings.{Child, child-in, child-of}
-use Rattle.tree.proofs.Orders.{mem-here, mem-more, every-within, length-within, sumOver}
+use Rattle.tree.proofs.Orders.{mem-here, mem-more, every-within, length-within, sum_over}
 use Rattle.tree.proofs.Peaks.{peak-most}
 use Rattle.postorders.proofs.Exchange.{cost}
 use Rattle.postorders.proofs.Sorting.{sorted-cong}
-use Rattle.postorders.proofs.Levels.{foundKey, foundChildren, found-permuted, found-node}
-use Rattle.children.specs.Scratch.{tall, first, sibling, subtreePeak, head, after, field}
+use Rattle.postorders.proofs.Levels.{found_key, found_children, found-permuted, found-node}
+use Rattle.children.specs.Scratch.{tall, first, sibling, subtree_peak, head, after, field}
 use Rattle.children.specs.Links.{Passes}
-use Rattle.children.specs.Sorting.{keyIn, MaySort, Sorted}
-use Rattle.children.specs.Linked.{linkedIn, Linked}
+use Rattle.children.specs.Sorting.{key_in, MaySort, Sorted}
+use Rattle.children.specs.Linked.{linked_in, Linked}
 use Rattle.children.proofs.Following.{passes_same}
 use Rattle.children.proofs.Storing.{stored, stored_other, stored-length}
 use Rattle.children.proofs.Walking.{walking-linked}
-use Rattle.finding.specs.Joining.{highest, peakAlong, MayWeigh, OrderAt, Joined}
+use Rattle.finding.specs.Joining.{highest, peak_along, MayWeigh, OrderAt, Joined}
 use Rattle.finding.specs.Arranging.{MayJoin, HasJoined}
 use Rattle.finding.proofs.Found.{found-enough, found-peak, found-once}
 
@@ -31,8 +31,8 @@ use Rattle.finding.proofs.Found.{found-enough, found-peak, found-once}
 highest-is :
     (p q o : ℕ → ℕ) (own : ℕ) (l : List ℕ)
     → ((c : ℕ) → mem c l ≡ true → p c ≡ q c)
-    → highest p o own l ≡ max (cost q o l) (sumOver o l + own)
-unfolding highest cost sumOver
+    → highest p o own l ≡ max (cost q o l) (sum_over o l + own)
+unfolding highest cost sum_over
 highest-is p q o own [] same = omega arith
 highest-is p q o own (c ∷ l) same =
     let here = same c (mem-here c c l refl) in
@@ -54,10 +54,10 @@ order_same w w' c l o links begins =
 
 module _ (n : ℕ) (par work out : ℕ → ℕ) (i : ℕ) (w : List ℕ) (may : MayJoin n par work out i w) where
   abbrev order : ℕ → List ℕ
-  order = bestPostorder n n par work out
+  order = best_postorder n n par work out
 
   abbrev cs : List ℕ
-  cs = foundChildren n n par work out i
+  cs = found_children n n par work out i
 
   pub may-sort : MaySort n par out i w
   may-sort =
@@ -69,18 +69,18 @@ module _ (n : ℕ) (par work out : ℕ → ℕ) (i : ℕ) (w : List ℕ) (may : 
         list = may.list;
         keyed = λ c t q.
             (let enough = found-enough n par work out may.plan.rank may.plan.tree c t in
-            let is = (may.below c t q).peak-is in
+            let is = (may.below c t q).peak_is in
             record { task = record { low = omega arith; high = omega arith }; enough = omega arith });
       }
 
   -- the keys are those of the rules
-  sorted-is : byFalling (keyIn out w) (childrenOf n par i) ≡ cs
-  unfolding peakLessOut
+  sorted-is : by_falling (key_in out w) (children_of n par i) ≡ cs
+  unfolding peak_less_out
   sorted-is =
-      sorted-cong (keyIn out w) (foundKey n n par work out) (childrenOf n par i)
+      sorted-cong (key_in out w) (found_key n n par work out) (children_of n par i)
       (λ c m.
       let child = child-in n par i c m in
-      ap (λ (x : ℕ). x - out c) (may.below c child.task child.parent).peak-is)
+      ap (λ (x : ℕ). x - out c) (may.below c child.task child.parent).peak_is)
 
   cs-child : (c : ℕ) → mem c cs ≡ true → Child n par i c
   cs-child = child-of n par i cs (found-permuted n par work out n i)
@@ -91,14 +91,14 @@ module _ (n : ℕ) (par work out : ℕ → ℕ) (i : ℕ) (w : List ℕ) (may : 
       let few = length-within n cs (every-within n cs (λ c m. (cs-child c m).task)) (found-permuted n par work out n i).once in
       omega arith
 
-  cs-task : (c : ℕ) → mem c cs ≡ true → Task maxTasks c
+  cs-task : (c : ℕ) → mem c cs ≡ true → Task max_tasks c
   cs-task c m =
       let small = may.plan.small in
       let t = (cs-child c m).task in
       record { low = omega arith; high = omega arith }
 
   -- where they are linked, they are what is linked
-  linked-here : (v : List ℕ) → Passes (field sibling v) (field first v i) cs 0 → (linkedIn v i ≡ cs) × Linked v i
+  linked-here : (v : List ℕ) → Passes (field sibling v) (field first v i) cs 0 → (linked_in v i ≡ cs) × Linked v i
   linked-here v list =
       let small = may.plan.small in
       let t = may.task in
@@ -111,17 +111,17 @@ module _ (n : ℕ) (par work out : ℕ → ℕ) (i : ℕ) (w : List ℕ) (may : 
     pub linked-sorted : Linked w₁ i
     linked-sorted = (linked-here w₁ list-sorted).1
 
-    sorted-linked : linkedIn w₁ i ≡ cs
+    sorted-linked : linked_in w₁ i ≡ cs
     sorted-linked = (linked-here w₁ list-sorted).0
 
     -- the columns behind the links are as they were
-    behind : (q : ℕ) → subtreePeak ≤ q → at w₁ q ≡ at w q
+    behind : (q : ℕ) → subtree_peak ≤ q → at w₁ q ≡ at w q
     behind q h =
         let small = may.plan.small in
         let t = may.task in
         s.same q (λ z. omega arith) (λ z. omega arith) (λ c u p z. omega arith)
 
-    orders : (c : ℕ) → mem c (linkedIn w₁ i) ≡ true → OrderAt w₁ c (order c)
+    orders : (c : ℕ) → mem c (linked_in w₁ i) ≡ true → OrderAt w₁ c (order c)
     orders c m =
         let child = cs-child c (sym (ap (mem c) sorted-linked) ∙ m) in
         let o = (may.below c child.task child.parent).order in
@@ -140,13 +140,13 @@ module _ (n : ℕ) (par work out : ℕ → ℕ) (i : ℕ) (w : List ℕ) (may : 
           (passes_same (field sibling w₁) (field sibling w₂) (field first w₁ i) cs 0
           (λ x m. let u = cs-task x m in ahead (sibling + x) (omega arith)) list-sorted)
 
-      peaks : (c : ℕ) → mem c cs ≡ true → field subtreePeak w₂ c ≡ peak n par work out (order c)
+      peaks : (c : ℕ) → mem c cs ≡ true → field subtree_peak w₂ c ≡ peak n par work out (order c)
       peaks c m =
           let child = cs-child c m in
           let u = cs-task c m in
-          ahead (subtreePeak + c) (omega arith)
-          ∙ behind (subtreePeak + c) (omega arith)
-          ∙ (may.below c child.task child.parent).peak-is
+          ahead (subtree_peak + c) (omega arith)
+          ∙ behind (subtree_peak + c) (omega arith)
+          ∙ (may.below c child.task child.parent).peak_is
 
       own-order : OrderAt w₂ i (order i)
       own-order =
@@ -155,10 +155,10 @@ module _ (n : ℕ) (par work out : ℕ → ℕ) (i : ℕ) (w : List ℕ) (may : 
           (j.order order orders
           (rw sorted-linked (found-once n par work out may.plan.rank may.plan.tree i may.task))))
 
-      pub own-peak : peakAlong work out w₂ i ≡ peak n par work out (order i)
+      pub own-peak : peak_along work out w₂ i ≡ peak n par work out (order i)
       own-peak =
           rw (linked-here w₂ list-joined).0
-          (highest-is (field subtreePeak w₂) (λ c. peak n par work out (order c)) out (work i + out i) cs peaks
+          (highest-is (field subtree_peak w₂) (λ c. peak n par work out (order c)) out (work i + out i) cs peaks
           ∙ (let whole = found-peak n par work out may.plan.rank may.plan.tree i may.task in omega arith))
 
       pub may-weigh : MayWeigh work out w₂ i
@@ -169,27 +169,27 @@ module _ (n : ℕ) (par work out : ℕ → ℕ) (i : ℕ) (w : List ℕ) (may : 
           }
 
       pub has-joined :
-          (v : ℕ) (w₃ : List ℕ) → v ≡ peakAlong work out w₂ i → w₃ ≡ set w₂ (subtreePeak + i) v → HasJoined n par work out i w w₃
+          (v : ℕ) (w₃ : List ℕ) → v ≡ peak_along work out w₂ i → w₃ ≡ set w₂ (subtree_peak + i) v → HasJoined n par work out i w w₃
       has-joined v w₃ e₂ e₃ =
           let small = may.plan.small in
           let t = may.task in
           let long = j.long in
-          let other : (q : ℕ) → (q ≡ subtreePeak + i → ⊥) → at w₃ q ≡ at w₂ q
-          = stored_other w₂ (subtreePeak + i) v e₃ in
+          let other : (q : ℕ) → (q ≡ subtree_peak + i → ⊥) → at w₃ q ≡ at w₂ q
+          = stored_other w₂ (subtree_peak + i) v e₃ in
           record {
-            long = stored-length w₂ (subtreePeak + i) v e₃ ∙ j.long;
+            long = stored-length w₂ (subtree_peak + i) v e₃ ∙ j.long;
             own =
                 record {
-                  peak-is = stored w₂ (subtreePeak + i) v e₃ (omega arith) ∙ e₂ ∙ own-peak;
+                  peak_is = stored w₂ (subtree_peak + i) v e₃ (omega arith) ∙ e₂ ∙ own-peak;
                   order =
                       order_same w₂ w₃ i (order i) own-order (λ x m. other (after + x) (λ z. omega arith))
                       (other (head + i) (λ z. omega arith));
                 };
             same = λ q a.
-                other q a.peak-of
+                other q a.peak_apart
                 ∙ j.same q a.head_of a.after_none
                 (λ c m.
                 let child = cs-child c (sym (ap (mem c) sorted-linked) ∙ m) in
-                a.after-of c child.task child.parent)
-                ∙ s.same q a.first_of a.sibling-none a.sibling-of;
+                a.after_of c child.task child.parent)
+                ∙ s.same q a.first_of a.sibling_none a.sibling_of;
           }

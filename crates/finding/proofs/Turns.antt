@@ -10,16 +10,16 @@ use lib.ListN.{length}
 use borrow.Author.Tests.{eqb-false}
 use Rattle.numbers.specs.Sums.{Task}
 use Rattle.numbers.specs.Lists.{mem, distinct}
-use Rattle.numbers.specs.Limits.{maxTasks}
+use Rattle.numbers.specs.Limits.{max_tasks}
 use Rattle.tree.specs.Tree.{up}
-use Rattle.postorders.specs.Postorder.{bestPostorder}
+use Rattle.postorders.specs.Postorder.{best_postorder}
 use Rattle.numbers.proofs.Tests.{clash, same_or_not, le-or-lt}
 use Rattle.tree.proofs.Orders.{mem-here, mem-left, distinct_append}
 use Rattle.tree.proofs.Tree.{up-rank, up-parent}
 use Rattle.postorders.proofs.Taking.{found-subtree}
-use Rattle.children.specs.Scratch.{tall, first, sibling, queue, subtreePeak, head, after, cells, field}
+use Rattle.children.specs.Scratch.{tall, first, sibling, queue, subtree_peak, head, after, cells, field}
 use Rattle.children.specs.Links.{Passes}
-use Rattle.children.specs.Listing.{lastFirst}
+use Rattle.children.specs.Listing.{last_first}
 use Rattle.children.proofs.Following.{passes_same}
 use Rattle.children.proofs.Listed.{last-in}
 use Rattle.finding.specs.Arranging.{Arranged, MayJoin, NotWritten, HasJoined, MayArrange, AllArranged}
@@ -55,11 +55,11 @@ NotLinks k = (eqb k siblings ≡ false) × (eqb k afters ≡ false)
 pub record ArrangedFrom (n : ℕ) (par work out : ℕ → ℕ) (w₀ w : List ℕ) (k : ℕ) : Type 0 where
   pub within : k ≤ n
   pub long : length w ≡ cells
-  pub queue-is : (m : ℕ) → m < n → field queue w m ≡ field queue w₀ m
+  pub queue_is : (m : ℕ) → m < n → field queue w m ≡ field queue w₀ m
   pub lists :
       (m : ℕ)
       → m < k
-      → Passes (field sibling w) (field first w (field queue w₀ m)) (lastFirst n par (field queue w₀ m)) 0
+      → Passes (field sibling w) (field first w (field queue w₀ m)) (last_first n par (field queue w₀ m)) 0
   pub done : (m : ℕ) → k ≤ m → m < n → Arranged n par work out w (field queue w₀ m)
 
 module _ (n : ℕ) (par work out : ℕ → ℕ) (w₀ : List ℕ) (may : MayArrange n par work out w₀) where
@@ -67,7 +67,7 @@ module _ (n : ℕ) (par work out : ℕ → ℕ) (w₀ : List ℕ) (may : MayArra
   q = field queue w₀
 
   abbrev order : ℕ → List ℕ
-  order = bestPostorder n n par work out
+  order = best_postorder n n par work out
 
   -- no task has had its turn
   pub arranged-none : ArrangedFrom n par work out w₀ w₀ n
@@ -75,7 +75,7 @@ module _ (n : ℕ) (par work out : ℕ → ℕ) (w₀ : List ℕ) (may : MayArra
       record {
         within = omega arith;
         long = may.long;
-        queue-is = λ m h. refl;
+        queue_is = λ m h. refl;
         lists = λ m h. may.lists (q m) (may.queued.tasks m h);
         done = λ m h l. absurd (omega arith);
       }
@@ -156,13 +156,13 @@ module _ (n : ℕ) (par work out : ℕ → ℕ) (w₀ : List ℕ) (may : MayArra
         }
 
     module _ (w' : List ℕ) (j : HasJoined n par work out i w w') where
-      small : (n ≤ maxTasks) × Task n i
+      small : (n ≤ max_tasks) × Task n i
       small = (may.plan.small, task)
 
       -- the entry of x in the column k, which is not the task's own where that is written, and no link of a child or of nobody
       apart-at :
           (k x : ℕ)
-          → x ≤ maxTasks
+          → x ≤ max_tasks
           → (x ≡ i → NotOwn k)
           → ((x ≡ 0) ⊎ (Task n x × (par x ≡ i)) → NotLinks k)
           → NotWritten n par i (tall * k + x)
@@ -172,12 +172,12 @@ module _ (n : ℕ) (par work out : ℕ → ℕ) (w₀ : List ℕ) (may : MayArra
           = λ c v p e. link (inr (rw e v, ap par e ∙ p)) in
           record {
             first_of = λ z. eqb-false k firsts (own (omega arith)).0 (omega arith);
-            peak-of = λ z. eqb-false k peaks (own (omega arith)).1 (omega arith);
+            peak_apart = λ z. eqb-false k peaks (own (omega arith)).1 (omega arith);
             head_of = λ z. eqb-false k heads (own (omega arith)).2 (omega arith);
-            sibling-none = λ z. eqb-false k siblings (link (inl (omega arith))).0 (omega arith);
+            sibling_none = λ z. eqb-false k siblings (link (inl (omega arith))).0 (omega arith);
             after_none = λ z. eqb-false k afters (link (inl (omega arith))).1 (omega arith);
-            sibling-of = λ c v p z. eqb-false k siblings (child c v p (omega arith)).0 (omega arith);
-            after-of = λ c v p z. eqb-false k afters (child c v p (omega arith)).1 (omega arith);
+            sibling_of = λ c v p z. eqb-false k siblings (child c v p (omega arith)).0 (omega arith);
+            after_of = λ c v p z. eqb-false k afters (child c v p (omega arith)).1 (omega arith);
           }
 
       -- another task's entry in a column of no links
@@ -199,13 +199,13 @@ module _ (n : ℕ) (par work out : ℕ → ℕ) (w₀ : List ℕ) (may : MayArra
       other-task m l d e = let within = a.within in d (same_place m (k - 1) l (omega arith) e)
 
       lists-next :
-          (m : ℕ) → m < k - 1 → Passes (field sibling w') (field first w' (q m)) (lastFirst n par (q m)) 0
+          (m : ℕ) → m < k - 1 → Passes (field sibling w') (field first w' (q m)) (last_first n par (q m)) 0
       lists-next m l =
           let within = a.within in
           let u = may.queued.tasks m (omega arith) in
           let d = other-task m (omega arith) (λ z. omega arith) in
           rw (j.same (first + q m) (apart-own firsts (q m) (refl, refl) u d))
-          (passes_same (field sibling w) (field sibling w') (field first w (q m)) (lastFirst n par (q m)) 0
+          (passes_same (field sibling w) (field sibling w') (field first w (q m)) (last_first n par (q m)) 0
           (λ x v.
           let child = last-in n par (q m) x v in
           j.same (sibling + x) (apart-link siblings x (refl, refl, refl) child.task (λ z. d (sym child.parent ∙ z))))
@@ -219,7 +219,7 @@ module _ (n : ℕ) (par work out : ℕ → ℕ) (w₀ : List ℕ) (may : MayArra
           let u = may.queued.tasks m l in
           let d = other-task m l (λ z. omega arith) in
           record {
-            peak-is = j.same (subtreePeak + q m) (apart-own peaks (q m) (refl, refl) u d) ∙ old.peak-is;
+            peak_is = j.same (subtree_peak + q m) (apart-own peaks (q m) (refl, refl) u d) ∙ old.peak_is;
             order =
                 order_same w w' (q m) (order (q m)) old.order
                 (λ x v.
@@ -239,7 +239,7 @@ module _ (n : ℕ) (par work out : ℕ → ℕ) (w₀ : List ℕ) (may : MayArra
           record {
             within = omega arith;
             long = j.long;
-            queue-is = λ m l. j.same (queue + m) (apart-queue m l) ∙ a.queue-is m l;
+            queue_is = λ m l. j.same (queue + m) (apart-queue m l) ∙ a.queue_is m l;
             lists = lists-next;
             done = λ m b l.
                 ⊎_elim (λ (z : m ≡ k - 1). rw z j.own) (λ d. done_next m (omega arith) l) (same_or_not m (k - 1));
@@ -250,7 +250,7 @@ module _ (n : ℕ) (par work out : ℕ → ℕ) (w₀ : List ℕ) (may : MayArra
   arranged-all w a =
       record {
         long = a.long;
-        queue-is = a.queue-is;
+        queue_is = a.queue_is;
         each = λ c t.
             (let at_c = may.queued.each c t in rw at_c.2 at (a.done at_c.0 (omega arith) at_c.1));
       }

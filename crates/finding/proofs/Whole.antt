@@ -6,17 +6,17 @@ use native.Mathlib.Omega.{arith}
 use lib.ListN.{length, drop}
 use Rattle.numbers.specs.Sums.{Task}
 use Rattle.numbers.specs.Lists.{mem}
-use Rattle.numbers.specs.Limits.{maxTasks}
-use Rattle.postorders.specs.Postorder.{bestPostorder}
+use Rattle.numbers.specs.Limits.{max_tasks}
+use Rattle.postorders.specs.Postorder.{best_postorder}
 use Rattle.postorders.proofs.FinishedOrders.{Subtree, subtree-valid}
 use Rattle.postorders.proofs.Taking.{found-subtree}
 use Rattle.words.proofs.Views.{part_length}
 use Rattle.children.specs.Scratch.{queue, head, after, field}
 use Rattle.children.specs.Links.{Passes}
 use Rattle.children.proofs.Following.{passes_append}
-use Rattle.finding.specs.Reaching.{reachedIn}
+use Rattle.finding.specs.Reaching.{reached_in}
 use Rattle.finding.specs.Arranging.{TreeOf, MayArrange, AllArranged}
-use Rattle.finding.specs.Writing.{met, orderFrom, MayWrite}
+use Rattle.finding.specs.Writing.{met, order_from, MayWrite}
 use Rattle.finding.specs.Finding.{AllReached}
 use Rattle.finding.proofs.Rooted.{root_in, rank, reached-tree, queued}
 use Rattle.finding.proofs.Written.{passes-met}
@@ -26,9 +26,9 @@ module _ (n : ℕ) (par work out : ℕ → ℕ) (w list : List ℕ) (may : AllRe
   root = field queue w 0
 
   abbrev order : List ℕ
-  order = bestPostorder n n par work out root
+  order = best_postorder n n par work out root
 
-  whole : length (reachedIn w n) ≡ n
+  whole : length (reached_in w n) ≡ n
   whole = part_length queue n w
 
   -- the tasks as a tree
@@ -38,8 +38,8 @@ module _ (n : ℕ) (par work out : ℕ → ℕ) (w list : List ℕ) (may : AllRe
         small = may.light.parented.small;
         works = may.light.works;
         outs = may.light.outs;
-        rank = rank n par root (reachedIn w n) may.reached may.light.parented may.top whole;
-        tree = reached-tree n par root (reachedIn w n) may.reached may.light.parented may.top whole;
+        rank = rank n par root (reached_in w n) may.reached may.light.parented may.top whole;
+        tree = reached-tree n par root (reached_in w n) may.reached may.light.parented may.top whole;
       }
 
   pub may-arrange : MayArrange n par work out w
@@ -49,14 +49,14 @@ module _ (n : ℕ) (par work out : ℕ → ℕ) (w list : List ℕ) (may : AllRe
         plan = tree_of;
         long = may.listed.long;
         queued =
-            queued n par root (reachedIn w n) may.reached may.light.parented may.top whole w refl;
+            queued n par root (reached_in w n) may.reached may.light.parented may.top whole w refl;
         lists = λ i t. may.listed.lists i t.high;
       }
 
   root-task : Task n root
-  root-task = may.reached.tasks root (root_in n par root (reachedIn w n) may.reached)
+  root-task = may.reached.tasks root (root_in n par root (reached_in w n) may.reached)
 
-  root-low : root ≤ maxTasks
+  root-low : root ≤ max_tasks
   root-low = let t = root-task in let small = may.light.parented.small in omega arith
 
   below : Subtree n par root order
@@ -72,9 +72,9 @@ module _ (n : ℕ) (par work out : ℕ → ℕ) (w list : List ℕ) (may : AllRe
     some = let t = root-task in omega arith
 
     pub same-root : field queue w' 0 ≡ root
-    same-root = a.queue-is 0 some
+    same-root = a.queue_is 0 some
 
-    pub order_is : orderFrom n w' root ≡ order
+    pub order_is : order_from n w' root ≡ order
     unfolding Passes
     order_is =
         let o = (a.each root root-task).order in
@@ -101,10 +101,10 @@ module _ (n : ℕ) (par work out : ℕ → ℕ) (w list : List ℕ) (may : AllRe
         (list' : List ℕ) (m r : ℕ)
         → m ≡ n
         → r ≡ root
-        → list' ≡ orderFrom m w' r ++ drop m list
+        → list' ≡ order_from m w' r ++ drop m list
         → list' ≡ order ++ drop n list
     found-written list' m r e q wrote =
         wrote
-        ∙ ap (λ (k : ℕ). orderFrom k w' r ++ drop k list) e
-        ∙ ap (λ (x : ℕ). orderFrom n w' x ++ drop n list) q
+        ∙ ap (λ (k : ℕ). order_from k w' r ++ drop k list) e
+        ∙ ap (λ (x : ℕ). order_from n w' x ++ drop n list) q
         ∙ ap (λ (l : List ℕ). l ++ drop n list) order_is

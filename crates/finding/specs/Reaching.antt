@@ -5,30 +5,30 @@ use Rattle.numbers.specs.Lists.{at, mem, distinct, place}
 use Rattle.words.specs.Views.{part}
 use Rattle.survey.specs.Checks.{Parented}
 use Rattle.children.specs.Scratch.{tall, first, queue, cells, field}
-use Rattle.children.specs.Listing.{lastFirst, Listed}
-use Rattle.children.specs.Linked.{linkedIn, Linked}
+use Rattle.children.specs.Listing.{last_first, Listed}
+use Rattle.children.specs.Linked.{linked_in, Linked}
 
 -- the first k entries of the queue
-abbrev pub reachedIn : List ℕ → ℕ → List ℕ
-reachedIn w k = part queue k w
+abbrev pub reached_in : List ℕ → ℕ → List ℕ
+reached_in w k = part queue k w
 
 -- there is room for the children of a task
 pub record MayAppend (w : List ℕ) (i count : ℕ) : Type 0 where
   pub long : length w ≡ cells
   pub linked : Linked w i
-  pub room : count + length (linkedIn w i) ≤ tall
+  pub room : count + length (linked_in w i) ≤ tall
 
 -- they stand behind the others; no link changes
 pub record Appended (w : List ℕ) (i count : ℕ) (w' : List ℕ) (r : ℕ) : Type 0 where
   pub long : length w' ≡ cells
-  pub list : reachedIn w' r ≡ reachedIn w count ++ linkedIn w i
+  pub list : reached_in w' r ≡ reached_in w count ++ linked_in w i
   pub same : (q : ℕ) → q < queue → at w' q ≡ at w q
 
 -- the children of each task are listed, and one task has no parent
 pub record MayReach (n : ℕ) (par : ℕ → ℕ) (w : List ℕ) : Type 0 where
   pub parented : Parented n par
   pub listed : Listed n par w
-  pub one : lastFirst n par 0 ≡ field first w 0 ∷ []
+  pub one : last_first n par 0 ≡ field first w 0 ∷ []
 
 -- tasks from the root on: each once, behind its parent, and with its children
 pub record ReachedFrom (n : ℕ) (par : ℕ → ℕ) (root : ℕ) (l : List ℕ) : Type 0 where
@@ -41,5 +41,5 @@ pub record ReachedFrom (n : ℕ) (par : ℕ → ℕ) (root : ℕ) (l : List ℕ)
 -- all that are reached are in the queue; no link changes
 pub record Reached (n : ℕ) (par : ℕ → ℕ) (w w' : List ℕ) (r : ℕ) : Type 0 where
   pub long : length w' ≡ cells
-  pub queued : ReachedFrom n par (field first w 0) (reachedIn w' r)
+  pub queued : ReachedFrom n par (field first w 0) (reached_in w' r)
   pub same : (q : ℕ) → q < queue → at w' q ≡ at w q

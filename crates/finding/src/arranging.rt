@@ -3,7 +3,7 @@ ghost use Rattle.std.specs.Prelude.{◌≡◌, ◌++◌, drop};
 ghost use Rattle.numbers.specs.Lists.{at};
 ghost use Rattle.words.specs.Contents.{contents};
 ghost use Rattle.finding.specs.Arranging.{MayArrange, AllArranged};
-ghost use Rattle.finding.specs.Writing.{orderFrom, MayWrite};
+ghost use Rattle.finding.specs.Writing.{order_from, MayWrite};
 
 use crate::joining::join;
 use children::scratch::{AFTER, CELLS, HEAD, QUEUE, get};
@@ -28,7 +28,7 @@ pub(crate) fn arrange(plan: &[u32; Plan::WORDS], scratch: &mut [u32; CELLS], n: 
 // The order of the root's subtree, at the front of the list.
 pub(crate) fn write_order(scratch: &[u32; CELLS], root: usize, list: &mut [u16], n: usize)
     requires { MayWrite n scratch.now root list.old }
-    ensures { list.new ≡ orderFrom n scratch.now root ++ drop n list.old }
+    ensures { list.new ≡ order_from n scratch.now root ++ drop n list.old }
 {
     let mut task = get(scratch, HEAD, root);
     let mut k = 0;

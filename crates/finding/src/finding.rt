@@ -1,10 +1,10 @@
 // The order that is found, from a plan's tree.
 ghost use Rattle.std.specs.Prelude.{◌≡◌, ◌++◌, drop};
 ghost use Rattle.numbers.specs.Lists.{at};
-ghost use Rattle.postorders.specs.Postorder.{bestPostorder};
+ghost use Rattle.postorders.specs.Postorder.{best_postorder};
 ghost use Rattle.postorders.specs.Find as rules;
 ghost use Rattle.words.specs.Contents.{contents};
-ghost use Rattle.answer.specs.Meaning.{plan_of, wroteOf};
+ghost use Rattle.answer.specs.Meaning.{plan_of, wrote_of};
 ghost use Rattle.answer.specs.ValidPlan.{ValidPlan};
 ghost use Rattle.children.specs.Scratch.{queue, field};
 ghost use Rattle.finding.specs.Finding.{AllReached, MayFind, Finds};
@@ -22,7 +22,7 @@ use words::plan::Plan;
 fn write_found(plan: &[u32; Plan::WORDS], scratch: &mut [u32; CELLS], n: usize, list: &mut [u16])
     requires { (n ≡ (contents plan.now).size) × AllReached (contents plan.now).size (at (contents plan.now).parents)
         (at (contents plan.now).stores.chilled.works) (at (contents plan.now).stores.chilled.outs) scratch.old list.old }
-    ensures { list.new ≡ bestPostorder (contents plan.now).size (contents plan.now).size
+    ensures { list.new ≡ best_postorder (contents plan.now).size (contents plan.now).size
         (at (contents plan.now).parents) (at (contents plan.now).stores.chilled.works)
         (at (contents plan.now).stores.chilled.outs) (field queue scratch.old 0)
         ++ drop (contents plan.now).size list.old }
@@ -58,7 +58,7 @@ fn find_rooted(plan: &[u32; Plan::WORDS], list: &mut [u16]) -> u8
 // then 11 if the list has fewer than n entries."
 pub fn find_order(plan: &[u32; Plan::WORDS], list: &mut [u16]) -> Wrote
     requires { ValidPlan plan.now }
-    ensures { wroteOf result list.new ≡ rules.findOrder (plan_of plan.now) list.old }
+    ensures { wrote_of result list.new ≡ rules.find_order (plan_of plan.now) list.old }
 {
     if cell(plan, Plan::HEAD, Plan::PHASE) < Plan::ORDERS {
         return Wrote::refused(3);

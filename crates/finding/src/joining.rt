@@ -4,7 +4,7 @@ ghost use Rattle.numbers.specs.Lists.{at};
 ghost use Rattle.words.specs.Contents.{contents};
 ghost use Rattle.children.specs.Scratch.{cells};
 ghost use Rattle.children.specs.Linked.{Linked};
-ghost use Rattle.finding.specs.Joining.{peakAlong, MayWeigh, Joined};
+ghost use Rattle.finding.specs.Joining.{peak_along, MayWeigh, Joined};
 ghost use Rattle.finding.specs.Arranging.{MayJoin, HasJoined};
 
 use cells::cell;
@@ -22,7 +22,7 @@ fn larger(a: usize, b: usize) -> usize
 // The peak of a subtree: each child's order begins at the level that those before it leave.
 fn subtree_peak(plan: &[u32; Plan::WORDS], scratch: &[u32; CELLS], task: usize) -> usize
     requires { MayWeigh (at (contents plan.now).stores.chilled.works) (at (contents plan.now).stores.chilled.outs) scratch.now task }
-    ensures { result ≡ peakAlong (at (contents plan.now).stores.chilled.works) (at (contents plan.now).stores.chilled.outs)
+    ensures { result ≡ peak_along (at (contents plan.now).stores.chilled.works) (at (contents plan.now).stores.chilled.outs)
         scratch.now task }
 {
     let mut best = 0;

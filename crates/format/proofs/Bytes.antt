@@ -11,9 +11,9 @@ use borrow.Author.Tests.{eqb-true, ltb-true, ltb-false, lt-leb, le-leb, le-ltb}
 use lib.Dec.{eqb, ltb, leb-suc-suc}
 use lib.ListN.{length, take, drop, length-append, length-drop}
 use lib.Seq.{drop-cons, get_or-drop}
-use Rattle.numbers.specs.Limits.{maxCount, maxBound}
+use Rattle.numbers.specs.Limits.{max_count, max_bound}
 use Rattle.numbers.specs.Lists.{at, AllBytes}
-use Rattle.format.specs.Command.{Command, plan, task, activation, execution, begin, done, fetch, places, Form, forms, find, byte_of, operandsOf, widthsOf, littles, numbers, room, bytes, Decoded, refused, read, read_by, table, decode}
+use Rattle.format.specs.Command.{Command, plan, task, activation, execution, begin, done, fetch, places, Form, forms, find, byte_of, operands_of, widths_of, littles, numbers, room, bytes, Decoded, refused, read, read_by, table, decode}
 use Rattle.numbers.proofs.Tests.{decide, le-or-lt}
 use Rattle.format.proofs.Number.{Fit, numbers_fit, numbers-littles, littles-numbers, length-littles, length-numbers}
 
@@ -87,7 +87,7 @@ found P (g ∷ lines) byte f all e =
 -- the meaning of a line keeps its byte and its operands
 record Kept (f : Form) : Type 0 where
   byte : (x : List ℕ) → byte_of (f.means x) ≡ f.byte
-  operands : (x : List ℕ) → length x ≡ length f.widths → operandsOf (f.means x) ≡ x
+  operands : (x : List ℕ) → length x ≡ length f.widths → operands_of (f.means x) ≡ x
 
 -- lists of no entry, of one and of three
 no-entry : (x : List ℕ) → length x ≡ 0 → [] ≡ x
@@ -104,7 +104,7 @@ three-entries (a ∷ []) h = absurd (omega arith)
 three-entries (a ∷ b ∷ x) h = ap (λ (l : List ℕ). a ∷ b ∷ l) (one_entry x (omega arith))
 
 all-kept : All Kept forms
-unfolding forms byte_of operandsOf
+unfolding forms byte_of operands_of
 all-kept = (
   record { byte = λ x. refl; operands = three-entries },
   (
@@ -126,17 +126,17 @@ all-kept = (
 )
 
 -- the line at its byte gives the widths of its operands
-widths-by : (c : Command) (f : Form) → find forms (byte_of c) ≡ some f → widthsOf c ≡ f.widths
-unfolding widthsOf
-widths-by c f e = rw (widthsOf, e)
+widths-by : (c : Command) (f : Form) → find forms (byte_of c) ≡ some f → widths_of c ≡ f.widths
+unfolding widths_of
+widths-by c f e = rw (widths_of, e)
 
 -- what is read is by a line, whose byte it has and whose operands are whole
 pub record ReadBy (stream : List ℕ) (place : ℕ) (c : Command) (used : ℕ) : Type 0 where
   pub widths : List ℕ
-  pub wide : widthsOf c ≡ widths
+  pub wide : widths_of c ≡ widths
   pub long : 1 + room widths ≡ used
   pub named : byte_of c ≡ at stream place
-  pub operands : operandsOf c ≡ numbers widths (drop (suc place) stream)
+  pub operands : operands_of c ≡ numbers widths (drop (suc place) stream)
   pub within : place + used ≤ length stream
 
 pub read-by :
@@ -161,22 +161,22 @@ read-by stream place c used e = go (reading stream place) e
           wide = widths-by c f (ap (find forms) named ∙ there);
           long = long;
           named = named;
-          operands = ap operandsOf (sym meant) ∙ line.1.operands x (length-numbers f.widths (drop (suc place) stream));
+          operands = ap operands_of (sym meant) ∙ line.1.operands x (length-numbers f.widths (drop (suc place) stream));
           within = omega arith;
         }
 
 -- the operands of a command fit their widths
 abbrev pub fits : Command → Type 0
-fits c = Fit (widthsOf c) (operandsOf c)
+fits c = Fit (widths_of c) (operands_of c)
 
 -- the line of a command
 record Line (c : Command) : Type 0 where
   form : Form
   there : find forms (byte_of c) ≡ some form
-  means : form.means (operandsOf c) ≡ c
+  means : form.means (operands_of c) ≡ c
 
 line_of : (c : Command) → Line c
-unfolding find forms byte_of operandsOf
+unfolding find forms byte_of operands_of
 line_of (plan n p bound) = record { form = _; there = refl; means = refl }
 line_of (task parent work out) = record { form = _; there = refl; means = refl }
 line_of (activation i) = record { form = _; there = refl; means = refl }
@@ -210,7 +210,7 @@ unfolding bytes
 decode-bytes c rest h =
     let l = line_of c in
     let f = l.form in
-    let x = operandsOf c in
+    let x = operands_of c in
     let wide = widths-by c f l.there in
     rw (wide, length-littles f.widths x, ← one-add (room f.widths))
     (first_reads (byte_of c) (littles f.widths x ++ rest) f l.there
@@ -260,14 +260,14 @@ decode-fits stream place c used e all =
     (numbers_fit r.widths (drop (suc place) stream) (λ k. rw get_or-drop (all (suc place + k))))
 
 -- so bytes keep M, work and out in their limits
-pub bound-fits : (n p bound : ℕ) → fits (plan n p bound) → bound ≤ maxBound
-unfolding widthsOf find forms byte_of operandsOf
+pub bound-fits : (n p bound : ℕ) → fits (plan n p bound) → bound ≤ max_bound
+unfolding widths_of find forms byte_of operands_of
 bound-fits n p bound h = let last = h.1.1.0 in omega arith
 
-pub places-fit : (bound : ℕ) → fits (places bound) → bound ≤ maxBound
-unfolding widthsOf find forms byte_of operandsOf
+pub places-fit : (bound : ℕ) → fits (places bound) → bound ≤ max_bound
+unfolding widths_of find forms byte_of operands_of
 places-fit bound h = let first = h.0 in omega arith
 
-pub counts-fit : (parent work out : ℕ) → fits (task parent work out) → (work ≤ maxCount) × (out ≤ maxCount)
-unfolding widthsOf find forms byte_of operandsOf
+pub counts-fit : (parent work out : ℕ) → fits (task parent work out) → (work ≤ max_count) × (out ≤ max_count)
+unfolding widths_of find forms byte_of operands_of
 counts-fit parent work out h = let first = h.1.0 in let second = h.1.1.0 in (omega arith, omega arith)

@@ -20,20 +20,20 @@ pub data Command : Type 0 where
   places : ℕ → Command
 
 -- the bytes by which a day is told: PLAN, BEGIN, DONE, FETCH and 08
-abbrev pub planByte : ℕ
-planByte = 1
+abbrev pub plan_byte : ℕ
+plan_byte = 1
 
-abbrev pub beginByte : ℕ
-beginByte = 5
+abbrev pub begin_byte : ℕ
+begin_byte = 5
 
-abbrev pub doneByte : ℕ
-doneByte = 6
+abbrev pub done_byte : ℕ
+done_byte = 6
 
-abbrev pub fetchByte : ℕ
-fetchByte = 7
+abbrev pub fetch_byte : ℕ
+fetch_byte = 7
 
-abbrev pub placesByte : ℕ
-placesByte = 8
+abbrev pub places_byte : ℕ
+places_byte = 8
 
 -- a line of the table of commands: the byte, the widths of the operands in bytes, and the meaning by the operands
 pub record Form : Type 0 where
@@ -70,19 +70,19 @@ byte_of (done i) = 6
 byte_of fetch = 7
 byte_of (places bound) = 8
 
-unfoldable pub operandsOf : Command → List ℕ
-operandsOf (plan n p bound) = n ∷ p ∷ bound ∷ []
-operandsOf (task parent work out) = parent ∷ work ∷ out ∷ []
-operandsOf (activation i) = i ∷ []
-operandsOf (execution i) = i ∷ []
-operandsOf begin = []
-operandsOf (done i) = i ∷ []
-operandsOf fetch = []
-operandsOf (places bound) = bound ∷ []
+unfoldable pub operands_of : Command → List ℕ
+operands_of (plan n p bound) = n ∷ p ∷ bound ∷ []
+operands_of (task parent work out) = parent ∷ work ∷ out ∷ []
+operands_of (activation i) = i ∷ []
+operands_of (execution i) = i ∷ []
+operands_of begin = []
+operands_of (done i) = i ∷ []
+operands_of fetch = []
+operands_of (places bound) = bound ∷ []
 
 -- the widths of its operands, by its line
-unfoldable pub widthsOf : Command → List ℕ
-widthsOf c = elim (find forms (byte_of c)) [ none ↦ [] | some f ↦ f.widths ]
+unfoldable pub widths_of : Command → List ℕ
+widths_of c = elim (find forms (byte_of c)) [ none ↦ [] | some f ↦ f.widths ]
 
 -- the bytes of a number in a fixed width
 unfoldable pub little : ℕ → ℕ → List ℕ
@@ -111,7 +111,7 @@ room (width ∷ later) = width + room later
 
 -- the bytes of a command
 unfoldable pub bytes : Command → List ℕ
-bytes c = byte_of c ∷ littles (widthsOf c) (operandsOf c)
+bytes c = byte_of c ∷ littles (widths_of c) (operands_of c)
 
 -- what stands at a place of a stream: a command and how many bytes it uses, or a ground for refusing
 pub data Decoded : Type 0 where

@@ -3,7 +3,7 @@
 mod tail;
 
 ghost use Rattle.std.specs.Prelude.{take};
-ghost use Rattle.texts.specs.Text.{beginLine, doneLine, fetchLine, placesLine, refusedLine};
+ghost use Rattle.texts.specs.Text.{begin_line, done_line, fetch_line, places_line, refused_line};
 ghost use Rattle.lines.specs.Line.{Line};
 
 // No line has more bytes.
@@ -21,7 +21,7 @@ pub fn begin_line(
     starts: &[u16],
     count: usize,
 ) -> usize
-    ensures { Line (beginLine (record { trays = peak; task = by }) booked used full (take count starts.now))
+    ensures { Line (begin_line (record { trays = peak; task = by }) booked used full (take count starts.now))
         count buffer.old buffer.new result }
 {
     let next = put::text(buffer, 0, b"begin peak=");
@@ -42,7 +42,7 @@ pub fn done_line(
     starts: &[u16],
     count: usize,
 ) -> usize
-    ensures { Line (doneLine task offers booked used full (take count starts.now)) count buffer.old buffer.new result }
+    ensures { Line (done_line task offers booked used full (take count starts.now)) count buffer.old buffer.new result }
 {
     let next = put::text(buffer, 0, b"done ");
     let next = put::decimal(buffer, next, task as u64);
@@ -53,7 +53,7 @@ pub fn done_line(
 
 // The line of an accepted FETCH.
 pub fn fetch_line(buffer: &mut [u8], booked: u32) -> usize
-    ensures { Line (fetchLine booked) 0 buffer.old buffer.new result }
+    ensures { Line (fetch_line booked) 0 buffer.old buffer.new result }
 {
     let next = put::text(buffer, 0, b"fetch booked=");
     let next = put::decimal(buffer, next, booked as u64);
@@ -70,7 +70,7 @@ pub fn places_line(
     starts: &[u16],
     count: usize,
 ) -> usize
-    ensures { Line (placesLine bound booked used full (take count starts.now)) count buffer.old buffer.new result }
+    ensures { Line (places_line bound booked used full (take count starts.now)) count buffer.old buffer.new result }
 {
     let next = put::text(buffer, 0, b"places M=");
     let next = put::decimal(buffer, next, bound as u64);
@@ -79,7 +79,7 @@ pub fn places_line(
 
 // The line of a refusal: its number, and the byte offset of the command.
 pub fn refused_line(buffer: &mut [u8], number: u8, offset: u64) -> usize
-    ensures { Line (refusedLine number offset) 0 buffer.old buffer.new result }
+    ensures { Line (refused_line number offset) 0 buffer.old buffer.new result }
 {
     let next = put::text(buffer, 0, b"refused ");
     let next = put::decimal(buffer, next, number as u64);

@@ -2,7 +2,7 @@
 // another, with no number wider than 32 bits". The product, which can need 42 bits, is never made: of
 // each number of trays only the whole bounds are counted, and what is left over.
 ghost use Rattle.std.specs.Prelude.{◌≡◌, ◌+◌, ◌*◌, ◌/◌, ◌<◌};
-ghost use Rattle.rules.specs.Question.{fullnessOf};
+ghost use Rattle.rules.specs.Question.{fullness_of};
 ghost use Rattle.measure.specs.Divided.{amount};
 
 // A whole in thousandths: the factor, and what a full store reads.
@@ -80,7 +80,7 @@ fn thousandths(booked: u32, bound: u32) -> u32
 // "0 if M is 0; 1,000 if b is at least M; else 1,000 times b divided by M, rounded down (the
 // product can need 42 bits)"
 pub fn fullness(booked: u32, bound: u32) -> u32
-    ensures { result ≡ fullnessOf booked bound }
+    ensures { result ≡ fullness_of booked bound }
 {
     if bound == 0 {
         return 0;

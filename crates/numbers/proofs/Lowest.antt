@@ -5,7 +5,7 @@ use mathlib.Core.Logic.{◌⊎◌, inl, inr, ⊎_elim}
 use Prim.Native.Nat.{ℕ, zero, suc, ◌≤◌, ◌<◌}
 use native.Mathlib.Omega.{arith}
 use borrow.Author.Tests.{ne_eqb}
-use Rattle.numbers.specs.Sums.{Task, count_to, lowestTo}
+use Rattle.numbers.specs.Sums.{Task, count_to, lowest_to}
 use Rattle.numbers.proofs.Tests.{decide, clash, same_or_not}
 use Rattle.numbers.proofs.Sums.{counted}
 
@@ -16,15 +16,15 @@ pub record Lowest (test : ℕ → Bool) (n c : ℕ) : Type 0 where
   pub below : (d : ℕ) → 1 ≤ d → d < c → test d ≡ false
 
 -- where nobody passes there is none
-pub lowest-none : (test : ℕ → Bool) (n : ℕ) → ((i : ℕ) → Task n i → test i ≡ false) → lowestTo test n ≡ 0
-unfolding lowestTo
+pub lowest-none : (test : ℕ → Bool) (n : ℕ) → ((i : ℕ) → Task n i → test i ≡ false) → lowest_to test n ≡ 0
+unfolding lowest_to
 lowest-none test zero none = refl
 lowest-none test (suc n) none =
     rw (lowest-none test n (λ i t. none i (omega arith)), none (suc n) (omega arith))
 
 -- who is lowest is the one that is found
-pub lowest-is : (test : ℕ → Bool) (n c : ℕ) → Lowest test n c → lowestTo test n ≡ c
-unfolding lowestTo
+pub lowest-is : (test : ℕ → Bool) (n c : ℕ) → Lowest test n c → lowest_to test n ≡ c
+unfolding lowest_to
 lowest-is test zero c low = absurd (let t = low.task in omega arith)
 lowest-is test (suc n) c low =
     ⊎_elim
@@ -60,7 +60,7 @@ search test (suc n) =
     (search test n)
 
 -- where somebody is counted, the one that is found is the lowest
-pub lowest-found : (test : ℕ → Bool) (n : ℕ) → 1 ≤ count_to test n → Lowest test n (lowestTo test n)
+pub lowest-found : (test : ℕ → Bool) (n : ℕ) → 1 ≤ count_to test n → Lowest test n (lowest_to test n)
 lowest-found test n some =
     ⊎_elim (λ f. rw (lowest-is test n f.0 f.1) f.1)
     (λ none. let k = counted test n some in absurd (clash k.2 (none k.0 k.1)))

@@ -7,7 +7,7 @@ use native.Mathlib.Nat.{mul-suc}
 use native.Mathlib.Omega.{arith}
 use lib.Dec.{eqb}
 use borrow.Author.Tests.{eq-eqb, ne_eqb}
-use Rattle.numbers.specs.Sums.{only, sum_to, everyTo, count_to}
+use Rattle.numbers.specs.Sums.{only, sum_to, every_to, count_to}
 pub use Rattle.numbers.specs.Sums.{Task}
 use Rattle.numbers.proofs.Tests.{decide, clash, same_or_not, and-true, and_both, and-false}
 
@@ -195,22 +195,22 @@ count-all test (suc n) h =
     omega arith
 
 -- each task passes the test, as a whole and one by one, or one does not
-pub every-to : (test : ℕ → Bool) (n : ℕ) → ((i : ℕ) → Task n i → test i ≡ true) → everyTo test n ≡ true
-unfolding everyTo
+pub every-to : (test : ℕ → Bool) (n : ℕ) → ((i : ℕ) → Task n i → test i ≡ true) → every_to test n ≡ true
+unfolding every_to
 every-to test zero h = refl
 every-to test (suc n) h =
-    and_both (everyTo test n) (test (suc n)) (every-to test n (λ i t. h i (omega arith))) (h (suc n) (omega arith))
+    and_both (every_to test n) (test (suc n)) (every-to test n (λ i t. h i (omega arith))) (h (suc n) (omega arith))
 
-pub every_one : (test : ℕ → Bool) (n i : ℕ) → everyTo test n ≡ true → Task n i → test i ≡ true
-unfolding everyTo
+pub every_one : (test : ℕ → Bool) (n i : ℕ) → every_to test n ≡ true → Task n i → test i ≡ true
+unfolding every_to
 every_one test zero i all t = absurd (omega arith)
 every_one test (suc n) i all t =
-    let both = and-true (everyTo test n) (test (suc n)) all in
+    let both = and-true (every_to test n) (test (suc n)) all in
     ⊎_elim (λ (e : i ≡ suc n). ap test e ∙ both.1) (λ d. every_one test n i both.0 (omega arith)) (same_or_not i (suc n))
 
-pub not-every : (test : ℕ → Bool) (n : ℕ) → everyTo test n ≡ false → (i : ℕ) × Task n i × (test i ≡ false)
-unfolding everyTo
+pub not-every : (test : ℕ → Bool) (n : ℕ) → every_to test n ≡ false → (i : ℕ) × Task n i × (test i ≡ false)
+unfolding every_to
 not-every test zero e = absurd (clash refl e)
 not-every test (suc n) e =
     ⊎_elim (λ f. let k = not-every test n f in (k.0, omega (arith, k.1), k.2)) (λ f. (suc n, omega arith, f))
-    (and-false (everyTo test n) (test (suc n)) e)
+    (and-false (every_to test n) (test (suc n)) e)

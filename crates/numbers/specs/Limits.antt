@@ -3,21 +3,21 @@
 use Rattle.std.specs.Prelude.{ℕ}
 
 -- the most tasks (steps) of a plan
-abbrev pub maxTasks : ℕ
-maxTasks = 1024
+abbrev pub max_tasks : ℕ
+max_tasks = 1024
 
 -- the most processors (stations)
-abbrev pub maxProcessors : ℕ
-maxProcessors = 64
+abbrev pub max_processors : ℕ
+max_processors = 64
 
 -- the largest count of work and of out
-abbrev pub maxCount : ℕ
-maxCount = 65535
+abbrev pub max_count : ℕ
+max_count = 65535
 
 -- the most places of a store: the largest memory bound M
-abbrev pub maxBound : ℕ
-maxBound = 4294967295
+abbrev pub max_bound : ℕ
+max_bound = 4294967295
 
 -- the fewest entries of a start list that is accepted
-abbrev pub leastStarts : ℕ
-leastStarts = 64
+abbrev pub least_starts : ℕ
+least_starts = 64

@@ -21,15 +21,15 @@ sum_to f zero = 0
 sum_to f (suc n) = sum_to f n + f (suc n)
 
 -- each of 1 to n passes the test
-unfoldable pub everyTo : (ℕ → Bool) → ℕ → Bool
-everyTo test zero = true
-everyTo test (suc n) = everyTo test n && test (suc n)
+unfoldable pub every_to : (ℕ → Bool) → ℕ → Bool
+every_to test zero = true
+every_to test (suc n) = every_to test n && test (suc n)
 
 -- how many of 1 to n pass the test
 unfoldable pub count_to : (ℕ → Bool) → ℕ → ℕ
 count_to test n = sum_to (λ i. only (test i) 1) n
 
 -- the lowest of 1 to n that passes the test, 0 where none does
-unfoldable pub lowestTo : (ℕ → Bool) → ℕ → ℕ
-lowestTo test zero = 0
-lowestTo test (suc n) = cond (eqb (lowestTo test n) 0) (only (test (suc n)) (suc n)) (lowestTo test n)
+unfoldable pub lowest_to : (ℕ → Bool) → ℕ → ℕ
+lowest_to test zero = 0
+lowest_to test (suc n) = cond (eqb (lowest_to test n) 0) (only (test (suc n)) (suc n)) (lowest_to test n)

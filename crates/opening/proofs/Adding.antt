@@ -9,18 +9,18 @@ use lib.Dec.{eqb, leb}
 use lib.ListN.{length, take, set}
 use lib.Seq.{get_or-set_same, get_or-set_other, length-take-le}
 use borrow.Author.Tests.{eq-eqb, ne_eqb, le-leb, lt-leb}
-use Rattle.numbers.specs.Limits.{maxTasks, maxCount}
+use Rattle.numbers.specs.Limits.{max_tasks, max_count}
 use Rattle.numbers.specs.Sums.{only}
 use Rattle.books.specs.Kind.{chilled, each}
 use Rattle.numbers.specs.Lists.{at}
 use Rattle.rules.specs.Phase
 use Rattle.format.specs.Command as rules
-use Rattle.rules.specs.Grounds.{in_turn, inLimits, ownGround, ground}
-use Rattle.rules.specs.Obey.{plain, withTask, obey}
+use Rattle.rules.specs.Grounds.{in_turn, in_limits, own_ground, ground_for}
+use Rattle.rules.specs.Obey.{plain, with_task, obey}
 use Rattle.numbers.proofs.Tests.{same_or_not}
 use Rattle.rules.proofs.Judging.{ground-turn, ground-limits, ground-own}
-use Rattle.words.specs.Layout.{row, rows, words, headBase}
-use Rattle.words.specs.Contents.{Contents, contents, withCell, storeWithCell, with_head, storeWithHead}
+use Rattle.words.specs.Layout.{row, rows, words, head_base}
+use Rattle.words.specs.Contents.{Contents, contents, with_cell, store_with_cell, with_head, store_with_head}
 use Rattle.words.proofs.Contents.{Lengths, wrote-cell, wrote-head}
 use Rattle.answer.specs.Meaning.{meaning}
 use Rattle.store.proofs.InStore.{by_kind}
@@ -31,15 +31,15 @@ use Rattle.answer.proofs.Meant.{given-more}
 abbrev pub filled : Contents → (phase parent work out : ℕ) → Contents
 filled c phase parent work out =
     with_head 0 phase
-    (with_head 3 (c.given + 1) (withCell 6 c.given out (withCell 5 c.given work (withCell 0 c.given parent c))))
+    (with_head 3 (c.given + 1) (with_cell 6 c.given out (with_cell 5 c.given work (with_cell 0 c.given parent c))))
 
 -- the phase once the task at this row is given
-abbrev pub phaseOf : Contents → ℕ
-phaseOf c = cond (eqb c.given c.size) Phase.orders Phase.steps
+abbrev pub phase_of : Contents → ℕ
+phase_of c = cond (eqb c.given c.size) Phase.orders Phase.steps
 
 -- there is room for one task more
-pub in-columns : (c : Contents) → Sound c → c.phase ≡ Phase.steps → c.given ≤ maxTasks
-in-columns c sound e = let r = (sound.given.in-steps e).1 in let s = sound.small in omega arith
+pub in-columns : (c : Contents) → Sound c → c.phase ≡ Phase.steps → c.given ≤ max_tasks
+in-columns c sound e = let r = (sound.given.in_steps e).1 in let s = sound.small in omega arith
 
 -- one entry more in a column
 column-more :
@@ -63,10 +63,10 @@ light-more limit given x l i inside light before =
     (same_or_not i given)
 
 -- the phase after a task, where it is the last and where it is not
-pub phase-last : (c : Contents) → c.given ≡ c.size → phaseOf c ≡ Phase.orders
+pub phase-last : (c : Contents) → c.given ≡ c.size → phase_of c ≡ Phase.orders
 phase-last c e = ap (λ (b : Bool). cond b Phase.orders Phase.steps) (eq-eqb c.given c.size e)
 
-pub phase-more : (c : Contents) → (c.given ≡ c.size → ⊥) → phaseOf c ≡ Phase.steps
+pub phase-more : (c : Contents) → (c.given ≡ c.size → ⊥) → phase_of c ≡ Phase.steps
 phase-more c d = ap (λ (b : Bool). cond b Phase.orders Phase.steps) (ne_eqb c.given c.size d)
 
 -- so it is one of two, and which says whether the columns are whole
@@ -75,7 +75,7 @@ record Follows (c : Contents) (phase : ℕ) : Type 0 where
   pub more : phase ≡ Phase.steps → c.given ≡ c.size → ⊥
   pub last : Phase.orders ≤ phase → c.given ≡ c.size
 
-follows : (c : Contents) → Follows c (phaseOf c)
+follows : (c : Contents) → Follows c (phase_of c)
 follows c =
     ⊎_elim
     (λ e.
@@ -91,12 +91,12 @@ pub filled-sound :
     → Sound c
     → Lengths c
     → c.phase ≡ Phase.steps
-    → work ≤ maxCount
-    → out ≤ maxCount
-    → Sound (filled c (phaseOf c) parent work out)
-unfolding withCell storeWithCell with_head storeWithHead
+    → work ≤ max_count
+    → out ≤ max_count
+    → Sound (filled c (phase_of c) parent work out)
+unfolding with_cell store_with_cell with_head store_with_head
 filled-sound c parent work out sound long steps w o =
-    let row = sound.given.in-steps steps in
+    let row = sound.given.in_steps steps in
     let rows_in = in-columns c sound steps in
     let phase = follows c in
     let lw = long.works chilled in
@@ -108,8 +108,8 @@ filled-sound c parent work out sound long steps w o =
       few = sound.few;
       bounded = sound.bounded;
       light = λ i. (
-        light-more maxCount c.given work c.stores.chilled.works i (omega arith) w (sound.light i).0,
-        light-more maxCount c.given out c.stores.chilled.outs i (omega arith) o (sound.light i).1,
+        light-more max_count c.given work c.stores.chilled.works i (omega arith) w (sound.light i).0,
+        light-more max_count c.given out c.stores.chilled.outs i (omega arith) o (sound.light i).1,
       );
       parents = column-more c.given parent c.parents row.0 sound.parents;
       works = column-more c.given work c.stores.chilled.works row.0 sound.works;
@@ -117,7 +117,7 @@ filled-sound c parent work out sound long steps w o =
       given =
           record {
             unopened = λ e. absurd (omega (arith, phase.named));
-            in-steps = λ e. (omega arith, let d = phase.more e in below c.given c.size row.1 d);
+            in_steps = λ e. (omega arith, let d = phase.more e in below c.given c.size row.1 d);
             whole = λ h. let e = phase.last h in omega arith;
             some = λ h. omega (arith, row.0, row.1);
           };
@@ -156,8 +156,8 @@ pub filled-means :
     → Sound c
     → Lengths c
     → c.phase ≡ Phase.steps
-    → obey (meaning c) (rules.task parent work out) ≡ plain (meaning (filled c (phaseOf c) parent work out))
-unfolding obey withTask withCell storeWithCell with_head storeWithHead
+    → obey (meaning c) (rules.task parent work out) ≡ plain (meaning (filled c (phase_of c) parent work out))
+unfolding obey with_task with_cell store_with_cell with_head store_with_head
 filled-means c parent work out sound long steps =
     let room = in-columns c sound steps in
     let phase = (follows c).named in
@@ -165,7 +165,7 @@ filled-means c parent work out sound long steps =
     let lw = long.works chilled in
     let lo = long.outs chilled in
     let g = length-take-le c.given c.parents (omega arith) in
-    let rows = no-day c.phase c.size (omega arith) ∙ sym (no-day (phaseOf c) c.size (omega (arith, phase))) in
+    let rows = no-day c.phase c.size (omega arith) ∙ sym (no-day (phase_of c) c.size (omega (arith, phase))) in
     λ z.
     plain
     (record {
@@ -189,14 +189,14 @@ filled-means c parent work out sound long steps =
 
 module _ (c : Contents) (parent work out : ℕ) where
   -- out of turn in another phase
-  pub add-late : (c.phase ≡ Phase.steps → ⊥) → ground (meaning c) (rules.task parent work out) ≡ 3
+  pub add-late : (c.phase ≡ Phase.steps → ⊥) → ground_for (meaning c) (rules.task parent work out) ≡ 3
   unfolding in_turn
   add-late d = ground-turn (meaning c) (rules.task parent work out) (ne_eqb c.phase Phase.steps d)
 
   -- the parent is no task of the plan
   pub add-parent :
-      c.phase ≡ Phase.steps → c.size < parent → ground (meaning c) (rules.task parent work out) ≡ 4
-  unfolding in_turn inLimits
+      c.phase ≡ Phase.steps → c.size < parent → ground_for (meaning c) (rules.task parent work out) ≡ 4
+  unfolding in_turn in_limits
   add-parent e h =
       ground-limits (meaning c) (rules.task parent work out) (eq-eqb c.phase Phase.steps e)
       (rw (lt-leb parent c.size h))
@@ -205,13 +205,13 @@ module _ (c : Contents) (parent work out : ℕ) where
   pub add_free :
       c.phase ≡ Phase.steps
       → parent ≤ c.size
-      → work ≤ maxCount
-      → out ≤ maxCount
-      → ground (meaning c) (rules.task parent work out) ≡ 0
-  unfolding in_turn inLimits ownGround
+      → work ≤ max_count
+      → out ≤ max_count
+      → ground_for (meaning c) (rules.task parent work out) ≡ 0
+  unfolding in_turn in_limits own_ground
   add_free e h w o =
       ground-own (meaning c) (rules.task parent work out) (eq-eqb c.phase Phase.steps e)
-      (rw (le-leb parent c.size h, le-leb work maxCount w, le-leb out maxCount o))
+      (rw (le-leb parent c.size h, le-leb work max_count w, le-leb out max_count o))
 
 -- the words that are written
 pub filled-contents :
@@ -222,8 +222,8 @@ pub filled-contents :
     → w₁ ≡ set w (row * task + 0) parent
     → w₂ ≡ set w₁ (row * task + 5) work
     → w₃ ≡ set w₂ (row * task + 6) out
-    → w₄ ≡ set w₃ (headBase + 3) (task + 1)
-    → w₅ ≡ set w₄ (headBase + 0) phase
+    → w₄ ≡ set w₃ (head_base + 3) (task + 1)
+    → w₅ ≡ set w₄ (head_base + 0) phase
     → contents w₅ ≡ filled (contents w) phase parent work out
 filled-contents w w₁ w₂ w₃ w₄ task parent work out phase long small is e₁ e₂ e₃ e₄ e₅ =
     let one = wrote-cell w 0 task parent long (omega arith) small e₁ in
@@ -235,9 +235,9 @@ filled-contents w w₁ w₂ w₃ w₄ task parent work out phase long small is e
     ∙ ap (with_head 0 phase)
     (four.0
     ∙ ap (with_head 3 (task + 1))
-    (three.0 ∙ ap (withCell 6 task out) (two.0 ∙ ap (withCell 5 task work) one.0)))
+    (three.0 ∙ ap (with_cell 6 task out) (two.0 ∙ ap (with_cell 5 task work) one.0)))
     ∙ ap
     (λ (t : ℕ).
     with_head 0 phase
-    (with_head 3 (t + 1) (withCell 6 t out (withCell 5 t work (withCell 0 t parent (contents w))))))
+    (with_head 3 (t + 1) (with_cell 6 t out (with_cell 5 t work (with_cell 0 t parent (contents w))))))
     is

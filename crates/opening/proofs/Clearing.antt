@@ -8,7 +8,7 @@ use lib.ListN.{set, length-set}
 use lib.Seq.{get_or-set_same, get_or-set_other}
 use Rattle.numbers.specs.Lists.{at}
 use Rattle.numbers.proofs.Tests.{same_or_not}
-use Rattle.words.specs.Layout.{row, words, headBase, activationBase, readyBase}
+use Rattle.words.specs.Layout.{row, words, head_base, activation_base, ready_base}
 use Rattle.opening.specs.Cleared.{MayClear, Cleared, MayEmpty, Emptied}
 
 -- between two turns
@@ -70,8 +70,8 @@ pub emptied :
     {tasks : ℕ} {w w₁ w₂ w₃ : List ℕ}
     → MayEmpty tasks w
     → Cleared 0 (row * (tasks + 1)) w w₁
-    → Cleared headBase activationBase w₁ w₂
-    → Cleared readyBase words w₂ w₃
+    → Cleared head_base activation_base w₁ w₂
+    → Cleared ready_base words w₂ w₃
     → Emptied tasks w w₃
 emptied {tasks} may rows head ready =
     let few = may.few in
@@ -90,14 +90,14 @@ emptied {tasks} may rows head ready =
     }
 
 pub may-clear-head :
-    {tasks : ℕ} {w w₁ : List ℕ} → MayEmpty tasks w → Cleared 0 (row * (tasks + 1)) w w₁ → MayClear headBase activationBase w₁
+    {tasks : ℕ} {w w₁ : List ℕ} → MayEmpty tasks w → Cleared 0 (row * (tasks + 1)) w w₁ → MayClear head_base activation_base w₁
 may-clear-head may rows = record { long = rows.size ∙ may.long; forward = omega arith; inside = omega arith }
 
 pub may-clear-ready :
     {tasks : ℕ} {w w₁ w₂ : List ℕ}
     → MayEmpty tasks w
     → Cleared 0 (row * (tasks + 1)) w w₁
-    → Cleared headBase activationBase w₁ w₂
-    → MayClear readyBase words w₂
+    → Cleared head_base activation_base w₁ w₂
+    → MayClear ready_base words w₂
 may-clear-ready may rows head =
     record { long = head.size ∙ rows.size ∙ may.long; forward = omega arith; inside = omega arith }

@@ -8,19 +8,19 @@ use native.Mathlib.Omega.{arith}
 use lib.Dec.{leb}
 use lib.ListN.{length, take, set, get_or-eq_default}
 use borrow.Author.Tests.{leb-true, le-leb}
-use Rattle.numbers.specs.Limits.{maxTasks, maxProcessors, maxBound}
+use Rattle.numbers.specs.Limits.{max_tasks, max_processors, max_bound}
 use Rattle.books.specs.Kind.{chilled, each}
 use Rattle.numbers.specs.Lists.{at}
 use Rattle.rules.specs.Phase
 use Rattle.format.specs.Command as rules
-use Rattle.rules.specs.Grounds.{in_turn, inLimits, ownGround, ground}
+use Rattle.rules.specs.Grounds.{in_turn, in_limits, own_ground, ground_for}
 use Rattle.numbers.specs.Sums.{within}
 use Rattle.rules.specs.Obey.{plain, opened, obey}
 use Rattle.numbers.proofs.Tests.{and-true, and_both, and_none, le-or-lt}
 use Rattle.rules.proofs.Judging.{ground-turn, ground-limits, ground-own}
-use Rattle.words.specs.Layout.{row, rows, words, headBase, readyBase, blocks, filledWord}
+use Rattle.words.specs.Layout.{row, rows, words, head_base, ready_base, blocks, filled_word}
 use Rattle.words.specs.Views.{column, part}
-use Rattle.words.specs.Contents.{Contents, storeContents, contents, with_head, storeWithHead}
+use Rattle.words.specs.Contents.{Contents, store_contents, contents, with_head, store_with_head}
 use Rattle.words.proofs.Views.{column-length, column-at, part_length, part_at}
 use Rattle.words.proofs.Contents.{wrote-head}
 use Rattle.store.specs.Rows.{ZeroPast}
@@ -50,7 +50,7 @@ pub record NothingPast (n : ℕ) (c : Contents) : Type 0 where
   pub outs : ZeroPast n c.stores.chilled.outs
   pub day : DayPast n c
 
-module _ {n : ℕ} {w w' : List ℕ} (small : n ≤ maxTasks) (long : length w ≡ words) (e : Emptied n w w') where
+module _ {n : ℕ} {w w' : List ℕ} (small : n ≤ max_tasks) (long : length w ≡ words) (e : Emptied n w w') where
   -- a column that has nothing past the tasks
   column-zero : (k : ℕ) → k < row → ZeroPast n (column k w) → (a : ℕ) → at (column k w') a ≡ 0
   column-zero k h past a =
@@ -64,18 +64,18 @@ module _ {n : ℕ} {w w' : List ℕ} (small : n ≤ maxTasks) (long : length w �
       (le-or-lt (suc n) a))
       (le-or-lt rows a)
 
-  head-zero : (k : ℕ) → k < row → at w' (headBase + k) ≡ 0
-  head-zero k h = e.head (headBase + k) (omega arith) (omega arith)
+  head-zero : (k : ℕ) → k < row → at w' (head_base + k) ≡ 0
+  head-zero k h = e.head (head_base + k) (omega arith) (omega arith)
 
-  ready-zero : (q : ℕ) → at (part readyBase blocks w') q ≡ 0
+  ready-zero : (q : ℕ) → at (part ready_base blocks w') q ≡ 0
   ready-zero q =
       ⊎_elim
-      (λ (o : blocks ≤ q). get_or-eq_default (part readyBase blocks w') 0 (let l = part_length readyBase blocks w' in omega arith))
-      (λ (o : q < blocks). sym (part_at readyBase blocks w' q o) ∙ e.ready (readyBase + q) (omega arith) (omega arith))
+      (λ (o : blocks ≤ q). get_or-eq_default (part ready_base blocks w') 0 (let l = part_length ready_base blocks w' in omega arith))
+      (λ (o : q < blocks). sym (part_at ready_base blocks w' q o) ∙ e.ready (ready_base + q) (omega arith) (omega arith))
       (le-or-lt blocks q)
 
   pub blank : NothingPast n (contents w) → Blank (contents w')
-  unfolding contents storeContents
+  unfolding contents store_contents
   blank past =
       record {
         long = e.size ∙ long;
@@ -95,7 +95,7 @@ module _ {n : ℕ} {w w' : List ℕ} (small : n ≤ maxTasks) (long : length w �
               booked = by_kind _ (column-zero 8 (omega arith) past.day.booked);
               figures = by_kind _ (column-zero 9 (omega arith) past.day.figures);
               ready = ready-zero;
-              filled = e.ready filledWord (omega arith) (omega arith);
+              filled = e.ready filled_word (omega arith) (omega arith);
               next = head-zero 9 (omega arith);
               active = head-zero 13 (omega arith);
               ended = head-zero 14 (omega arith);
@@ -114,22 +114,22 @@ module _ (c : Contents) (blank : Blank c) (n processors bound : ℕ) where
   unused l given z = record { nobody = z 0; later = λ a _. z a }
 
   pub opening-sound :
-      within n maxTasks ≡ true
-      → within processors maxProcessors ≡ true
+      within n max_tasks ≡ true
+      → within processors max_processors ≡ true
       → bound < 2 ^ 32
       → Sound (opening c n processors bound)
-  unfolding with_head storeWithHead
+  unfolding with_head store_with_head
   opening-sound tasks staff fits =
-      let t = and-true (leb 1 n) (leb n maxTasks) tasks in
-      let s = and-true (leb 1 processors) (leb processors maxProcessors) staff in
+      let t = and-true (leb 1 n) (leb n max_tasks) tasks in
+      let s = and-true (leb 1 processors) (leb processors max_processors) staff in
       let low = leb-true 1 n t.0 in
       let r = blank.ranked in
       let p = blank.placed in
       record {
         long = blank.long;
         named = omega arith;
-        small = leb-true n maxTasks t.1;
-        few = leb-true processors maxProcessors s.1;
+        small = leb-true n max_tasks t.1;
+        few = leb-true processors max_processors s.1;
         bounded = fits;
         light = λ i. let a = blank.works i in let b = blank.outs i in (omega arith, omega arith);
         parents = unused c.parents 1 blank.parents;
@@ -138,7 +138,7 @@ module _ (c : Contents) (blank : Blank c) (n processors bound : ℕ) where
         given =
             record {
               unopened = λ e. absurd (omega arith);
-              in-steps = λ _. (omega arith, low);
+              in_steps = λ _. (omega arith, low);
               whole = λ h. absurd (omega arith);
               some = λ h. absurd (omega arith);
             };
@@ -173,7 +173,7 @@ module _ (c : Contents) (blank : Blank c) (n processors bound : ℕ) where
   pub opening-means :
       (before : Contents)
       → obey (meaning before) (rules.plan n processors bound) ≡ plain (meaning (opening c n processors bound))
-  unfolding obey opened with_head storeWithHead
+  unfolding obey opened with_head store_with_head
   opening-means before =
       λ z.
       plain
@@ -198,57 +198,57 @@ module _ (c : Contents) (blank : Blank c) (n processors bound : ℕ) where
 
 module _ (c : Contents) (n processors bound : ℕ) where
   -- out of turn while trays of a plan lie in the cold room, and in turn otherwise
-  pub open-late : Phase.holdsTrays c.phase ≡ true → ground (meaning c) (rules.plan n processors bound) ≡ 3
+  pub open-late : Phase.holds_trays c.phase ≡ true → ground_for (meaning c) (rules.plan n processors bound) ≡ 3
   unfolding in_turn
   open-late e = ground-turn (meaning c) (rules.plan n processors bound) (ap not e)
 
-  open_turn : Phase.holdsTrays c.phase ≡ false → in_turn (meaning c) (rules.plan n processors bound) ≡ true
+  open_turn : Phase.holds_trays c.phase ≡ false → in_turn (meaning c) (rules.plan n processors bound) ≡ true
   unfolding in_turn
   open_turn e = ap not e
 
   -- the number of tasks is outside its limits
   pub open-tasks :
-      Phase.holdsTrays c.phase ≡ false
-      → within n maxTasks ≡ false
-      → ground (meaning c) (rules.plan n processors bound) ≡ 4
-  unfolding inLimits
+      Phase.holds_trays c.phase ≡ false
+      → within n max_tasks ≡ false
+      → ground_for (meaning c) (rules.plan n processors bound) ≡ 4
+  unfolding in_limits
   open-tasks d e =
       ground-limits (meaning c) (rules.plan n processors bound) (open_turn d)
-      (ap (λ (b : Bool). b && within processors maxProcessors && leb bound maxBound) e)
+      (ap (λ (b : Bool). b && within processors max_processors && leb bound max_bound) e)
 
   -- the number of processors is outside its limits
   pub open-processors :
-      Phase.holdsTrays c.phase ≡ false
-      → within processors maxProcessors ≡ false
-      → ground (meaning c) (rules.plan n processors bound) ≡ 4
-  unfolding inLimits
+      Phase.holds_trays c.phase ≡ false
+      → within processors max_processors ≡ false
+      → ground_for (meaning c) (rules.plan n processors bound) ≡ 4
+  unfolding in_limits
   open-processors d e =
       ground-limits (meaning c) (rules.plan n processors bound) (open_turn d)
-      (ap (λ (b : Bool). within n maxTasks && b && leb bound maxBound) e
-      ∙ ap (λ (b : Bool). b && leb bound maxBound) (and_none (within n maxTasks)))
+      (ap (λ (b : Bool). within n max_tasks && b && leb bound max_bound) e
+      ∙ ap (λ (b : Bool). b && leb bound max_bound) (and_none (within n max_tasks)))
 
   -- and no ground is left
   pub open_free :
-      Phase.holdsTrays c.phase ≡ false
-      → within n maxTasks ≡ true
-      → within processors maxProcessors ≡ true
+      Phase.holds_trays c.phase ≡ false
+      → within n max_tasks ≡ true
+      → within processors max_processors ≡ true
       → bound < 2 ^ 32
-      → ground (meaning c) (rules.plan n processors bound) ≡ 0
-  unfolding inLimits ownGround
+      → ground_for (meaning c) (rules.plan n processors bound) ≡ 0
+  unfolding in_limits own_ground
   open_free d t s fits =
       ground-own (meaning c) (rules.plan n processors bound) (open_turn d)
-      (and_both (within n maxTasks && within processors maxProcessors) (leb bound maxBound)
-      (and_both (within n maxTasks) (within processors maxProcessors) t s) (le-leb bound maxBound (omega arith)))
+      (and_both (within n max_tasks && within processors max_processors) (leb bound max_bound)
+      (and_both (within n max_tasks) (within processors max_processors) t s) (le-leb bound max_bound (omega arith)))
 
 -- the words that are written
 pub opening-contents :
     (w w₁ w₂ w₃ w₄ : List ℕ) {w₅ : List ℕ} (n processors bound : ℕ)
     → length w ≡ words
-    → w₁ ≡ set w (headBase + 0) Phase.steps
-    → w₂ ≡ set w₁ (headBase + 1) n
-    → w₃ ≡ set w₂ (headBase + 2) processors
-    → w₄ ≡ set w₃ (headBase + 3) 1
-    → w₅ ≡ set w₄ (headBase + 5) bound
+    → w₁ ≡ set w (head_base + 0) Phase.steps
+    → w₂ ≡ set w₁ (head_base + 1) n
+    → w₃ ≡ set w₂ (head_base + 2) processors
+    → w₄ ≡ set w₃ (head_base + 3) 1
+    → w₅ ≡ set w₄ (head_base + 5) bound
     → contents w₅ ≡ opening (contents w) n processors bound
 opening-contents w w₁ w₂ w₃ w₄ n processors bound long e₁ e₂ e₃ e₄ e₅ =
     let one = wrote-head w 0 Phase.steps long (omega arith) e₁ in

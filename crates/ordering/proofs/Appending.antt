@@ -10,23 +10,23 @@ use lib.ListN.{length, take, set, length-set}
 use lib.Seq.{length-take-le}
 use Rattle.books.specs.Kind.{chilled}
 use Rattle.numbers.specs.Lists.{mem}
-use Rattle.numbers.specs.Limits.{maxTasks}
+use Rattle.numbers.specs.Limits.{max_tasks}
 use Rattle.rules.specs.Phase
 use Rattle.format.specs.Command as rules
-use Rattle.rules.specs.Grounds.{in_turn, inLimits, demand, ownGround, ground}
+use Rattle.rules.specs.Grounds.{in_turn, in_limits, demand, own_ground, ground_for}
 use Rattle.numbers.specs.Sums.{within}
-use Rattle.rules.specs.Obey.{plain, withOrders, obey}
+use Rattle.rules.specs.Obey.{plain, with_orders, obey}
 use Rattle.numbers.proofs.Tests.{same_or_not}
-use Rattle.words.specs.Layout.{row, rows, words, headBase, entries, activationBase, executionBase}
+use Rattle.words.specs.Layout.{row, rows, words, head_base, entries, activation_base, execution_base}
 use Rattle.words.specs.Contents as held
-use Rattle.words.specs.Contents.{Contents, contents, withCell, storeWithCell, with_head, storeWithHead}
+use Rattle.words.specs.Contents.{Contents, contents, with_cell, store_with_cell, with_head, store_with_head}
 use Rattle.words.proofs.Contents.{Lengths, lengths, contents-activation, contents-execution, wrote-cell, wrote-head}
 use Rattle.store.proofs.InStore.{by_kind}
 use Rattle.answer.specs.declared.Answer.{Answer}
 use Rattle.answer.specs.Meaning.{meaning}
 use Rattle.answer.specs.Sound.{Noted, Sound}
 use Rattle.answer.specs.ValidPlan.{Obeyed}
-use Rattle.ordering.specs.Order.{nextGround, OrderAt, groundAt, appendedTo, Appended}
+use Rattle.ordering.specs.Order.{next_ground, OrderAt, ground_at, appended_to, Appended}
 use Rattle.answer.proofs.Meant.{given-more}
 use Rattle.ordering.proofs.Placing.{append-noted}
 use Rattle.ordering.proofs.Ordering.{Allowed, allowed}
@@ -38,8 +38,8 @@ count-ground :
     → count ≤ length order
     → demand (eqb phase Phase.orders && ltb (length (take count order)) size) 3
     (demand (within i size) 4 (demand (not (mem i (take count order))) 5 0))
-    ≡ nextGround phase size order count i
-unfolding nextGround
+    ≡ next_ground phase size order count i
+unfolding next_ground
 count-ground phase size count i order h =
     ap
     (λ (k : ℕ).
@@ -50,7 +50,7 @@ count-ground phase size count i order h =
 -- one task more in an order, with its place
 order-more :
     (phase size count i : ℕ) (order places : List ℕ)
-    → size ≤ maxTasks
+    → size ≤ max_tasks
     → length order ≡ entries
     → length places ≡ rows
     → Noted size count order places
@@ -67,23 +67,23 @@ order-more phase size count i order places small long wide noted allow =
 -- a plan with one task more in its activation order, and in its execution order
 abbrev pub ranking : Contents → ℕ → Contents
 ranking c i =
-    with_head 4 (c.ranked + 1) (withCell 1 i c.ranked (held.withOrders (set c.activation c.ranked i) c.execution c))
+    with_head 4 (c.ranked + 1) (with_cell 1 i c.ranked (held.with_orders (set c.activation c.ranked i) c.execution c))
 
 abbrev pub placing : Contents → ℕ → Contents
 placing c i =
-    with_head 8 (c.placed + 1) (withCell 2 i c.placed (held.withOrders c.activation (set c.execution c.placed i) c))
+    with_head 8 (c.placed + 1) (with_cell 2 i c.placed (held.with_orders c.activation (set c.execution c.placed i) c))
 
 module _ (c : Contents) (sound : Sound c) (long : Lengths c) (i : ℕ) where
-  pub activation-ground : ground (meaning c) (rules.activation i) ≡ nextGround c.phase c.size c.activation c.ranked i
-  unfolding ground in_turn inLimits ownGround
+  pub activation-ground : ground_for (meaning c) (rules.activation i) ≡ next_ground c.phase c.size c.activation c.ranked i
+  unfolding ground_for in_turn in_limits own_ground
   activation-ground =
       let few = sound.activation.few in
       let small = sound.small in
       let l = long.activation in
       count-ground c.phase c.size c.ranked i c.activation (omega arith)
 
-  pub execution-ground : ground (meaning c) (rules.execution i) ≡ nextGround c.phase c.size c.execution c.placed i
-  unfolding ground in_turn inLimits ownGround
+  pub execution-ground : ground_for (meaning c) (rules.execution i) ≡ next_ground c.phase c.size c.execution c.placed i
+  unfolding ground_for in_turn in_limits own_ground
   execution-ground =
       let few = sound.execution.few in
       let small = sound.small in
@@ -91,7 +91,7 @@ module _ (c : Contents) (sound : Sound c) (long : Lengths c) (i : ℕ) where
       count-ground c.phase c.size c.placed i c.execution (omega arith)
 
   pub ranking-sound : Allowed c.phase c.size c.activation c.ranked i → Sound (ranking c i)
-  unfolding held.withOrders withCell storeWithCell with_head storeWithHead
+  unfolding held.with_orders with_cell store_with_cell with_head store_with_head
   ranking-sound allow =
       let turn = allow.turn in
       let given = sound.given in
@@ -105,7 +105,7 @@ module _ (c : Contents) (sound : Sound c) (long : Lengths c) (i : ℕ) where
         parents = sound.parents;
         works = sound.works;
         outs = sound.outs;
-        given = record { unopened = given.unopened; in-steps = given.in-steps; whole = given.whole; some = given.some };
+        given = record { unopened = given.unopened; in_steps = given.in_steps; whole = given.whole; some = given.some };
         activation =
             order-more c.phase c.size c.ranked i c.activation c.ranks sound.small long.activation long.ranks
             sound.activation allow;
@@ -131,7 +131,7 @@ module _ (c : Contents) (sound : Sound c) (long : Lengths c) (i : ℕ) where
       }
 
   pub placing-sound : Allowed c.phase c.size c.execution c.placed i → Sound (placing c i)
-  unfolding held.withOrders withCell storeWithCell with_head storeWithHead
+  unfolding held.with_orders with_cell store_with_cell with_head store_with_head
   placing-sound allow =
       let turn = allow.turn in
       let given = sound.given in
@@ -145,7 +145,7 @@ module _ (c : Contents) (sound : Sound c) (long : Lengths c) (i : ℕ) where
         parents = sound.parents;
         works = sound.works;
         outs = sound.outs;
-        given = record { unopened = given.unopened; in-steps = given.in-steps; whole = given.whole; some = given.some };
+        given = record { unopened = given.unopened; in_steps = given.in_steps; whole = given.whole; some = given.some };
         activation = sound.activation;
         execution =
             order-more c.phase c.size c.placed i c.execution c.places sound.small long.execution long.places
@@ -174,36 +174,36 @@ module _ (c : Contents) (sound : Sound c) (long : Lengths c) (i : ℕ) where
   pub ranking-means :
       Allowed c.phase c.size c.activation c.ranked i
       → obey (meaning c) (rules.activation i) ≡ plain (meaning (ranking c i))
-  unfolding obey withOrders held.withOrders withCell storeWithCell with_head storeWithHead
+  unfolding obey with_orders held.with_orders with_cell store_with_cell with_head store_with_head
   ranking-means allow =
       let room = allow.room in
       let small = sound.small in
       let l = long.activation in
-      ap (λ (o : List ℕ). plain (withOrders (meaning c) o (take c.placed c.execution)))
+      ap (λ (o : List ℕ). plain (with_orders (meaning c) o (take c.placed c.execution)))
       (sym (given-more c.activation c.ranked i (omega arith)))
 
   pub placing-means :
       Allowed c.phase c.size c.execution c.placed i
       → obey (meaning c) (rules.execution i) ≡ plain (meaning (placing c i))
-  unfolding obey withOrders held.withOrders withCell storeWithCell with_head storeWithHead
+  unfolding obey with_orders held.with_orders with_cell store_with_cell with_head store_with_head
   placing-means allow =
       let room = allow.room in
       let small = sound.small in
       let l = long.execution in
-      ap (λ (o : List ℕ). plain (withOrders (meaning c) (take c.ranked c.activation) o))
+      ap (λ (o : List ℕ). plain (with_orders (meaning c) (take c.ranked c.activation) o))
       (sym (given-more c.execution c.placed i (omega arith)))
 
 -- the words that are written
 module _ (w : List ℕ) (sound : Sound (contents w)) (i : ℕ) where
-  pub activation-at : OrderAt 4 activationBase 1 w
+  pub activation-at : OrderAt 4 activation_base 1 w
   unfolding contents
   activation-at =
-      record { counted-in = omega arith; base-in = omega arith; k-in = omega arith; small = sound.small; noted = sound.activation }
+      record { counted_in = omega arith; base_in = omega arith; k_in = omega arith; small = sound.small; noted = sound.activation }
 
-  pub execution-at : OrderAt 8 executionBase 2 w
+  pub execution-at : OrderAt 8 execution_base 2 w
   unfolding contents
   execution-at =
-      record { counted-in = omega arith; base-in = omega arith; k-in = omega arith; small = sound.small; noted = sound.execution }
+      record { counted_in = omega arith; base_in = omega arith; k_in = omega arith; small = sound.small; noted = sound.execution }
 
   -- the cell and the head behind an entry
   behind :
@@ -212,72 +212,72 @@ module _ (w : List ℕ) (sound : Sound (contents w)) (i : ℕ) where
       → k < row
       → counted < row
       → i < rows
-      → contents (set (set v (row * i + k) count) (headBase + counted) (count + 1))
-      ≡ with_head counted (count + 1) (withCell k i count (contents v))
+      → contents (set (set v (row * i + k) count) (head_base + counted) (count + 1))
+      ≡ with_head counted (count + 1) (with_cell k i count (contents v))
   behind v k counted count long h l t =
       let one = wrote-cell v k i count long h t refl in
       (wrote-head (set v (row * i + k) count) counted (count + 1) one.1 l refl).0 ∙ ap (with_head counted (count + 1)) one.0
 
   ranking-contents :
       Allowed (contents w).phase (contents w).size (contents w).activation (contents w).ranked i
-      → contents (appendedTo 4 activationBase 1 w i) ≡ ranking (contents w) i
+      → contents (appended_to 4 activation_base 1 w i) ≡ ranking (contents w) i
   unfolding contents
   ranking-contents allow =
       let small = sound.small in
       let room = allow.room in
       let high = allow.high in
       let count : ℕ = (contents w).ranked in
-      behind (set w (activationBase + count) i) 1 4 count (length-set w (activationBase + count) i ∙ sound.long) (omega arith)
+      behind (set w (activation_base + count) i) 1 4 count (length-set w (activation_base + count) i ∙ sound.long) (omega arith)
       (omega arith) (omega arith)
-      ∙ ap (λ (d : Contents). with_head 4 (count + 1) (withCell 1 i count d))
+      ∙ ap (λ (d : Contents). with_head 4 (count + 1) (with_cell 1 i count d))
       (contents-activation w sound.long count i (omega arith))
 
   pub placing-contents :
       Allowed (contents w).phase (contents w).size (contents w).execution (contents w).placed i
-      → contents (appendedTo 8 executionBase 2 w i) ≡ placing (contents w) i
+      → contents (appended_to 8 execution_base 2 w i) ≡ placing (contents w) i
   unfolding contents
   placing-contents allow =
       let small = sound.small in
       let room = allow.room in
       let high = allow.high in
       let count : ℕ = (contents w).placed in
-      behind (set w (executionBase + count) i) 2 8 count (length-set w (executionBase + count) i ∙ sound.long) (omega arith)
+      behind (set w (execution_base + count) i) 2 8 count (length-set w (execution_base + count) i ∙ sound.long) (omega arith)
       (omega arith) (omega arith)
-      ∙ ap (λ (d : Contents). with_head 8 (count + 1) (withCell 2 i count d))
+      ∙ ap (λ (d : Contents). with_head 8 (count + 1) (with_cell 2 i count d))
       (contents-execution w sound.long count i (omega arith))
 
   -- the answer is that of the rules
   module _ {used : ℕ} {a : Answer} {w' : List ℕ} where
-    pub ranked : Appended 4 activationBase 1 i used w a w' → Obeyed w (rules.activation i) used a w'
+    pub ranked : Appended 4 activation_base 1 i used w a w' → Obeyed w (rules.activation i) used a w'
     unfolding contents
     ranked did =
         let c : Contents = contents w in
         let why = activation-ground c sound (lengths w) i in
         ⊎_elim
-        (λ (none : groundAt 4 activationBase w i ≡ 0).
+        (λ (none : ground_at 4 activation_base w i ≡ 0).
         (let allow = allowed c.phase c.size c.activation c.ranked i none in
         let wrote = did.accepted none in
         acceptance (why ∙ none) wrote.0 (ap contents wrote.1 ∙ ranking-contents allow)
         (ranking-means c sound (lengths w) i allow) (ranking-sound c sound (lengths w) i allow)))
-        (λ (some : groundAt 4 activationBase w i ≡ 0 → ⊥).
+        (λ (some : ground_at 4 activation_base w i ≡ 0 → ⊥).
         (let stays = did.refused some in
         subst (λ (v : List ℕ). Obeyed w (rules.activation i) used a v) (sym stays.1)
-        (refusal (groundAt 4 activationBase w i) sound stays.0 some why)))
-        (same_or_not (groundAt 4 activationBase w i) 0)
+        (refusal (ground_at 4 activation_base w i) sound stays.0 some why)))
+        (same_or_not (ground_at 4 activation_base w i) 0)
 
-    pub placed : Appended 8 executionBase 2 i used w a w' → Obeyed w (rules.execution i) used a w'
+    pub placed : Appended 8 execution_base 2 i used w a w' → Obeyed w (rules.execution i) used a w'
     unfolding contents
     placed did =
         let c : Contents = contents w in
         let why = execution-ground c sound (lengths w) i in
         ⊎_elim
-        (λ (none : groundAt 8 executionBase w i ≡ 0).
+        (λ (none : ground_at 8 execution_base w i ≡ 0).
         (let allow = allowed c.phase c.size c.execution c.placed i none in
         let wrote = did.accepted none in
         acceptance (why ∙ none) wrote.0 (ap contents wrote.1 ∙ placing-contents allow)
         (placing-means c sound (lengths w) i allow) (placing-sound c sound (lengths w) i allow)))
-        (λ (some : groundAt 8 executionBase w i ≡ 0 → ⊥).
+        (λ (some : ground_at 8 execution_base w i ≡ 0 → ⊥).
         (let stays = did.refused some in
         subst (λ (v : List ℕ). Obeyed w (rules.execution i) used a v) (sym stays.1)
-        (refusal (groundAt 8 executionBase w i) sound stays.0 some why)))
-        (same_or_not (groundAt 8 executionBase w i) 0)
+        (refusal (ground_at 8 execution_base w i) sound stays.0 some why)))
+        (same_or_not (ground_at 8 execution_base w i) 0)

@@ -10,22 +10,22 @@ use Rattle.numbers.specs.Sums.{Task, within}
 use Rattle.numbers.specs.Lists.{at, mem}
 use Rattle.rules.specs.State.{State}
 use Rattle.format.specs.Command as rules
-use Rattle.rules.specs.Grounds.{ground}
-use Rattle.rules.specs.Obey.{Outcome, withOrders, obey}
-use Rattle.streams.specs.OneOrder.{oneOrder}
+use Rattle.rules.specs.Grounds.{ground_for}
+use Rattle.rules.specs.Obey.{Outcome, with_orders, obey}
+use Rattle.streams.specs.OneOrder.{one_order}
 use Rattle.rules.specs.Reachable.{Reachable}
 use Rattle.tree.proofs.Orders.{within-task, mem-at, every-mem, new-behind}
 use Rattle.rules.proofs.Reaching.{obeyed-reachable, lives}
 use Rattle.streams.proofs.Leading.{execution-granted}
 use Rattle.streams.proofs.OneOrder.{Found, found, found-alone, found-completed, completed-given}
-use Rattle.words.specs.Layout.{executionBase}
+use Rattle.words.specs.Layout.{execution_base}
 use Rattle.words.specs.Contents.{contents}
 use Rattle.words.proofs.Contents.{lengths}
 use Rattle.answer.specs.Meaning.{meaning, plan_of}
 use Rattle.answer.specs.Sound.{Sound}
 use Rattle.answer.specs.ValidPlan.{ValidPlan}
 use Rattle.answer.proofs.Meant.{ranked-length, placed-length}
-use Rattle.ordering.specs.Order.{MayAppend, appendedTo}
+use Rattle.ordering.specs.Order.{MayAppend, appended_to}
 use Rattle.ordering.specs.Completed.{Completed}
 use Rattle.ordering.proofs.Ordering.{Allowed, allowed}
 use Rattle.ordering.proofs.Appending.{placing, execution-ground, placing-sound, placing-means, placing-contents}
@@ -33,9 +33,9 @@ use Rattle.ordering.proofs.Appending.{placing, execution-ground, placing-sound, 
 -- the first k entries stand in the execution order too
 pub record Copied (w : List ℕ) (k : ℕ) (w' : List ℕ) : Type 0 where
   pub valid : ValidPlan w'
-  pub means : plan_of w' ≡ withOrders (plan_of w) (plan_of w).activation (take k (plan_of w).activation)
+  pub means : plan_of w' ≡ with_orders (plan_of w) (plan_of w).activation (take k (plan_of w).activation)
 
-module _ {w : List ℕ} (valid : ValidPlan w) (one : oneOrder (plan_of w) ≡ true) where
+module _ {w : List ℕ} (valid : ValidPlan w) (one : one_order (plan_of w) ≡ true) where
   abbrev s : State
   s = plan_of w
 
@@ -50,7 +50,7 @@ module _ {w : List ℕ} (valid : ValidPlan w) (one : oneOrder (plan_of w) ≡ tr
       let long = f.ranked in
       record {
         valid = c.valid;
-        means = c.means ∙ ap (withOrders s s.activation) (take_all s.size s.activation (omega arith)) ∙ found-completed s f;
+        means = c.means ∙ ap (with_orders s s.activation) (take_all s.size s.activation (omega arith)) ∙ found-completed s f;
       }
 
   -- the next entry is a task that does not stand there yet
@@ -71,7 +71,7 @@ module _ {w : List ℕ} (valid : ValidPlan w) (one : oneOrder (plan_of w) ≡ tr
     module _ {w₁ : List ℕ} (c : Copied w k w₁) where
       -- it is read from the words as they are then
       pub next-is : at (contents w₁).activation k ≡ at s.activation k
-      unfolding withOrders
+      unfolding with_orders
       next-is =
           let same : (plan_of w₁).activation ≡ s.activation = ap (λ (t : State). t.activation) c.means in
           let all = ranked-length (contents w₁) c.valid.sound (lengths w₁) in
@@ -79,7 +79,7 @@ module _ {w : List ℕ} (valid : ValidPlan w) (one : oneOrder (plan_of w) ≡ tr
           let here = inside in
           sym (get_or-take (contents w₁).ranked (contents w₁).activation k 0 (omega arith)) ∙ ap (λ (l : List ℕ). at l k) same
 
-      next-ground : ground (plan_of w₁) (rules.execution (at s.activation k)) ≡ 0
+      next-ground : ground_for (plan_of w₁) (rules.execution (at s.activation k)) ≡ 0
       next-ground =
           let first = length-take-le k s.activation (let here = inside in omega arith) in
           rw c.means
@@ -91,16 +91,16 @@ module _ {w : List ℕ} (valid : ValidPlan w) (one : oneOrder (plan_of w) ≡ tr
           allowed _ _ _ _ (at s.activation k)
           (sym (execution-ground (contents w₁) c.valid.sound (lengths w₁) (at s.activation k)) ∙ next-ground)
 
-      pub next-may : MayAppend 8 executionBase 2 (at s.activation k) w₁
+      pub next-may : MayAppend 8 execution_base 2 (at s.activation k) w₁
       unfolding contents
       next-may =
           let small = c.valid.sound.small in
           let room = next-allowed.room in
           let high = next-allowed.high in
-          record { counted-in = omega arith; base-in = omega arith; k-in = omega arith; room = omega arith; within = omega arith }
+          record { counted_in = omega arith; base_in = omega arith; k_in = omega arith; room = omega arith; within = omega arith }
 
-      pub copied_more : {w₂ : List ℕ} → w₂ ≡ appendedTo 8 executionBase 2 w₁ (at s.activation k) → Copied w (k + 1) w₂
-      unfolding obey withOrders
+      pub copied_more : {w₂ : List ℕ} → w₂ ≡ appended_to 8 execution_base 2 w₁ (at s.activation k) → Copied w (k + 1) w₂
+      unfolding obey with_orders
       copied_more {w₂} wrote =
           let i : ℕ = at s.activation k in
           let is : contents w₂ ≡ placing (contents w₁) i =
@@ -114,9 +114,9 @@ module _ {w : List ℕ} (valid : ValidPlan w) (one : oneOrder (plan_of w) ≡ tr
           sym (take-suc s.activation k 0 inside) ∙ ap (λ (n : ℕ). take n s.activation) one_more
           in
           let later :
-          withOrders (plan_of w₁) (plan_of w₁).activation ((plan_of w₁).execution ++ (i ∷ []))
-          ≡ withOrders s s.activation (take k s.activation ++ (i ∷ [])) =
-          ap (λ (t : State). withOrders t t.activation (t.execution ++ (i ∷ []))) c.means
+          with_orders (plan_of w₁) (plan_of w₁).activation ((plan_of w₁).execution ++ (i ∷ []))
+          ≡ with_orders s s.activation (take k s.activation ++ (i ∷ [])) =
+          ap (λ (t : State). with_orders t t.activation (t.execution ++ (i ∷ []))) c.means
           in
           record {
             valid =
@@ -124,7 +124,7 @@ module _ {w : List ℕ} (valid : ValidPlan w) (one : oneOrder (plan_of w) ≡ tr
                   reached = subst Reachable (sym left) (obeyed-reachable (plan_of w₁) (rules.execution i) next-ground c.valid.reached);
                   sound = subst Sound (sym is) (placing-sound (contents w₁) c.valid.sound (lengths w₁) i next-allowed);
                 };
-            means = left ∙ later ∙ ap (withOrders s s.activation) more-taken;
+            means = left ∙ later ∙ ap (with_orders s s.activation) more-taken;
           }
 
 -- where 04 was given nothing is copied

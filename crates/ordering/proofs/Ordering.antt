@@ -13,12 +13,12 @@ use Rattle.numbers.specs.Sums.{within}
 use Rattle.rules.specs.Grounds.{demand}
 use Rattle.numbers.proofs.Tests.{and-true}
 use Rattle.rules.proofs.Formed.{demand-none}
-use Rattle.words.specs.Layout.{row, headBase, entries}
+use Rattle.words.specs.Layout.{row, head_base, entries}
 use Rattle.words.specs.Views.{column, part}
 use Rattle.words.proofs.Views.{column-at, part_at}
-use Rattle.words.specs.Contents.{headWord}
+use Rattle.words.specs.Contents.{head_word}
 use Rattle.answer.specs.declared.Answer.{Answer}
-use Rattle.ordering.specs.Order.{nextGround, groundAt, Sought, OrderAt, MayAppend, appendedTo, Appended}
+use Rattle.ordering.specs.Order.{next_ground, ground_at, Sought, OrderAt, MayAppend, appended_to, Appended}
 use Rattle.ordering.proofs.Placing.{Listed, seen, unseen}
 
 module _ {base k count task : ℕ} {w : List ℕ} (s : Sought base k count task w) where
@@ -35,7 +35,7 @@ module _ {base k count task : ℕ} {w : List ℕ} (s : Sought base k count task 
       sym (unseen (part base entries w) (column k w) count task listed (omega arith))
 
   pub place_in : (place : ℕ) → place ≡ at w (row * task + k) → (count ≤ place → ⊥) → base + place < 18497
-  place_in place e h = let b = s.base-in in let f = s.few in omega arith
+  place_in place e h = let b = s.base_in in let f = s.few in omega arith
 
   pub contains-there :
       (place found : ℕ)
@@ -64,55 +64,55 @@ sought {counted} {base} {k} {size} {count} {task} o e f limits =
     let small = o.small in
     let high = leb-true task size ends.1 in
     record {
-      base-in = o.base-in;
-      k-in = o.k-in;
+      base_in = o.base_in;
+      k_in = o.k_in;
       few = omega arith;
       within = record { low = leb-true 1 task ends.0; high = omega arith };
       noted = λ p h. o.noted.noted p (omega arith);
     }
 
 -- each way out of the tests, by what was read
-module _ (counted base task : ℕ) (w : List ℕ) {phase : ℕ} (is-phase : phase ≡ headWord 0 w) where
-  pub other-phase : (phase ≡ Phase.orders → ⊥) → 3 ≡ groundAt counted base w task
-  unfolding nextGround
-  other-phase d = rw (ne_eqb (headWord 0 w) Phase.orders (λ e. d (is-phase ∙ e)))
+module _ (counted base task : ℕ) (w : List ℕ) {phase : ℕ} (is-phase : phase ≡ head_word 0 w) where
+  pub other-phase : (phase ≡ Phase.orders → ⊥) → 3 ≡ ground_at counted base w task
+  unfolding next_ground
+  other-phase d = rw (ne_eqb (head_word 0 w) Phase.orders (λ e. d (is-phase ∙ e)))
 
-  module _ {size count : ℕ} (turn : phase ≡ Phase.orders) (is-size : size ≡ headWord 1 w) (is-count : count ≡ headWord counted w) where
-    pub whole-order : size ≤ count → 3 ≡ groundAt counted base w task
-    unfolding nextGround
+  module _ {size count : ℕ} (turn : phase ≡ Phase.orders) (is-size : size ≡ head_word 1 w) (is-count : count ≡ head_word counted w) where
+    pub whole-order : size ≤ count → 3 ≡ ground_at counted base w task
+    unfolding next_ground
     whole-order h =
         rw (
-          eq-eqb (headWord 0 w) Phase.orders (sym is-phase ∙ turn),
-          le-ltb (headWord counted w) (headWord 1 w) (omega arith),
+          eq-eqb (head_word 0 w) Phase.orders (sym is-phase ∙ turn),
+          le-ltb (head_word counted w) (head_word 1 w) (omega arith),
         )
 
     module _ (room : (size ≤ count) → ⊥) where
-      pub outside : within task size ≡ false → 4 ≡ groundAt counted base w task
-      unfolding nextGround
+      pub outside : within task size ≡ false → 4 ≡ ground_at counted base w task
+      unfolding next_ground
       outside limits =
           rw (
-            eq-eqb (headWord 0 w) Phase.orders (sym is-phase ∙ turn),
-            lt-ltb (headWord counted w) (headWord 1 w) (omega arith),
+            eq-eqb (head_word 0 w) Phase.orders (sym is-phase ∙ turn),
+            lt-ltb (head_word counted w) (head_word 1 w) (omega arith),
             ap (within task) (sym is-size) ∙ limits,
           )
 
       module _ (limits : within task size ≡ true) where
-        pub again : true ≡ mem task (take count (part base entries w)) → 5 ≡ groundAt counted base w task
-        unfolding nextGround
+        pub again : true ≡ mem task (take count (part base entries w)) → 5 ≡ ground_at counted base w task
+        unfolding next_ground
         again stands =
             rw (
-              eq-eqb (headWord 0 w) Phase.orders (sym is-phase ∙ turn),
-              lt-ltb (headWord counted w) (headWord 1 w) (omega arith),
+              eq-eqb (head_word 0 w) Phase.orders (sym is-phase ∙ turn),
+              lt-ltb (head_word counted w) (head_word 1 w) (omega arith),
               ap (within task) (sym is-size) ∙ limits,
               ap (λ (c : ℕ). mem task (take c (part base entries w))) (sym is-count) ∙ sym stands,
             )
 
-        pub no-ground : false ≡ mem task (take count (part base entries w)) → 0 ≡ groundAt counted base w task
-        unfolding nextGround
+        pub no-ground : false ≡ mem task (take count (part base entries w)) → 0 ≡ ground_at counted base w task
+        unfolding next_ground
         no-ground stands =
             rw (
-              eq-eqb (headWord 0 w) Phase.orders (sym is-phase ∙ turn),
-              lt-ltb (headWord counted w) (headWord 1 w) (omega arith),
+              eq-eqb (head_word 0 w) Phase.orders (sym is-phase ∙ turn),
+              lt-ltb (head_word counted w) (head_word 1 w) (omega arith),
               ap (within task) (sym is-size) ∙ limits,
               ap (λ (c : ℕ). mem task (take c (part base entries w))) (sym is-count) ∙ sym stands,
             )
@@ -127,9 +127,9 @@ pub record Allowed (phase size : ℕ) (order : List ℕ) (count task : ℕ) : Ty
 
 pub allowed :
     (phase size : ℕ) (order : List ℕ) (count task : ℕ)
-    → nextGround phase size order count task ≡ 0
+    → next_ground phase size order count task ≡ 0
     → Allowed phase size order count task
-unfolding nextGround
+unfolding next_ground
 allowed phase size order count task none =
     let turn =
     demand-none (eqb phase Phase.orders && ltb count size) 3
@@ -149,12 +149,12 @@ allowed phase size order count task none =
       new = not-true (mem task (take count order)) own.0;
     }
 
-module _ {counted base k task : ℕ} {w : List ℕ} (o : OrderAt counted base k w) {ground : ℕ}
-    (is-ground : ground ≡ groundAt counted base w task) where
+module _ {counted base k task : ℕ} {w : List ℕ} (o : OrderAt counted base k w) {ground_for : ℕ}
+    (is-ground : ground_for ≡ ground_at counted base w task) where
   pub append-refused :
       {a : Answer} {used : ℕ}
-      → (ground ≡ 0 → ⊥)
-      → a ≡ record { number = ground; used = 0; starts = 0; peak = 0; by = 0; offers = 0 }
+      → (ground_for ≡ 0 → ⊥)
+      → a ≡ record { number = ground_for; used = 0; starts = 0; peak = 0; by = 0; offers = 0 }
       → Appended counted base k task used w a w
   append-refused d e =
       record {
@@ -164,18 +164,18 @@ module _ {counted base k task : ℕ} {w : List ℕ} (o : OrderAt counted base k 
         accepted = λ z. absurd (d (is-ground ∙ z));
       }
 
-  pub append-may : ground ≡ 0 → MayAppend counted base k task w
+  pub append-may : ground_for ≡ 0 → MayAppend counted base k task w
   append-may z =
-      let allow = allowed (headWord 0 w) (headWord 1 w) (part base entries w) (headWord counted w) task (sym is-ground ∙ z) in
+      let allow = allowed (head_word 0 w) (head_word 1 w) (part base entries w) (head_word counted w) task (sym is-ground ∙ z) in
       let room = allow.room in
       let high = allow.high in
       let small = o.small in
-      record { counted-in = o.counted-in; base-in = o.base-in; k-in = o.k-in; room = omega arith; within = omega arith }
+      record { counted_in = o.counted_in; base_in = o.base_in; k_in = o.k_in; room = omega arith; within = omega arith }
 
   pub append-accepted :
       {a : Answer} {used : ℕ} {w' : List ℕ}
-      → ground ≡ 0
-      → w' ≡ appendedTo counted base k w task
+      → ground_for ≡ 0
+      → w' ≡ appended_to counted base k w task
       → a ≡ record { number = 0; used = used; starts = 0; peak = 0; by = 0; offers = 0 }
       → Appended counted base k task used w a w'
   append-accepted z wrote e = record { refused = λ d. absurd (d (sym is-ground ∙ z)); accepted = λ _. (e, wrote) }
@@ -183,12 +183,12 @@ module _ {counted base k task : ℕ} {w : List ℕ} (o : OrderAt counted base k 
 -- the three words of one task more
 pub next-written :
     (counted base k task : ℕ) {count : ℕ} (w : List ℕ) {w₁ w₂ w₃ : List ℕ}
-    → count ≡ headWord counted w
+    → count ≡ head_word counted w
     → w₁ ≡ set w (base + count) task
     → w₂ ≡ set w₁ (row * task + k) count
-    → w₃ ≡ set w₂ (headBase + counted) (count + 1)
-    → w₃ ≡ appendedTo counted base k w task
+    → w₃ ≡ set w₂ (head_base + counted) (count + 1)
+    → w₃ ≡ appended_to counted base k w task
 next-written counted base k task {count} w is-count one two three =
     three
-    ∙ ap (λ (v : List ℕ). set v (headBase + counted) (count + 1)) (two ∙ ap (λ (v : List ℕ). set v (row * task + k) count) one)
-    ∙ ap (λ (c : ℕ). set (set (set w (base + c) task) (row * task + k) c) (headBase + counted) (c + 1)) is-count
+    ∙ ap (λ (v : List ℕ). set v (head_base + counted) (count + 1)) (two ∙ ap (λ (v : List ℕ). set v (row * task + k) count) one)
+    ∙ ap (λ (c : ℕ). set (set (set w (base + c) task) (row * task + k) c) (head_base + counted) (c + 1)) is-count

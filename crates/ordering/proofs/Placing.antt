@@ -12,12 +12,12 @@ use borrow.Author.Tests.{eq-eqb, ne_eqb}
 use Rattle.numbers.specs.Lists.{at, mem, place}
 use Rattle.numbers.proofs.Tests.{clash, fails, same_or_not, le-or-lt}
 use Rattle.tree.proofs.Orders.{mem-at, place-lt, place_at}
-use Rattle.numbers.specs.Limits.{maxTasks}
+use Rattle.numbers.specs.Limits.{max_tasks}
 use Rattle.numbers.specs.Sums.{Task}
 
 -- a task is looked for in an order that has `count` entries so far, each with its place noted
 pub record Listed (order places : List ℕ) (count task : ℕ) : Type 0 where
-  pub within : Task maxTasks task
+  pub within : Task max_tasks task
   pub noted : (e : ℕ) → e < count → at places (at order e) ≡ e
 
 -- each of the first entries stands among the first of its list

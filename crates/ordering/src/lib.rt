@@ -6,10 +6,10 @@ ghost use Rattle.words.specs.Layout.{entries};
 ghost use Rattle.words.specs.Views.{column, part};
 ghost use Rattle.format.specs.Command as rules;
 ghost use Rattle.rules.specs.Grounds.{in_turn};
-ghost use Rattle.streams.specs.OneOrder.{oneOrder};
+ghost use Rattle.streams.specs.OneOrder.{one_order};
 ghost use Rattle.answer.specs.Meaning.{plan_of};
 ghost use Rattle.answer.specs.ValidPlan.{ValidPlan, Obeyed};
-ghost use Rattle.ordering.specs.Order.{Sought, OrderAt, groundAt, MayAppend, appendedTo, Appended};
+ghost use Rattle.ordering.specs.Order.{Sought, OrderAt, ground_at, MayAppend, appended_to, Appended};
 ghost use Rattle.ordering.specs.Completed.{Completed};
 
 use answer::Answer;
@@ -45,7 +45,7 @@ fn next_ground(
     task: u16,
 ) -> u8
     requires { OrderAt counted base column plan.now }
-    ensures { result ≡ groundAt counted base plan.now task }
+    ensures { result ≡ ground_at counted base plan.now task }
 {
     if cell(plan, Plan::HEAD, Plan::PHASE) != Plan::ORDERS {
         return 3;
@@ -67,7 +67,7 @@ fn next_ground(
 // One task more in an order, with its place.
 fn write_next(plan: &mut [u32; Plan::WORDS], counted: usize, base: usize, column: usize, task: u32)
     requires { MayAppend counted base column task plan.old }
-    ensures { plan.new ≡ appendedTo counted base column plan.old task }
+    ensures { plan.new ≡ appended_to counted base column plan.old task }
 {
     let count = cell(plan, Plan::HEAD, counted);
     set_entry(plan, base, count as usize, task);
@@ -111,7 +111,7 @@ pub fn place(plan: &mut [u32; Plan::WORDS], task: u16, used: usize) -> Answer
 
 // 04 for each entry of the activation order.
 fn copy_activation(plan: &mut [u32; Plan::WORDS])
-    requires { ValidPlan plan.old × (oneOrder (plan_of plan.old) ≡ true) }
+    requires { ValidPlan plan.old × (one_order (plan_of plan.old) ≡ true) }
     ensures { Completed plan.old plan.new }
 {
     let n = cell(plan, Plan::HEAD, Plan::SIZE) as usize;

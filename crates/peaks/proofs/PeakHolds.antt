@@ -8,20 +8,20 @@ use native.Mathlib.Omega.{arith}
 use lib.Dec.{eqb, leb}
 use lib.ListN.{length, get_or, drop}
 use borrow.Author.Tests.{eqb-true, eq-eqb, ne_eqb}
-use Rattle.numbers.specs.Sums.{everyTo, within}
+use Rattle.numbers.specs.Sums.{every_to, within}
 use Rattle.numbers.specs.Lists.{at, mem, every, distinct, place, largest}
-use Rattle.numbers.specs.Limits.{maxTasks}
-use Rattle.tree.specs.Peak.{sum_at, sums, peak, Peaked, peakTask, peaked}
+use Rattle.numbers.specs.Limits.{max_tasks}
+use Rattle.tree.specs.Peak.{sum_at, sums, peak, Peaked, peak_task, peaked}
 use Rattle.tree.specs.Tree.{roots, ordered}
 use Rattle.tree.specs.Tasks
 use Rattle.tree.specs.Tasks.{Tasks}
-use Rattle.rules.specs.State.{State, store_of, tasksIn}
+use Rattle.rules.specs.State.{State, store_of, tasks_in}
 use Rattle.format.specs.Command.{Command, plan, task, activation, execution, begin, done, fetch, places, read, decode, byte_of}
-use Rattle.rules.specs.Grounds.{demand, peaksOf, noPeaks}
-use Rattle.rules.specs.Obey.{withOrders, completed, proceed, obey}
+use Rattle.rules.specs.Grounds.{demand, peaks_of, no_peaks}
+use Rattle.rules.specs.Obey.{with_orders, completed, proceed, obey}
 use Rattle.rules.specs.Answer.{Asking, Answered, refuse, accept, command}
-use Rattle.peaks.specs.Desk.{StepRecord, deskGround, deskAnswer, deskTasks, desk}
-use Rattle.rules.specs.Day.{isBegin, beginsDay, accepted}
+use Rattle.peaks.specs.Desk.{StepRecord, desk_ground, desk_answer, desk_tasks, desk}
+use Rattle.rules.specs.Day.{is_begin, begins_day, accepted}
 use Rattle.rules.specs.Reachable.{Reachable}
 use Rattle.peaks.specs.PeakHolds.{SetsPeak, SetPeaksOf, PeakHolds, DeskPeakHolds, EveryPeakHolds}
 use Rattle.numbers.proofs.Tests.{clash, and-true, le-or-lt}
@@ -40,7 +40,7 @@ record Found (n : ℕ) (par work out : ℕ → ℕ) (ended order : List ℕ) : T
   earlier : List ℕ
   task : ℕ
   later : List ℕ
-  is-task : task ≡ at order (place (largest (sums n par work out ended order)) (sums n par work out ended order))
+  is_task : task ≡ at order (place (largest (sums n par work out ended order)) (sums n par work out ended order))
   stands : order ≡ earlier ++ task ∷ later
   sum : sum_at n par work out (earlier ++ ended) task ≡ largest (sums n par work out ended order)
   below :
@@ -60,7 +60,7 @@ module _ (n : ℕ) (par work out : ℕ → ℕ) where
         earlier = [];
         task = x;
         later = later;
-        is-task = rw (largest-here (sum_at n par work out ended x) (sums n par work out (x ∷ ended) later) low);
+        is_task = rw (largest-here (sum_at n par work out ended x) (sums n par work out (x ∷ ended) later) low);
         stands = refl;
         sum = omega arith;
         below = λ pre y post e. absurd (nowhere pre y post e);
@@ -81,8 +81,8 @@ module _ (n : ℕ) (par work out : ℕ → ℕ) where
         earlier = x ∷ f.earlier;
         task = f.task;
         later = f.later;
-        is-task =
-            rw (largest-later (sum_at n par work out ended x) (sums n par work out (x ∷ ended) later) above) f.is-task;
+        is_task =
+            rw (largest-later (sum_at n par work out ended x) (sums n par work out (x ∷ ended) later) above) f.is_task;
         stands = ap (◌∷◌ x) f.stands;
         sum = rw high (sym (sum-among n par work out f.earlier x ended f.task) ∙ f.sum);
         below = λ pre y post e. rw high (ahead f.earlier f.below pre y post e);
@@ -115,13 +115,13 @@ pub sets-peak :
     → every (λ i. within i t.size) order ≡ true
     → 1 ≤ length order
     → SetsPeak t order (Tasks.peaked t order)
-unfolding peaked peak peakTask
+unfolding peaked peak peak_task
 sets-peak t [] inside some = absurd (omega arith)
 sets-peak t (y ∷ order) inside some = go (found t.size t.parent t.work t.out [] y order)
   where
     go : Found t.size t.parent t.work t.out [] (y ∷ order) → SetsPeak t (y ∷ order) (Tasks.peaked t (y ∷ order))
     go f =
-        let is = f.is-task in
+        let is = f.is_task in
         let x : ℕ = (Tasks.peaked t (y ∷ order)).task in
         let stands : y ∷ order ≡ f.earlier ++ x ∷ f.later = rw (← is) f.stands in
         record {
@@ -142,15 +142,15 @@ begun-peak :
     (s : State)
     → Formed s
     → Accepted s begin
-    → SetPeaksOf s (peaksOf s)
-unfolding peaksOf completed withOrders roots
+    → SetPeaksOf s (peaks_of s)
+unfolding peaks_of completed with_orders roots
 begun-peak s formed a k =
     let p = begin-planned s formed a in
     let whole = p.valid.whole in
     let one = p.rooted in
-    subst (SetsPeak (tasksIn s (store_of s k)) s.activation)
-    (sym (of-each (λ k. Tasks.peaked (tasksIn s (store_of s k)) s.activation) k))
-    (sets-peak (tasksIn s (store_of s k)) s.activation p.valid.inside
+    subst (SetsPeak (tasks_in s (store_of s k)) s.activation)
+    (sym (of-each (λ k. Tasks.peaked (tasks_in s (store_of s k)) s.activation) k))
+    (sets-peak (tasks_in s (store_of s k)) s.activation p.valid.inside
     (let some = count-le (λ i. eqb (at s.parents i) 0) s.size in omega arith))
 
 -- what is told of each command that is obeyed
@@ -158,9 +158,9 @@ obeyed-told :
     (s : State) (c : Command) (used : ℕ)
     → Formed s
     → Accepted s c
-    → isBegin (read c used) ≡ true
+    → is_begin (read c used) ≡ true
     → SetPeaksOf s (obey s c).peaks
-unfolding byte_of isBegin obey proceed
+unfolding byte_of is_begin obey proceed
 obeyed-told s (plan n p bound) used h a e = absurd (clash e refl)
 obeyed-told s (task parent work out) used h a e = absurd (clash e refl)
 obeyed-told s (activation i) used h a e = absurd (clash e refl)
@@ -170,8 +170,8 @@ obeyed-told s (done j) used h a e = absurd (clash e refl)
 obeyed-told s fetch used h a e = absurd (clash e refl)
 obeyed-told s (places bound) used h a e = absurd (clash e refl)
 
-obeyed-none : (s : State) (c : Command) (used : ℕ) → isBegin (read c used) ≡ false → (obey s c).peaks ≡ noPeaks
-unfolding byte_of isBegin obey proceed
+obeyed-none : (s : State) (c : Command) (used : ℕ) → is_begin (read c used) ≡ false → (obey s c).peaks ≡ no_peaks
+unfolding byte_of is_begin obey proceed
 obeyed-none s (plan n p bound) used e = refl
 obeyed-none s (task parent work out) used e = refl
 obeyed-none s (activation i) used e = refl
@@ -189,12 +189,12 @@ peak-holds s reached a = go (step s a)
     go : Step s a → PeakHolds s a (command s a)
     go (is-refused r) =
         record {
-          told = λ e. absurd (clash (and-true (accepted s a) (isBegin (decode a.stream a.place)) e).0 r.not-accepted);
+          told = λ e. absurd (clash (and-true (accepted s a) (is_begin (decode a.stream a.place)) e).0 r.not-accepted);
           none = λ _. ap (λ (v : Answered). v.answer.peaks) r.answered;
         }
     go (is-obeyed c used o) =
-        let is-begin : beginsDay a (command s a) ≡ isBegin (read c used)
-        = ap (λ (t : Bool). t && isBegin (decode a.stream a.place)) o.is-accepted ∙ ap isBegin o.decoded in
+        let is-begin : begins_day a (command s a) ≡ is_begin (read c used)
+        = ap (λ (t : Bool). t && is_begin (decode a.stream a.place)) o.is-accepted ∙ ap is_begin o.decoded in
         let answered : (command s a).answer.peaks ≡ (obey s c).peaks = ap (λ (v : Answered). v.answer.peaks) o.answered in
         record {
           told = λ e.
@@ -206,37 +206,37 @@ peak-holds s reached a = go (step s a)
 -- the checks of the desk leave an order of tasks, and one at least
 desk-tasks :
     (n : ℕ) (par : ℕ → ℕ) (order : List ℕ)
-    → deskGround n par order ≡ 0
+    → desk_ground n par order ≡ 0
     → (every (λ i. within i n) order ≡ true) × (1 ≤ length order)
-unfolding deskGround
+unfolding desk_ground
 desk-tasks n par order e =
     let four =
     demand-none
-    (eqb (length order) n && within n maxTasks && everyTo (λ i. leb (par i) n) n && every (λ i. within i n) order) 4
+    (eqb (length order) n && within n max_tasks && every_to (λ i. leb (par i) n) n && every (λ i. within i n) order) 4
     (demand (distinct order) 5 (demand (eqb (roots n par) 1) 7 (demand (ordered par order) 8 0))) (λ q. omega arith) e
     in
     let listed =
-    and-true (eqb (length order) n && within n maxTasks && everyTo (λ i. leb (par i) n) n) (every (λ i. within i n) order)
+    and-true (eqb (length order) n && within n max_tasks && every_to (λ i. leb (par i) n) n) (every (λ i. within i n) order)
     four.0
     in
-    let parents = and-true (eqb (length order) n && within n maxTasks) (everyTo (λ i. leb (par i) n) n) listed.0 in
-    let sized = and-true (eqb (length order) n) (within n maxTasks) parents.0 in
+    let parents = and-true (eqb (length order) n && within n max_tasks) (every_to (λ i. leb (par i) n) n) listed.0 in
+    let sized = and-true (eqb (length order) n) (within n max_tasks) parents.0 in
     let whole = eqb-true (length order) n sized.0 in
-    let low = (within-task maxTasks n sized.1).low in
+    let low = (within-task max_tasks n sized.1).low in
     (listed.1, omega arith)
 
 -- the desk
 pub desk-peak-holds :
     (records : List StepRecord) (order : List ℕ) → DeskPeakHolds records order (desk records order)
-unfolding desk deskAnswer
+unfolding desk desk_answer
 desk-peak-holds records order =
-    let n : ℕ = (deskTasks records).size in
-    let par : ℕ → ℕ = (deskTasks records).parent in
+    let n : ℕ = (desk_tasks records).size in
+    let par : ℕ → ℕ = (desk_tasks records).parent in
     record {
       told = λ e.
           (let tasks = desk-tasks n par order e in
-          rw (eq-eqb (deskGround n par order) 0 e) (sets-peak (deskTasks records) order tasks.0 tasks.1));
-      none = λ d. rw (ne_eqb (deskGround n par order) 0 d);
+          rw (eq-eqb (desk_ground n par order) 0 e) (sets-peak (desk_tasks records) order tasks.0 tasks.1));
+      none = λ d. rw (ne_eqb (desk_ground n par order) 0 d);
     }
 
 pub every-peak-holds : EveryPeakHolds

@@ -1,9 +1,9 @@
 -- "The planners' desk may ask the peak of its own list of step records, one record a step, with an activation list beside it."
 use Rattle.std.specs.Prelude.{cond, ◌&&◌, List, ◌∷◌, map, ℕ, eqb, leb, length}
 use Rattle.tree.specs.Tree.{roots, ordered}
-use Rattle.numbers.specs.Sums.{everyTo, within}
+use Rattle.numbers.specs.Sums.{every_to, within}
 use Rattle.numbers.specs.Lists.{at, every, distinct}
-use Rattle.numbers.specs.Limits.{maxTasks}
+use Rattle.numbers.specs.Limits.{max_tasks}
 use Rattle.tree.specs.Peak
 use Rattle.tree.specs.Tasks
 use Rattle.tree.specs.Tasks.{Tasks}
@@ -15,23 +15,23 @@ pub record DeskAnswer : Type 0 where
   pub peak : Peak.Peaked
 
 -- "unequal lengths, length 0 or above 1,024, a number out of limits (4); a step twice (5); 7; 8": of n tasks with these parents
-unfoldable pub deskGround : (n : ℕ) (par : ℕ → ℕ) → List ℕ → ℕ
-deskGround n par activation =
+unfoldable pub desk_ground : (n : ℕ) (par : ℕ → ℕ) → List ℕ → ℕ
+desk_ground n par activation =
     demand
     (eqb (length activation) n
-    && within n maxTasks
-    && everyTo (λ i. leb (par i) n) n
+    && within n max_tasks
+    && every_to (λ i. leb (par i) n) n
     && every (λ i. within i n) activation)
     4
     (demand (distinct activation) 5
     (demand (eqb (roots n par) 1) 7 (demand (ordered par activation) 8 0)))
 
 -- "There is no M and no 9. A refusal answers its number and peak 0", and step 0
-unfoldable pub deskAnswer : Tasks → List ℕ → DeskAnswer
-deskAnswer t activation =
+unfoldable pub desk_answer : Tasks → List ℕ → DeskAnswer
+desk_answer t activation =
     record {
-      number = deskGround t.size t.parent activation;
-      peak = cond (eqb (deskGround t.size t.parent activation) 0) (Tasks.peaked t activation) Peak.noPeak;
+      number = desk_ground t.size t.parent activation;
+      peak = cond (eqb (desk_ground t.size t.parent activation) 0) (Tasks.peaked t activation) Peak.no_peak;
     }
 
 -- "A record is parent, work and out"
@@ -45,8 +45,8 @@ unfoldable pub column : (StepRecord → ℕ) → List StepRecord → List ℕ
 column field records = 0 ∷ map field records
 
 -- the tasks of the records
-abbrev pub deskTasks : List StepRecord → Tasks
-deskTasks records =
+abbrev pub desk_tasks : List StepRecord → Tasks
+desk_tasks records =
     record {
       size = length records;
       parent = at (column (λ r. r.parent) records);
@@ -56,4 +56,4 @@ deskTasks records =
 
 -- the number and the peak with its task that the desk is answered
 unfoldable pub desk : List StepRecord → List ℕ → DeskAnswer
-desk records = deskAnswer (deskTasks records)
+desk records = desk_answer (desk_tasks records)

@@ -3,14 +3,14 @@
 use Rattle.std.specs.Prelude.{◌≡◌, true, false, List, ◌∷◌, ◌++◌, ℕ, ◌<◌}
 use Rattle.books.specs.Kind.{Kind, Each, of}
 use Rattle.numbers.specs.Sums.{Task}
-use Rattle.tree.specs.Peak.{Peaked, noPeak}
+use Rattle.tree.specs.Peak.{Peaked, no_peak}
 use Rattle.tree.specs.Tasks
 use Rattle.tree.specs.Tasks.{Tasks}
-use Rattle.rules.specs.State.{State, store_of, tasksIn}
-use Rattle.rules.specs.Grounds.{noPeaks}
+use Rattle.rules.specs.State.{State, store_of, tasks_in}
+use Rattle.rules.specs.Grounds.{no_peaks}
 use Rattle.rules.specs.Answer.{Asking, Answered, command}
-use Rattle.peaks.specs.Desk.{DeskAnswer, StepRecord, deskTasks, desk}
-use Rattle.rules.specs.Day.{beginsDay}
+use Rattle.peaks.specs.Desk.{DeskAnswer, StepRecord, desk_tasks, desk}
+use Rattle.rules.specs.Day.{begins_day}
 use Rattle.rules.specs.Reachable.{Reachable}
 
 -- the peak of an order, and the task that sets it
@@ -29,17 +29,17 @@ pub record SetsPeak (t : Tasks) (order : List ℕ) (p : Peaked) : Type 0 where
 
 -- the same of the activation order of a plan, in every store
 abbrev pub SetPeaksOf : State → Each Peaked → Type 0
-SetPeaksOf s peaks = (k : Kind) → SetsPeak (tasksIn s (store_of s k)) s.activation (of peaks k)
+SetPeaksOf s peaks = (k : Kind) → SetsPeak (tasks_in s (store_of s k)) s.activation (of peaks k)
 
 -- of what one asking is answered: BEGIN, where it is accepted, tells the peak with its task; "Where no peak is answered, the step is 0."
 pub record PeakHolds (s : State) (a : Asking) (r : Answered) : Type 0 where
-  pub told : beginsDay a r ≡ true → SetPeaksOf s r.answer.peaks
-  pub none : beginsDay a r ≡ false → r.answer.peaks ≡ noPeaks
+  pub told : begins_day a r ≡ true → SetPeaksOf s r.answer.peaks
+  pub none : begins_day a r ≡ false → r.answer.peaks ≡ no_peaks
 
 -- of what the desk is answered
 pub record DeskPeakHolds (records : List StepRecord) (activation : List ℕ) (r : DeskAnswer) : Type 0 where
-  pub told : r.number ≡ 0 → SetsPeak (deskTasks records) activation r.peak
-  pub none : (r.number ≡ 0 → ⊥) → r.peak ≡ noPeak
+  pub told : r.number ≡ 0 → SetsPeak (desk_tasks records) activation r.peak
+  pub none : (r.number ≡ 0 → ⊥) → r.peak ≡ no_peak
 
 -- "Everyone who uses the peak gets both: BEGIN, the desk's own list": of every plan that commands led to, and of every list
 pub record EveryPeakHolds : Type 0 where

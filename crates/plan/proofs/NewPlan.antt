@@ -8,15 +8,15 @@ use lib.Dec.{leb}
 use lib.ListN.{length, take, replicate, length-replicate, get_or-replicate, get_or-eq_default}
 use Rattle.books.specs.Kind.{each}
 use Rattle.numbers.specs.Sums.{only}
-use Rattle.numbers.specs.Limits.{maxTasks}
+use Rattle.numbers.specs.Limits.{max_tasks}
 use Rattle.numbers.specs.Lists.{at}
 use Rattle.rules.specs.Phase
 use Rattle.rules.specs.State.{State, none}
 use Rattle.rules.specs.Reachable.{Reachable, start}
 use Rattle.numbers.proofs.Tests.{le-or-lt}
-use Rattle.words.specs.Layout.{words, headBase}
+use Rattle.words.specs.Layout.{words, head_base}
 use Rattle.words.specs.Views.{column}
-use Rattle.words.specs.Contents.{storeContents, contents}
+use Rattle.words.specs.Contents.{store_contents, contents}
 use Rattle.words.proofs.Views.{column-length}
 use Rattle.store.specs.Rows.{ZeroPast}
 use Rattle.answer.specs.Meaning.{plan_of}
@@ -36,14 +36,14 @@ new-zero {w = w} e q =
     (le-or-lt words q)
 
 module _ {w : List ℕ} (new : NewPlan w) where
-  past : (k : ℕ) → ZeroPast maxTasks (column k w)
+  past : (k : ℕ) → ZeroPast max_tasks (column k w)
   past k a h = get_or-eq_default (column k w) 0 (let l = column-length k w in omega arith)
 
   -- nothing is written in them
   pub new-blank : Blank (contents w)
-  unfolding contents storeContents
+  unfolding contents store_contents
   new-blank =
-      blank {n = maxTasks} {w = w} {w' = w} (omega arith) (new-long new)
+      blank {n = max_tasks} {w = w} {w' = w} (omega arith) (new-long new)
       (record {
         size = refl;
         rows = λ q _. new-zero new q;
@@ -58,12 +58,12 @@ module _ {w : List ℕ} (new : NewPlan w) where
         day = record { unended = past 3; standings = past 4; needs = past 7; booked = past 8; figures = past 9 };
       })
 
-  head : (k : ℕ) → at w (headBase + k) ≡ 0
-  head k = new-zero new (headBase + k)
+  head : (k : ℕ) → at w (head_base + k) ≡ 0
+  head k = new-zero new (head_base + k)
 
   -- they mean the empty plan
   pub new-empty : plan_of w ≡ none
-  unfolding contents storeContents
+  unfolding contents store_contents
   new-empty =
       λ z.
       record {
@@ -89,7 +89,7 @@ module _ {w : List ℕ} (new : NewPlan w) where
   unused l z = record { nobody = z 0; later = λ a _. z a }
 
   new-sound : Sound (contents w)
-  unfolding contents storeContents
+  unfolding contents store_contents
   new-sound =
       let b = new-blank in
       let phase = head 0 in
@@ -112,7 +112,7 @@ module _ {w : List ℕ} (new : NewPlan w) where
         given =
             record {
               unopened = λ _. given;
-              in-steps = λ e. absurd (omega arith);
+              in_steps = λ e. absurd (omega arith);
               whole = λ h. absurd (omega arith);
               some = λ h. absurd (omega arith);
             };

@@ -5,19 +5,19 @@ use mathlib.Core.List.{List}
 use Prim.Native.Nat.{ℕ, ◌≤◌, ◌<◌}
 use lib.ListN.{length}
 use borrow.Author.Tests.{lt-ltb, le-ltb}
-use Rattle.numbers.specs.Limits.{leastStarts}
+use Rattle.numbers.specs.Limits.{least_starts}
 use Rattle.rules.specs.State.{State}
 use Rattle.format.specs.Command.{Command, Decoded, refused, read, decode}
 use Rattle.rules.specs.Reachable.{Reachable, next}
 use Rattle.rules.specs.Answer as rules
 use Rattle.rules.proofs.Reaching.{is_read}
-use Rattle.codec.specs.Meaning.{commandOf, decoded}
+use Rattle.codec.specs.Meaning.{command_of, decoded}
 use Rattle.codec.specs.declared.Command as commands
 use Rattle.codec.specs.declared.Decoded as codec
 use Rattle.codec.specs.declared.Decoded.TheVariants.{Refused, Read}
 use Rattle.words.specs.Contents.{contents}
 use Rattle.answer.specs.declared.Answer.{Answer}
-use Rattle.answer.specs.Meaning.{plan_of, answeredOf}
+use Rattle.answer.specs.Meaning.{plan_of, answered_of}
 use Rattle.answer.specs.Sound.{Sound}
 use Rattle.answer.specs.ValidPlan.{ValidPlan, Obeyed, Judged, Responded, Commanded}
 use Rattle.answer.proofs.Obeying as obeying
@@ -26,7 +26,7 @@ use Rattle.answer.proofs.Obeying as obeying
 responded :
     (w : List ℕ) (d : Decoded) (list : List ℕ) (a : Answer) (w' list' : List ℕ)
     → ValidPlan w
-    → answeredOf a (contents w') list' ≡ rules.respond (plan_of w) d list
+    → answered_of a (contents w') list' ≡ rules.respond (plan_of w) d list
     → Sound (contents w')
     → ((a.number ≡ 0 → ⊥) → w' ≡ w)
     → Responded w d list a w' list'
@@ -46,7 +46,7 @@ responded w d list a w' list' valid same sound very =
 pub short-list :
     (w : List ℕ) (asking : rules.Asking) (a : Answer)
     → ValidPlan w
-    → length asking.list < leastStarts
+    → length asking.list < least_starts
     → a ≡ obeying.refused 10
     → Commanded w asking a w asking.list
 unfolding rules.respond rules.command
@@ -61,7 +61,7 @@ short-list w asking a valid short e =
             | refused k ↦ rules.refuse k (plan_of w) asking.list
             | read c used ↦ rules.judge (plan_of w) c used asking.list
           ]))
-          (sym (lt-ltb (length asking.list) leastStarts short));
+          (sym (lt-ltb (length asking.list) least_starts short));
       valid = valid;
       refused = λ _. refl;
     }
@@ -84,7 +84,7 @@ as-commanded {w = w} {asking = asking} e r =
 pub not-a-command :
     (w : List ℕ) (k : ℕ) (list : List ℕ) (a : Answer)
     → ValidPlan w
-    → leastStarts ≤ length list
+    → least_starts ≤ length list
     → a ≡ obeying.refused k
     → Responded w (refused k) list a w list
 unfolding rules.respond
@@ -92,25 +92,25 @@ not-a-command w k list a valid room e =
     responded w (refused k) list a w list valid
     (obeying.refuses (contents w) k list a e
     ∙ ap (λ (t : Bool). cond t (rules.refuse 10 (plan_of w) list) (rules.refuse k (plan_of w) list))
-    (sym (le-ltb (length list) leastStarts room)))
+    (sym (le-ltb (length list) least_starts room)))
     valid.sound (λ _. refl)
 
 -- a command that may start tasks, and one that starts none
 pub a-start :
     {w : List ℕ} {c : Command} {used : ℕ} {list list' : List ℕ} {a : Answer} {w' : List ℕ}
     → ValidPlan w
-    → leastStarts ≤ length list
+    → least_starts ≤ length list
     → Judged w c used list a w' list'
     → Responded w (read c used) list a w' list'
 a-start {w = w} {c = c} {used = used} {list = list} {list' = list'} {a = a} {w' = w'} valid room s =
     responded w (read c used) list a w' list' valid
-    (s.same ∙ sym (is_read (plan_of w) c used list (le-ltb (length list) leastStarts room))) s.sound s.refused
+    (s.same ∙ sym (is_read (plan_of w) c used list (le-ltb (length list) least_starts room))) s.sound s.refused
 
 pub no_start :
     {w : List ℕ} {c : Command} {used : ℕ} {a : Answer} {w' : List ℕ}
     → (list : List ℕ)
     → ValidPlan w
-    → leastStarts ≤ length list
+    → least_starts ≤ length list
     → Obeyed w c used a w'
     → Responded w (read c used) list a w' list
 no_start list valid room o = a-start valid room (o list)
@@ -128,8 +128,8 @@ pub as_read :
     {w : List ℕ} {asked : codec.Decoded} {c known : commands.Command} {used : ℕ} {list : List ℕ} {a : Answer} {w' list' : List ℕ}
     → asked ≡ Read c used
     → c ≡ known
-    → Responded w (read (commandOf known) used) list a w' list'
+    → Responded w (read (command_of known) used) list a w' list'
     → Responded w (decoded asked) list a w' list'
 as_read {w = w} {used = used} {list = list} {a = a} {w' = w'} {list' = list'} e f h =
     subst (λ (d : codec.Decoded). Responded w (decoded d) list a w' list') (sym e)
-    (subst (λ (k : commands.Command). Responded w (read (commandOf k) used) list a w' list') (sym f) h)
+    (subst (λ (k : commands.Command). Responded w (read (command_of k) used) list a w' list') (sym f) h)

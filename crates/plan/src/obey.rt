@@ -1,6 +1,6 @@
 // One command, asked in bytes.
 ghost use Rattle.std.specs.Prelude.{◌≤◌, length};
-ghost use Rattle.numbers.specs.Limits.{leastStarts};
+ghost use Rattle.numbers.specs.Limits.{least_starts};
 ghost use Rattle.codec.specs.Meaning.{decoded};
 ghost use Rattle.answer.specs.ValidPlan.{ValidPlan, Responded, Commanded};
 
@@ -16,7 +16,7 @@ use words::plan::Plan;
 
 // The answer to what was decoded.
 fn obey(plan: &mut [u32; Plan::WORDS], asked: Decoded, starts: &mut [u16]) -> Answer
-    requires { ValidPlan plan.old × (leastStarts ≤ length starts.old) }
+    requires { ValidPlan plan.old × (least_starts ≤ length starts.old) }
     ensures { Responded plan.old (decoded asked) starts.old result plan.new starts.new }
 {
     match asked {

@@ -51,14 +51,14 @@ impl Position {
 
     // The input ends with the bytes at hand.
     pub fn is_last(self) -> bool
-        ensures { result ≡ (position_of self).isLast }
+        ensures { result ≡ (position_of self).is_last }
     {
         self.is_last
     }
 
     // The offsets of a buffer's bytes from here on can be counted.
     pub fn is_counted(self, buffer: &[u8]) -> bool
-        ensures { result ≡ rules.isCounted (length buffer.now) (position_of self) }
+        ensures { result ≡ rules.is_counted (length buffer.now) (position_of self) }
     {
         self.offset <= u64::MAX - buffer.len() as u64
     }

@@ -6,14 +6,14 @@ use native.Mathlib.Omega.{arith}
 use Rattle.numbers.specs.Sums.{Task}
 use Rattle.tree.specs.Tree.{children, Tree}
 use Rattle.tree.specs.Peak.{peak}
-use Rattle.postorders.specs.Postorder.{childrenOf, peakLessOut, bestPostorder}
-use Rattle.tree.proofs.Orders.{sumOver}
+use Rattle.postorders.specs.Postorder.{children_of, peak_less_out, best_postorder}
+use Rattle.tree.proofs.Orders.{sum_over}
 use Rattle.tree.proofs.Peaks.{kept, peak-alone}
 use Rattle.postorders.proofs.Sorting.{sorted-taken}
 use Rattle.postorders.proofs.Siblings.{Child, children-rising, child-of}
 use Rattle.postorders.proofs.Exchange.{cost, falling-lowest}
 use Rattle.postorders.proofs.Subtrees.{Finishes}
-use Rattle.postorders.proofs.Levels.{foundKey, foundChildren, found-permuted, child-low, found-finishes}
+use Rattle.postorders.proofs.Levels.{found_key, found_children, found-permuted, child-low, found-finishes}
 use Rattle.postorders.proofs.FinishedOrders.{subtree-left, finishes-subtree}
 use Rattle.postorders.proofs.Costs.{Costs, CostsBefore, kept-child, costs-alone, each-costs, given-costs, node-costs}
 
@@ -79,10 +79,10 @@ module _ (n : ℕ) (par work out rank : ℕ → ℕ) (tree : Tree n par rank) wh
       → Task n i
       → rank i < suc most
       → Child n par i c
-      → Costs n par work out (bestPostorder most n par work out c) (peak n par work out (bestPostorder most n par work out c)) (out c)
-      × (out c ≤ peak n par work out (bestPostorder most n par work out c))
+      → Costs n par work out (best_postorder most n par work out c) (peak n par work out (best_postorder most n par work out c)) (out c)
+      × (out c ≤ peak n par work out (best_postorder most n par work out c))
   found-costs most i c t h child =
-      child-costs most i c (bestPostorder most n par work out c) t child
+      child-costs most i c (best_postorder most n par work out c) t child
       (found-finishes n par work out rank tree most c child.task (child-low n par rank tree most i c t h child))
 
   -- the peak of the order found: its children's orders in their sequence, and the task
@@ -90,20 +90,20 @@ module _ (n : ℕ) (par work out rank : ℕ → ℕ) (tree : Tree n par rank) wh
       (most i : ℕ)
       → Task n i
       → rank i < suc most
-      → peak n par work out (bestPostorder (suc most) n par work out i)
-      ≡ max (cost (λ c. peak n par work out (bestPostorder most n par work out c)) out (foundChildren most n par work out i))
+      → peak n par work out (best_postorder (suc most) n par work out i)
+      ≡ max (cost (λ c. peak n par work out (best_postorder most n par work out c)) out (found_children most n par work out i))
       (children n par out i + work i + out i)
-  unfolding bestPostorder
+  unfolding best_postorder
   found-peak most i t h =
-      let best : ℕ → ℕ = λ c. peak n par work out (bestPostorder most n par work out c) in
-      let s = foundChildren most n par work out i in
+      let best : ℕ → ℕ = λ c. peak n par work out (best_postorder most n par work out c) in
+      let s = found_children most n par work out i in
       let permuted = found-permuted n par work out most i in
-      let given : CostsBefore n par work out (flat_map (bestPostorder most n par work out) s) (cost best out s) (sumOver out s)
-      = given-costs n par work out (bestPostorder most n par work out) best s
+      let given : CostsBefore n par work out (flat_map (best_postorder most n par work out) s) (cost best out s) (sum_over out s)
+      = given-costs n par work out (best_postorder most n par work out) best s
       (λ c e. (found-costs most i c t h (child-of n par i s permuted c e)).0) in
-      costs-peak (suc most) i (bestPostorder (suc most) n par work out i) (max (cost best out s) (children n par out i + work i + out i))
+      costs-peak (suc most) i (best_postorder (suc most) n par work out i) (max (cost best out s) (children n par out i + work i + out i))
       (kept par out i) t (found-finishes n par work out rank tree (suc most) i t h)
-      (node-costs n par work out i s (flat_map (bestPostorder most n par work out) s) (cost best out s) permuted given)
+      (node-costs n par work out i s (flat_map (best_postorder most n par work out) s) (cost best out s) permuted given)
 
 -- no order that finishes each subtree has a lower peak than the order found
 pub lowest :
@@ -114,13 +114,13 @@ pub lowest :
     → rank i < most
     → (l : List ℕ)
     → Finishes most n par i l
-    → peak n par work out (bestPostorder most n par work out i) ≤ peak n par work out l
-unfolding Finishes peakLessOut
+    → peak n par work out (best_postorder most n par work out i) ≤ peak n par work out l
+unfolding Finishes peak_less_out
 lowest n par work out rank tree zero i t h l f = absurd f
 lowest n par work out rank tree (suc most) i t h l f =
-    let best : ℕ → ℕ = λ c. peak n par work out (bestPostorder most n par work out c) in
+    let best : ℕ → ℕ = λ c. peak n par work out (best_postorder most n par work out c) in
     let cs = f.0 in
-    let s = foundChildren most n par work out i in
+    let s = found_children most n par work out i in
     let last = children n par out i + work i + out i in
     let permuted = found-permuted n par work out most i in
     let q =
@@ -136,7 +136,7 @@ lowest n par work out rank tree (suc most) i t h l f =
     = costs-peak n par work out rank tree (suc most) i l (max q.0 last) (kept par out i) t f
     (rw f.4 (node-costs n par work out i cs f.1 q.0 f.2 q.1)) in
     let sorted : cost best out s ≤ cost best out cs
-    = falling-lowest best out s cs (sorted-taken (foundKey most n par work out) (childrenOf n par i) (children-rising n par i))
+    = falling-lowest best out s cs (sorted-taken (found_key most n par work out) (children_of n par i) (children-rising n par i))
     (λ c e. (found-costs n par work out rank tree most i c t h (child-of n par i s permuted c e)).1)
     permuted.once (λ c. sym (permuted.same c) ∙ f.2.same c) f.2.once in
     omega (arith, q.2, found-peak n par work out rank tree most i t h)

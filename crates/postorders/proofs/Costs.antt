@@ -8,8 +8,8 @@ use native.Mathlib.Omega.{arith}
 use borrow.Author.Tests.{ne_eqb}
 use Rattle.numbers.specs.Lists.{mem}
 use Rattle.tree.specs.Tree.{children}
-use Rattle.postorders.specs.Postorder.{childrenOf}
-use Rattle.tree.proofs.Orders.{mem-here, mem-more, sumOver}
+use Rattle.postorders.specs.Postorder.{children_of}
+use Rattle.tree.proofs.Orders.{mem-here, mem-more, sum_over}
 use Rattle.tree.proofs.Peaks.{kept, running}
 use Rattle.postorders.proofs.Subtrees.{FinishesEach}
 use Rattle.postorders.proofs.Exchange.{cost}
@@ -67,14 +67,14 @@ module _ (n : ℕ) (par work out : ℕ → ℕ) where
       (P : ℕ → List ℕ → Type 0) (best : ℕ → ℕ) (cs l : List ℕ)
       → ((c : ℕ) (a : List ℕ) → mem c cs ≡ true → P c a → (p : ℕ) × Costs n par work out a p (out c) × (best c ≤ p))
       → FinishesEach P cs l
-      → (q : ℕ) × CostsBefore n par work out l q (sumOver out cs) × (cost best out cs ≤ q)
-  unfolding FinishesEach sumOver cost
+      → (q : ℕ) × CostsBefore n par work out l q (sum_over out cs) × (cost best out cs ≤ q)
+  unfolding FinishesEach sum_over cost
   each-costs P best [] l each f = (0, rw f costs-none, omega arith)
   each-costs P best (c ∷ cs) l each f =
       let one = each c f.0 (mem-here c c cs refl) f.3 in
       let rest = each-costs P best cs f.1 (λ d a e. each d a (mem-more d c cs e)) f.4 in (
         max one.0 (out c + rest.0),
-        rw f.2 (costs-more f.0 f.1 one.0 (out c) rest.0 (sumOver out cs) one.1 rest.1),
+        rw f.2 (costs-more f.0 f.1 one.0 (out c) rest.0 (sum_over out cs) one.1 rest.1),
         omega (arith, one.2, rest.2),
       )
 
@@ -82,23 +82,23 @@ module _ (n : ℕ) (par work out : ℕ → ℕ) where
   pub given-costs :
       (f : ℕ → List ℕ) (p : ℕ → ℕ) (cs : List ℕ)
       → ((c : ℕ) → mem c cs ≡ true → Costs n par work out (f c) (p c) (out c))
-      → CostsBefore n par work out (flat_map f cs) (cost p out cs) (sumOver out cs)
-  unfolding flat_map sumOver cost
+      → CostsBefore n par work out (flat_map f cs) (cost p out cs) (sum_over out cs)
+  unfolding flat_map sum_over cost
   given-costs f p [] each = costs-none
   given-costs f p (c ∷ cs) each =
-      costs-more (f c) (flat_map f cs) (p c) (out c) (cost p out cs) (sumOver out cs) (each c (mem-here c c cs refl))
+      costs-more (f c) (flat_map f cs) (p c) (out c) (cost p out cs) (sum_over out cs) (each c (mem-here c c cs refl))
       (given-costs f p cs (λ d e. each d (mem-more d c cs e)))
 
   -- and then i
   pub node-costs :
       (i : ℕ) (cs a : List ℕ) (q : ℕ)
-      → Permuted (childrenOf n par i) cs
-      → CostsBefore n par work out a q (sumOver out cs)
+      → Permuted (children_of n par i) cs
+      → CostsBefore n par work out a q (sum_over out cs)
       → Costs n par work out (a ++ i ∷ []) (max q (children n par out i + work i + out i)) (kept par out i)
   unfolding running
   node-costs i cs a q permuted c h rest =
-      let all : sumOver out cs ≡ children n par out i = children-along n par i cs permuted out in
-      let same : running n par work out (h + sumOver out cs + kept par out i - children n par out i) rest
+      let all : sum_over out cs ≡ children n par out i = children-along n par i cs permuted out in
+      let same : running n par work out (h + sum_over out cs + kept par out i - children n par out i) rest
       ≡ running n par work out (h + kept par out i) rest
       = ap (λ k. running n par work out k rest) (omega arith) in
       ap (running n par work out h) (append_assoc a (i ∷ []) rest)

@@ -12,11 +12,11 @@ use Rattle.numbers.specs.Sums.{Task}
 use Rattle.numbers.specs.Lists.{at, mem}
 use Rattle.tree.specs.Tree.{roots, chain}
 use Rattle.rules.specs.Phase
-use Rattle.rules.specs.State.{State, rootOf}
+use Rattle.rules.specs.State.{State, root_of}
 use Rattle.rules.specs.Answer.{front}
 use Rattle.rules.specs.Reachable.{Reachable}
-use Rattle.streams.specs.Write.{Wrote, untouched, atFront}
-use Rattle.postorders.specs.Find.{allReach, found, findGround, findOrder}
+use Rattle.streams.specs.Write.{Wrote, untouched, at_front}
+use Rattle.postorders.specs.Find.{all_reach, found, find_ground, find_order}
 use Rattle.postorders.specs.FindHolds.{FoundHolds, OneRoot, Reaches, Rooted, FindHolds, EveryFindHolds}
 use Rattle.numbers.proofs.Tests.{decide, clash, same_or_not, le-or-lt}
 use Rattle.numbers.proofs.Sums.{every_one, not-every}
@@ -25,31 +25,31 @@ use Rattle.postorders.proofs.FoundOrder.{postorder-valid, found-alone, reach-soo
 
 -- one equation a branch
 module _ (s : State) (list : List ℕ) where
-  pub find-early : s.phase < Phase.orders → findOrder s list ≡ untouched 3 list
-  unfolding findOrder findGround
+  pub find-early : s.phase < Phase.orders → find_order s list ≡ untouched 3 list
+  unfolding find_order find_ground
   find-early early = rw (lt-leb Phase.orders s.phase early)
 
   pub find-several :
-      Phase.orders ≤ s.phase → (OneRoot s → ⊥) → findOrder s list ≡ untouched 7 list
-  unfolding findOrder findGround
+      Phase.orders ≤ s.phase → (OneRoot s → ⊥) → find_order s list ≡ untouched 7 list
+  unfolding find_order find_ground
   find-several given several = rw (le-leb Phase.orders s.phase given, ne_eqb (roots s.size (at s.parents)) 1 several)
 
   find-stray :
       Phase.orders ≤ s.phase
       → OneRoot s
-      → allReach s.size (at s.parents) ≡ false
-      → findOrder s list ≡ untouched 12 list
-  unfolding findOrder findGround
+      → all_reach s.size (at s.parents) ≡ false
+      → find_order s list ≡ untouched 12 list
+  unfolding find_order find_ground
   find-stray given one stray =
       rw (le-leb Phase.orders s.phase given, eq-eqb (roots s.size (at s.parents)) 1 one, stray)
 
   find-short :
       Phase.orders ≤ s.phase
       → OneRoot s
-      → allReach s.size (at s.parents) ≡ true
+      → all_reach s.size (at s.parents) ≡ true
       → length list < s.size
-      → findOrder s list ≡ untouched 11 list
-  unfolding findOrder findGround
+      → find_order s list ≡ untouched 11 list
+  unfolding find_order find_ground
   find-short given one rooted short =
       rw (
         le-leb Phase.orders s.phase given,
@@ -61,10 +61,10 @@ module _ (s : State) (list : List ℕ) where
   find-found :
       Phase.orders ≤ s.phase
       → OneRoot s
-      → allReach s.size (at s.parents) ≡ true
+      → all_reach s.size (at s.parents) ≡ true
       → s.size ≤ length list
-      → findOrder s list ≡ atFront (found s) list
-  unfolding findOrder findGround
+      → find_order s list ≡ at_front (found s) list
+  unfolding find_order find_ground
   find-found given one rooted room =
       rw (
         le-leb Phase.orders s.phase given,
@@ -75,22 +75,22 @@ module _ (s : State) (list : List ℕ) where
 
 -- the test of the chains of parents, and what it says
 module _ (s : State) where
-  pub test-reaches : allReach s.size (at s.parents) ≡ true → (i : ℕ) → Task s.size i → Reaches s i
-  unfolding allReach
+  pub test-reaches : all_reach s.size (at s.parents) ≡ true → (i : ℕ) → Task s.size i → Reaches s i
+  unfolding all_reach
   test-reaches e i t = (
     s.size,
-    every_one (λ i. mem (rootOf s) (chain s.size (at s.parents) i)) s.size i e t,
+    every_one (λ i. mem (root_of s) (chain s.size (at s.parents) i)) s.size i e t,
   )
 
   test-stray :
       Reachable s
       → OneRoot s
-      → allReach s.size (at s.parents) ≡ false
+      → all_reach s.size (at s.parents) ≡ false
       → (i : ℕ) × Task s.size i × (Reaches s i → ⊥)
-  unfolding allReach
+  unfolding all_reach
   test-stray reached one e =
       let k =
-      not-every (λ i. mem (rootOf s) (chain s.size (at s.parents) i)) s.size e in
+      not-every (λ i. mem (root_of s) (chain s.size (at s.parents) i)) s.size e in
       (k.0, k.1, (λ far. clash (reach-soon s reached one k.0 k.1 far) k.2))
 
 -- the five cases
@@ -98,9 +98,9 @@ by-case :
     {A : Type 0} (s : State) (list : List ℕ)
     → (s.phase < Phase.orders → A)
     → (Phase.orders ≤ s.phase → (OneRoot s → ⊥) → A)
-    → (Phase.orders ≤ s.phase → OneRoot s → allReach s.size (at s.parents) ≡ false → A)
-    → (Rooted s → allReach s.size (at s.parents) ≡ true → length list < s.size → A)
-    → (Rooted s → allReach s.size (at s.parents) ≡ true → s.size ≤ length list → A)
+    → (Phase.orders ≤ s.phase → OneRoot s → all_reach s.size (at s.parents) ≡ false → A)
+    → (Rooted s → all_reach s.size (at s.parents) ≡ true → length list < s.size → A)
+    → (Rooted s → all_reach s.size (at s.parents) ≡ true → s.size ≤ length list → A)
     → A
 by-case s list early several stray short granted =
     ⊎_elim
@@ -108,11 +108,11 @@ by-case s list early several stray short granted =
     ⊎_elim
     (λ one.
     ⊎_elim
-    (λ (e : allReach s.size (at s.parents) ≡ true).
+    (λ (e : all_reach s.size (at s.parents) ≡ true).
     let rooted : Rooted s = record { whole = given; one = one; reach = test-reaches s e } in
     ⊎_elim (granted rooted e) (short rooted e) (le-or-lt s.size (length list)))
     (stray given one)
-    (decide (allReach s.size (at s.parents))))
+    (decide (all_reach s.size (at s.parents))))
     (several given)
     (same_or_not (roots s.size (at s.parents)) 1))
     early
@@ -149,8 +149,8 @@ front-holds :
     → Rooted s
     → s.size ≤ length list
     → FoundHolds s (found s)
-    → FindHolds s list (atFront (found s) list)
-unfolding atFront front
+    → FindHolds s list (at_front (found s) list)
+unfolding at_front front
 front-holds s list rooted room holds =
     let long : length (found s) ≡ s.size = (postorder-valid s (found s) holds.kind).whole in
     let taken = take_at (found s) (drop (length (found s)) list) s.size long in
@@ -169,7 +169,7 @@ front-holds s list rooted room holds =
       long = rw (length-append, length-drop) (omega arith);
     }
 
-list-holds : (s : State) → Reachable s → (list : List ℕ) → FindHolds s list (findOrder s list)
+list-holds : (s : State) → Reachable s → (list : List ℕ) → FindHolds s list (find_order s list)
 list-holds s reached list =
     by-case s list
     (λ early.

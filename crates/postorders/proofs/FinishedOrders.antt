@@ -7,7 +7,7 @@ use Prim.Native.Nat.{ℕ, zero, suc}
 use Rattle.numbers.specs.Sums.{Task}
 use Rattle.numbers.specs.Lists.{mem, distinct}
 use Rattle.tree.specs.Tree.{roots, Valid, Tree, up}
-use Rattle.postorders.specs.Postorder.{childrenOf}
+use Rattle.postorders.specs.Postorder.{children_of}
 use Rattle.numbers.proofs.Tests.{decide, clash, fails, same_or_not, or-none}
 use Rattle.tree.proofs.Orders.{nobody, mem-one, mem-none, mem-here, mem-later, mem-rest, mem-more, mem-out, mem-append, mem-both, mem-left, mem-right, every-within, distinct_cons, distinct-join, distinct_snoc, place-ahead, length-all, Rises, rises-first, rises-second, rises-ordered}
 use Rattle.tree.proofs.Turns.{Left}
@@ -125,7 +125,7 @@ module _ (n : ℕ) (par rank : ℕ → ℕ) (tree : Tree n par rank) (i : ℕ) (
       (each-subtree P each cs f.1 later fresh.later f.4))
 
   -- of all its children, and then i
-  module _ (cs a : List ℕ) (permuted : Permuted (childrenOf n par i) cs) (parts : Subtrees n par i cs a) where
+  module _ (cs a : List ℕ) (permuted : Permuted (children_of n par i) cs) (parts : Subtrees n par i cs a) where
     -- whoever is below i stands in a
     below_in : (k : ℕ) → Task n k → mem k a ≡ up n par i (par k)
     below_in k t =

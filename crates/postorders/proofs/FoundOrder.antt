@@ -15,14 +15,14 @@ use Rattle.numbers.specs.Lists.{at, mem, place}
 use Rattle.tree.specs.Peak.{peak}
 use Rattle.tree.specs.Tree.{roots, root, chain, Valid, Tree}
 use Rattle.rules.specs.Phase
-use Rattle.rules.specs.State.{State, rootOf}
+use Rattle.rules.specs.State.{State, root_of}
 use Rattle.format.specs.Command.{activation, begin}
-use Rattle.rules.specs.Grounds.{noExecution, in_turn, peakOf, peakIn, fitsIn, demand, ownGround, ground}
-use Rattle.rules.specs.Obey.{withOrders}
+use Rattle.rules.specs.Grounds.{no_execution, in_turn, peak_of, peak_in, fits_in, demand, own_ground, ground_for}
+use Rattle.rules.specs.Obey.{with_orders}
 use Rattle.rules.specs.Reachable.{Reachable}
-use Rattle.postorders.specs.Postorder.{bestPostorder}
-use Rattle.postorders.specs.Find.{foundBelow, found, findGround, findOrder}
-use Rattle.postorders.specs.FindHolds.{Together, IsPostorder, peakBy, peakLessOutOf, SameTasks, Part, BeginsUnlessNoneFits, FoundHolds, OneRoot, Reaches, Rooted}
+use Rattle.postorders.specs.Postorder.{best_postorder}
+use Rattle.postorders.specs.Find.{found_below, found, find_ground, find_order}
+use Rattle.postorders.specs.FindHolds.{Together, IsPostorder, peak_by, peak_less_out_of, SameTasks, Part, BeginsUnlessNoneFits, FoundHolds, OneRoot, Reaches, Rooted}
 use Rattle.numbers.proofs.Tests.{le-or-lt, or_left, or_right}
 use Rattle.tree.proofs.Orders.{every-within, length-all, each-once}
 use Rattle.tree.proofs.Roots.{root-task, root-parent}
@@ -34,7 +34,7 @@ use Rattle.postorders.proofs.Sorting.{Ahead}
 use Rattle.postorders.proofs.FinishedOrders.{Subtree, subtree-valid}
 use Rattle.postorders.proofs.TogetherOrders.{together-finishes}
 use Rattle.postorders.proofs.BestOrder as best
-use Rattle.postorders.proofs.Levels.{foundKey}
+use Rattle.postorders.proofs.Levels.{found_key}
 use Rattle.postorders.proofs.Taking.{found-subtree, found_part, found-together, taken-ahead}
 use Rattle.postorders.proofs.Ascending.{reaches-soon, nearness, reached-tree}
 
@@ -45,17 +45,17 @@ module _ (n : ℕ) (par work out : ℕ → ℕ) (inside : (i : ℕ) → Task n i
   tree = reached-tree n par inside (root n par) (root-task n par one) (root-parent n par one) reach
 
   -- the order found is one of the root's subtree
-  of-root : Subtree n par (root n par) (bestPostorder n n par work out (root n par))
+  of-root : Subtree n par (root n par) (best_postorder n n par work out (root n par))
   of-root = found-subtree n par work out (nearness n par (root n par)) tree (root n par) (root-task n par one)
 
   -- so it is valid
-  found-valid : Valid n par (bestPostorder n n par work out (root n par))
+  found-valid : Valid n par (best_postorder n n par work out (root n par))
   found-valid =
       subtree-valid n par (nearness n par (root n par)) tree one (root n par) (root-task n par one)
-      (root-parent n par one) (bestPostorder n n par work out (root n par)) of-root
+      (root-parent n par one) (best_postorder n n par work out (root n par)) of-root
 
   -- each subtree stands together in it
-  found-stands : Together n par (bestPostorder n n par work out (root n par))
+  found-stands : Together n par (best_postorder n n par work out (root n par))
   found-stands =
       found-together n par work out (nearness n par (root n par)) tree one (root n par) (root-task n par one)
       (root-parent n par one)
@@ -65,7 +65,7 @@ module _ (n : ℕ) (par work out : ℕ → ℕ) (inside : (i : ℕ) → Task n i
       (l : List ℕ)
       → Valid n par l
       → Together n par l
-      → peak n par work out (bestPostorder n n par work out (root n par)) ≤ peak n par work out l
+      → peak n par work out (best_postorder n n par work out (root n par)) ≤ peak n par work out l
   found-lowest l valid together =
       let r = root n par in
       let task = root-task n par one in
@@ -73,7 +73,7 @@ module _ (n : ℕ) (par work out : ℕ → ℕ) (inside : (i : ℕ) → Task n i
       (together-finishes n par inside one r task (root-parent n par one) l valid together)
 
   -- the order found for each task is a part of it
-  found-parts : (i : ℕ) → Task n i → Part (bestPostorder n n par work out i) (bestPostorder n n par work out (root n par))
+  found-parts : (i : ℕ) → Task n i → Part (best_postorder n n par work out i) (best_postorder n n par work out (root n par))
   found-parts =
       found_part n par work out (nearness n par (root n par)) tree one (root n par) (root-task n par one)
       (root-parent n par one)
@@ -84,8 +84,8 @@ module _ (n : ℕ) (par work out : ℕ → ℕ) (inside : (i : ℕ) → Task n i
       → Task n c
       → Task n d
       → par c ≡ par d
-      → Ahead (foundKey n n par work out) c d
-      → place c (bestPostorder n n par work out (root n par)) < place d (bestPostorder n n par work out (root n par))
+      → Ahead (found_key n n par work out) c d
+      → place c (best_postorder n n par work out (root n par)) < place d (best_postorder n n par work out (root n par))
   found-taken =
       taken-ahead n par work out (nearness n par (root n par)) tree one (root n par)
       (root-task n par one) (root-parent n par one) of-root.once
@@ -111,12 +111,12 @@ module _ (s t : State) (same : SameTasks s t) where
         together = rw (same.size, same.parents) at kind.together;
       }
 
-  peak-of : (l : List ℕ) → peakBy t l ≡ peakBy s l
+  peak-of : (l : List ℕ) → peak_by t l ≡ peak_by s l
   peak-of l = rw (same.size, same.parents, same.works, same.outs) refl
 
   pub found-alone :
-      Phase.orders ≤ s.phase → Phase.orders ≤ t.phase → (list : List ℕ) → findOrder t list ≡ findOrder s list
-  unfolding findOrder findGround found foundBelow
+      Phase.orders ≤ s.phase → Phase.orders ≤ t.phase → (list : List ℕ) → find_order t list ≡ find_order s list
+  unfolding find_order find_ground found found_below
   found-alone whole whole' list =
       rw (
         le-leb Phase.orders s.phase whole,
@@ -138,24 +138,24 @@ module _ (s : State) (reached : Reachable s) where
       → (i : ℕ)
       → Task s.size i
       → Reaches s i
-      → mem (rootOf s) (chain s.size (at s.parents) i) ≡ true
+      → mem (root_of s) (chain s.size (at s.parents) i) ≡ true
   reach-soon one i t far =
-      reaches-soon s.size (at s.parents) parents-inside (rootOf s)
+      reaches-soon s.size (at s.parents) parents-inside (root_of s)
       (root-task s.size (at s.parents) one) far.0 i t far.1
 
 module _ (s : State) (reached : Reachable s) (rooted : Rooted s) where
   all-reach :
-      (i : ℕ) → Task s.size i → mem (rootOf s) (chain s.size (at s.parents) i) ≡ true
+      (i : ℕ) → Task s.size i → mem (root_of s) (chain s.size (at s.parents) i) ≡ true
   all-reach i t = reach-soon s reached rooted.one i t (rooted.reach i t)
 
   valid : Valid s.size (at s.parents) (found s)
-  unfolding found foundBelow
+  unfolding found found_below
   valid =
       found-valid s.size (at s.parents) (at s.stores.chilled.works) (at s.stores.chilled.outs) (parents-inside s reached)
       rooted.one all-reach
 
   found-kind : IsPostorder s (found s)
-  unfolding found foundBelow
+  unfolding found found_below
   found-kind =
       record {
         each = each-once s.size (found s) valid.inside valid.once valid.whole;
@@ -165,14 +165,14 @@ module _ (s : State) (reached : Reachable s) (rooted : Rooted s) where
             rooted.one all-reach;
       }
 
-  lowest-of-kind : (l : List ℕ) → IsPostorder s l → peakBy s (found s) ≤ peakBy s l
-  unfolding found foundBelow
+  lowest-of-kind : (l : List ℕ) → IsPostorder s l → peak_by s (found s) ≤ peak_by s l
+  unfolding found found_below
   lowest-of-kind l kind =
       found-lowest s.size (at s.parents) (at s.stores.chilled.works) (at s.stores.chilled.outs) (parents-inside s reached)
       rooted.one all-reach l (postorder-valid s l kind) kind.together
 
-  parts : (i : ℕ) → Task s.size i → Part (foundBelow s i) (found s)
-  unfolding found foundBelow
+  parts : (i : ℕ) → Task s.size i → Part (found_below s i) (found s)
+  unfolding found found_below
   parts =
       found-parts s.size (at s.parents) (at s.stores.chilled.works) (at s.stores.chilled.outs) (parents-inside s reached)
       rooted.one all-reach
@@ -182,9 +182,9 @@ module _ (s : State) (reached : Reachable s) (rooted : Rooted s) where
       → Task s.size c
       → Task s.size d
       → at s.parents c ≡ at s.parents d
-      → Ahead (peakLessOutOf s) c d
+      → Ahead (peak_less_out_of s) c d
       → place c (found s) < place d (found s)
-  unfolding found foundBelow
+  unfolding found found_below
   goes-ahead =
       found-taken s.size (at s.parents) (at s.stores.chilled.works) (at s.stores.chilled.outs) (parents-inside s reached)
       rooted.one all-reach
@@ -193,11 +193,11 @@ module _ (s : State) (reached : Reachable s) (rooted : Rooted s) where
   found-leads :
       s.phase ≡ Phase.orders
       → s.activation ≡ []
-      → Leads s (map activation (found s)) (withOrders s (found s) s.execution)
-  unfolding withOrders
+      → Leads s (map activation (found s)) (with_orders s (found s) s.execution)
+  unfolding with_orders
   found-leads now none =
-      subst (λ (t : State). Leads t (map activation (found s)) (withOrders s (found s) s.execution))
-      (ap (λ (l : List ℕ). withOrders s l s.execution) (sym none))
+      subst (λ (t : State). Leads t (map activation (found s)) (with_orders s (found s) s.execution))
+      (ap (λ (l : List ℕ). with_orders s l s.execution) (sym none))
       (activations-lead s (found s) s.execution now (lives reached).formed.sized
       (record { inside = valid.inside; once = valid.once; whole = valid.whole }))
 
@@ -210,16 +210,16 @@ module _ (s : State) (reached : Reachable s) (rooted : Rooted s) where
     found_turn now executed =
         begin-in-turn t now (ap (λ (l : List ℕ). length l) given ∙ valid.whole ∙ sym same.size)
         (⊎_elim
-        (λ none. or_right (eqb (length t.execution) t.size) (noExecution t) (rw none refl))
-        (λ full. or_left (eqb (length t.execution) t.size) (noExecution t) (eq-eqb (length t.execution) t.size full))
+        (λ none. or_right (eqb (length t.execution) t.size) (no_execution t) (rw none refl))
+        (λ full. or_left (eqb (length t.execution) t.size) (no_execution t) (eq-eqb (length t.execution) t.size full))
         executed)
 
     -- the grounds for BEGIN
     found-ground :
         (b : Bool)
-        → leb (peakBy s (found s)) t.stores.chilled.bound ≡ b
-        → ownGround t begin ≡ demand b 9 0
-    unfolding ownGround peakOf peakIn fitsIn all
+        → leb (peak_by s (found s)) t.stores.chilled.bound ≡ b
+        → own_ground t begin ≡ demand b 9 0
+    unfolding own_ground peak_of peak_in fits_in all
     found-ground b fits =
         rw (
           same.size,
@@ -233,20 +233,20 @@ module _ (s : State) (reached : Reachable s) (rooted : Rooted s) where
         )
         refl
 
-    found-begins : in_turn t begin ≡ true → BeginsUnlessNoneFits t (ground t begin)
+    found-begins : in_turn t begin ≡ true → BeginsUnlessNoneFits t (ground_for t begin)
     found-begins turn =
         let own = begin-ground t turn in
         ⊎_elim
-        (λ low. inl (own ∙ found-ground true (le-leb (peakBy s (found s)) t.stores.chilled.bound low)))
+        (λ low. inl (own ∙ found-ground true (le-leb (peak_by s (found s)) t.stores.chilled.bound low)))
         (λ high.
         inr (
-          own ∙ found-ground false (lt-leb (peakBy s (found s)) t.stores.chilled.bound high),
+          own ∙ found-ground false (lt-leb (peak_by s (found s)) t.stores.chilled.bound high),
           (λ l kind. let h = lowest-of-kind l (kind-of s t same l kind) in let e = peak-of s t same l in omega arith),
         ))
-        (le-or-lt (peakBy s (found s)) t.stores.chilled.bound)
+        (le-or-lt (peak_by s (found s)) t.stores.chilled.bound)
 
   pub found-holds : FoundHolds s (found s)
-  unfolding withOrders
+  unfolding with_orders
   found-holds =
       record {
         kind = found-kind;

@@ -4,7 +4,7 @@ use mathlib.Core.Bool.{true}
 use mathlib.Core.List.{List, [], ◌∷◌, ◌++◌, flat_map}
 use Prim.Native.Nat.{ℕ, zero, suc}
 use Rattle.numbers.specs.Lists.{mem}
-use Rattle.postorders.specs.Postorder.{childrenOf}
+use Rattle.postorders.specs.Postorder.{children_of}
 use Rattle.tree.proofs.Orders.{mem-here, mem-more}
 use Rattle.postorders.proofs.Sorting.{Permuted}
 
@@ -19,7 +19,7 @@ Finishes zero n par i l = ⊥
 Finishes (suc most) n par i l =
     (cs : List ℕ)
     × (a : List ℕ)
-    × Permuted (childrenOf n par i) cs
+    × Permuted (children_of n par i) cs
     × FinishesEach (Finishes most n par) cs a
     × (l ≡ a ++ i ∷ [])
 

@@ -9,7 +9,7 @@ use lib.ListN.{length, get_or, length-append, get_or-append}
 use lib.Seq.{get_or-append_seam, get_or-append-add}
 use Rattle.numbers.specs.Sums.{Task}
 use Rattle.numbers.specs.Lists.{mem, distinct, place}
-use Rattle.tree.specs.Tree.{Valid, Tree, up, rankIn}
+use Rattle.tree.specs.Tree.{Valid, Tree, up, rank_in}
 use Rattle.postorders.specs.FindHolds.{Together}
 use Rattle.numbers.proofs.Tests.{decide, fails}
 use Rattle.tree.proofs.Orders.{mem-here, mem-more, mem-rest, mem-append, mem-right, distinct_cons, Apart, distinct_append, place-lt, place_at, place-ahead}
@@ -44,21 +44,21 @@ module _ (n : ℕ) (par : ℕ → ℕ) (order : List ℕ) (valid : Valid n par o
     place-front : (y : ℕ) → mem y pre ≡ true → place y order < place x order
     place-front y m = rw e (place-ahead pre (x ∷ s) y x (rw e at valid.once) m (mem-here x x s refl))
 
-module _ (n : ℕ) (par : ℕ → ℕ) (order : List ℕ) (valid : Valid n par order) (tree : Tree n par (rankIn order)) where
+module _ (n : ℕ) (par : ℕ → ℕ) (order : List ℕ) (valid : Valid n par order) (tree : Tree n par (rank_in order)) where
   module _ (pre : List ℕ) (x : ℕ) (s : List ℕ) (e : order ≡ pre ++ x ∷ s) where
     -- whoever stands behind x is not below it
     pub behind-not-below : (y : ℕ) → mem y s ≡ true → up n par x y ≡ false
     behind-not-below y m =
         fails (up n par x y)
         (λ h.
-        let r : place y order ≤ place x order = (up-rank n par (rankIn order) tree x y (task-behind n par order valid pre x s e y m) h).1 in
+        let r : place y order ≤ place x order = (up-rank n par (rank_in order) tree x y (task-behind n par order valid pre x s e y m) h).1 in
         let q = place-behind n par order valid pre x s e y m in
         omega arith)
 
     -- whoever stands above x stands behind it
     pub above-behind : (c : ℕ) → up n par c x ≡ true → (c ≡ x → ⊥) → mem c s ≡ true
     above-behind c h d =
-        let a = up-rank n par (rankIn order) tree c x (entry n par order valid pre x s e) h in
+        let a = up-rank n par (rank_in order) tree c x (entry n par order valid pre x s e) h in
         let r : place x order ≤ place c order = a.1 in
         let m : mem c order ≡ true = stands n par order valid c a.0 in
         ⊎_elim (λ (f : mem c pre ≡ true). let q = place-front n par order valid pre x s e c f in absurd (omega arith))
@@ -98,4 +98,4 @@ module _ (n : ℕ) (par : ℕ → ℕ) (order : List ℕ) (valid : Valid n par o
         ∙ together c (length pre) (length pre + suc (place y m)) (length pre + suc (length m)) u (omega arith) (omega arith)
         (omega arith)
         (ap (λ (z : ℕ). up n par c z) at_x ∙ h)
-        (ap (λ (z : ℕ). up n par c z) at_c ∙ up-self n par (rankIn order) tree c u)
+        (ap (λ (z : ℕ). up n par c z) at_c ∙ up-self n par (rank_in order) tree c u)

@@ -6,15 +6,15 @@ use Rattle.numbers.specs.Lists.{at, mem, place}
 use Rattle.tree.specs.Tree.{EachOnce, roots, ordered, chain, up}
 use Rattle.tree.specs.Tasks
 use Rattle.rules.specs.Phase
-use Rattle.rules.specs.State.{State, rootOf, tasksIn}
+use Rattle.rules.specs.State.{State, root_of, tasks_in}
 use Rattle.format.specs.Command.{activation, begin}
-use Rattle.rules.specs.Grounds.{in_turn, ground}
-use Rattle.rules.specs.Obey.{withOrders}
-use Rattle.streams.specs.Stream.{acceptsAll, obeyAll}
+use Rattle.rules.specs.Grounds.{in_turn, ground_for}
+use Rattle.rules.specs.Obey.{with_orders}
+use Rattle.streams.specs.Stream.{accepts_all, obey_all}
 use Rattle.rules.specs.Reachable.{Reachable}
-use Rattle.postorders.specs.Postorder.{peakLessOut}
+use Rattle.postorders.specs.Postorder.{peak_less_out}
 use Rattle.streams.specs.Write.{Wrote}
-use Rattle.postorders.specs.Find.{foundBelow, found, findOrder}
+use Rattle.postorders.specs.Find.{found_below, found, find_order}
 
 -- an order finishes each subtree before it turns to its neighbour: between two tasks of a subtree stand only tasks of it
 abbrev pub Together : (n : ℕ) (par : ℕ → ℕ) (order : List ℕ) → Type 0
@@ -36,13 +36,13 @@ pub record IsPostorder (s : State) (order : List ℕ) : Type 0 where
   pub together : Together s.size (at s.parents) order
 
 -- the peak of an order
-abbrev pub peakBy : State → List ℕ → ℕ
-peakBy s = Tasks.peak (tasksIn s s.stores.chilled)
+abbrev pub peak_by : State → List ℕ → ℕ
+peak_by s = Tasks.peak (tasks_in s s.stores.chilled)
 
 -- "(subtree peak less out)" of a task
-abbrev pub peakLessOutOf : State → ℕ → ℕ
-peakLessOutOf s c =
-    peakLessOut s.size (at s.parents) (at s.stores.chilled.works) (at s.stores.chilled.outs) (foundBelow s c) c
+abbrev pub peak_less_out_of : State → ℕ → ℕ
+peak_less_out_of s c =
+    peak_less_out s.size (at s.parents) (at s.stores.chilled.works) (at s.stores.chilled.outs) (found_below s c) c
 
 -- two plans of the same tasks: their places, processors, orders and days may differ
 pub record SameTasks (s t : State) : Type 0 where
@@ -60,22 +60,22 @@ pub record Part (l m : List ℕ) : Type 0 where
 -- the number for BEGIN is 0, or 9 and no order of that kind is within the bound
 abbrev pub BeginsUnlessNoneFits : State → ℕ → Type 0
 BeginsUnlessNoneFits s number =
-    (number ≡ 0) ⊎ ((number ≡ 9) × ((l : List ℕ) → IsPostorder s l → s.stores.chilled.bound < peakBy s l))
+    (number ≡ 0) ⊎ ((number ≡ 9) × ((l : List ℕ) → IsPostorder s l → s.stores.chilled.bound < peak_by s l))
 
 -- of the order that is found
 pub record FoundHolds (s : State) (order : List ℕ) : Type 0 where
   -- it is of that kind, and "no order of that kind has a lower peak"
   pub kind : IsPostorder s order
-  pub lowest : (l : List ℕ) → IsPostorder s l → peakBy s order ≤ peakBy s l
+  pub lowest : (l : List ℕ) → IsPostorder s l → peak_by s order ≤ peak_by s l
   -- the order that is found for the subtree of a task is a part of it
-  pub part : (i : ℕ) → Task s.size i → Part (foundBelow s i) order
+  pub part : (i : ℕ) → Task s.size i → Part (found_below s i) order
   -- "taking children by falling (subtree peak less out)"
   pub falling :
       (c d : ℕ)
       → Task s.size c
       → Task s.size d
       → at s.parents c ≡ at s.parents d
-      → peakLessOutOf s d < peakLessOutOf s c
+      → peak_less_out_of s d < peak_less_out_of s c
       → place c order < place d order
   -- "equal ones by lower number"
   pub equal :
@@ -83,14 +83,14 @@ pub record FoundHolds (s : State) (order : List ℕ) : Type 0 where
       → Task s.size c
       → Task s.size d
       → at s.parents c ≡ at s.parents d
-      → peakLessOutOf s c ≡ peakLessOutOf s d
+      → peak_less_out_of s c ≡ peak_less_out_of s d
       → c < d
       → place c order < place d order
   -- 03 for its entries, one after another, is accepted where no 03 was given yet, and makes it the activation order
   pub given :
       s.phase ≡ Phase.orders
       → s.activation ≡ []
-      → (acceptsAll s (map activation order) ≡ true) × (obeyAll s (map activation order) ≡ withOrders s order s.execution)
+      → (accepts_all s (map activation order) ≡ true) × (obey_all s (map activation order) ≡ with_orders s order s.execution)
   -- where a plan of the same tasks has this activation order, however it came to it, BEGIN is in turn with a full execution order or none
   pub turn :
       (t : State)
@@ -105,7 +105,7 @@ pub record FoundHolds (s : State) (order : List ℕ) : Type 0 where
       → SameTasks s t
       → t.activation ≡ order
       → in_turn t begin ≡ true
-      → BeginsUnlessNoneFits t (ground t begin)
+      → BeginsUnlessNoneFits t (ground_for t begin)
 
 -- one task has parent 0: 7 is "the steps with parent 0 are not exactly one"
 abbrev pub OneRoot : State → Type 0
@@ -113,7 +113,7 @@ OneRoot s = roots s.size (at s.parents) ≡ 1
 
 -- the chain of parents of task i reaches the root, in whatever number of parents
 abbrev pub Reaches : State → ℕ → Type 0
-Reaches s i = (most : ℕ) × (mem (rootOf s) (chain most (at s.parents) i) ≡ true)
+Reaches s i = (most : ℕ) × (mem (root_of s) (chain most (at s.parents) i) ≡ true)
 
 -- all tasks are given, and there is one root, which the chain of parents of each reaches
 pub record Rooted (s : State) : Type 0 where
@@ -150,7 +150,7 @@ pub record FindHolds (s : State) (list : List ℕ) (w : Wrote) : Type 0 where
 
 -- of every plan that commands led to, and of every list
 pub record EveryFindHolds : Type 0 where
-  pub lists : (s : State) → Reachable s → (list : List ℕ) → FindHolds s list (findOrder s list)
+  pub lists : (s : State) → Reachable s → (list : List ℕ) → FindHolds s list (find_order s list)
   -- "From the steps alone": once all are given, another plan of the same tasks gets the same answer
   pub alone :
       (s t : State)
@@ -158,4 +158,4 @@ pub record EveryFindHolds : Type 0 where
       → Phase.orders ≤ s.phase
       → Phase.orders ≤ t.phase
       → (list : List ℕ)
-      → findOrder t list ≡ findOrder s list
+      → find_order t list ≡ find_order s list

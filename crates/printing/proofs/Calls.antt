@@ -31,7 +31,7 @@ given a =
 
 module _ (w : List ℕ) (asking : answers.Asking) (offset : ℕ) (is_last : Bool) {buffer : List ℕ} {r : Turned} {w' list buffer' : List ℕ}
     (taken : Taken w (rules.turn (plan_of w) asking offset is_last) buffer r w' list buffer')
-    (whole : rules.isAwaited is_last (decode asking.stream asking.place) ≡ false)
+    (whole : rules.is_awaited is_last (decode asking.stream asking.place) ≡ false)
     (some : leb (length asking.stream) asking.place ≡ false) where
   abbrev a : answers.Answered
   a = answers.command (plan_of w) asking
@@ -45,9 +45,9 @@ module _ (w : List ℕ) (asking : answers.Asking) (offset : ℕ) (is_last : Bool
   unfolding rules.answered
   state-is = taken.state ∙ ap (λ (t : rules.Turn). t.state) turn_is
 
-  list-is : list ≡ a.list
+  list_is : list ≡ a.list
   unfolding rules.answered
-  list-is = taken.starts ∙ ap (λ (t : rules.Turn). t.list) turn_is
+  list_is = taken.starts ∙ ap (λ (t : rules.Turn). t.list) turn_is
 
   -- a refusal stops the printer, which leaves the very words
   stops : (a.answer.number ≡ 0 → ⊥) → r.verdict ≡ rules.stops
@@ -55,13 +55,13 @@ module _ (w : List ℕ) (asking : answers.Asking) (offset : ℕ) (is_last : Bool
   stops d =
       taken.verdict
       ∙ ap (λ (t : rules.Turn). t.verdict) turn_is
-      ∙ ap (λ (b : Bool). cond b rules.goesOn rules.stops) (ne_eqb a.answer.number 0 d)
+      ∙ ap (λ (b : Bool). cond b rules.going_on rules.stops) (ne_eqb a.answer.number 0 d)
 
   -- all that its caller receives is what the command function ensures
   pub turn-call : Commanded w asking (given a.answer) w' list
   turn-call =
       record {
-        same = λ z. record { answer = a.answer; state = state-is z; list = list-is z };
+        same = λ z. record { answer = a.answer; state = state-is z; list = list_is z };
         valid = taken.valid;
         refused = λ d. taken.kept (λ e. let s = stops d in omega arith);
       }

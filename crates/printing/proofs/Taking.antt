@@ -6,16 +6,16 @@ use Prim.Native.Nat.{ℕ, ◌≤◌, ◌<◌}
 use native.Mathlib.Omega.{arith}
 use lib.ListN.{length}
 use borrow.Author.Tests.{le-leb, lt-leb, eq-eqb, ne_eqb}
-use Rattle.numbers.specs.Limits.{maxProcessors}
+use Rattle.numbers.specs.Limits.{max_processors}
 use Rattle.format.specs.Command.{Decoded, decode}
 use Rattle.rules.specs.Answer as rules
-use Rattle.texts.specs.Text.{acceptedLine, refusedLine}
-use Rattle.texts.specs.Printer.{goesOn, waits, stops, idle, said, answered, isAwaited, turn}
+use Rattle.texts.specs.Text.{accepted_line, refused_line}
+use Rattle.texts.specs.Printer.{going_on, waits, stops, idle, said, answered, is_awaited, turn}
 use Rattle.theorem.proofs.Askings.{asking_holds}
 use Rattle.rules.proofs.Reaching.{lives}
 use Rattle.words.specs.Contents.{contents}
 use Rattle.answer.specs.declared.Answer.{Answer}
-use Rattle.answer.specs.Meaning.{plan_of, answeredOf}
+use Rattle.answer.specs.Meaning.{plan_of, answered_of}
 use Rattle.answer.specs.ValidPlan.{ValidPlan, Commanded}
 use Rattle.lines.specs.Line.{Line}
 use Rattle.printing.specs.declared.Turned.{Turned}
@@ -43,8 +43,8 @@ module _ {w : List ℕ} {a : rules.Asking} {r : Answer} {w' list' : List ℕ} (h
     (d : Decoded) (offset : ℕ) {buffer buffer' : List ℕ} {n : ℕ} where
   -- a refused command: its line is that of its number and offset
   after-refusal : (r.number ≡ 0 → ⊥)
-      → Line (refusedLine r.number offset) 0 buffer buffer' n
-      → Taken w (answered d offset (answeredOf r (contents w') list')) buffer
+      → Line (refused_line r.number offset) 0 buffer buffer' n
+      → Taken w (answered d offset (answered_of r (contents w') list')) buffer
       (record { used = r.used; written = n; verdict = stops }) w' list' buffer'
   unfolding answered said
   after-refusal refused line =
@@ -62,10 +62,10 @@ module _ {w : List ℕ} {a : rules.Asking} {r : Answer} {w' list' : List ℕ} (h
 
   -- an accepted one: its line is that of what was decoded
   after-acceptance : r.number ≡ 0
-      → r.starts ≤ maxProcessors
-      → Line (acceptedLine d (answeredOf r (contents w') list')) r.starts buffer buffer' n
-      → Taken w (answered d offset (answeredOf r (contents w') list')) buffer
-      (record { used = r.used; written = n; verdict = goesOn }) w' list' buffer'
+      → r.starts ≤ max_processors
+      → Line (accepted_line d (answered_of r (contents w') list')) r.starts buffer buffer' n
+      → Taken w (answered d offset (answered_of r (contents w') list')) buffer
+      (record { used = r.used; written = n; verdict = going_on }) w' list' buffer'
   unfolding answered said
   after-acceptance accepted few line =
       let e = eq-eqb r.number 0 accepted in
@@ -84,7 +84,7 @@ module _ (w : List ℕ) (a : rules.Asking) (offset : ℕ) (is_last : Bool) {d : 
   -- the turn is to wait, to stop, or to ask the command
   pub waiting : (buffer : List ℕ) {awaited : Bool} {r : Turned}
       → ValidPlan w
-      → awaited ≡ isAwaited is_last d
+      → awaited ≡ is_awaited is_last d
       → awaited ≡ true
       → r ≡ record { used = 0; written = 0; verdict = waits }
       → Taken w (turn (plan_of w) a offset is_last) buffer r w a.list buffer
@@ -93,7 +93,7 @@ module _ (w : List ℕ) (a : rules.Asking) (offset : ℕ) (is_last : Bool) {d : 
 
   pub ending : (buffer : List ℕ) {awaited : Bool} {r : Turned}
       → ValidPlan w
-      → awaited ≡ isAwaited is_last d
+      → awaited ≡ is_awaited is_last d
       → awaited ≡ false
       → length a.stream ≤ a.place
       → r ≡ record { used = 0; written = 0; verdict = stops }
@@ -102,23 +102,23 @@ module _ (w : List ℕ) (a : rules.Asking) (offset : ℕ) (is_last : Bool) {d : 
   ending buffer valid e h out same =
       rw (same, ← told, ← e, h, le-leb (length a.stream) a.place out) (idled w stops a.list buffer valid)
 
-  module _ {awaited : Bool} {r : Answer} {w' list : List ℕ} (e : awaited ≡ isAwaited is_last d) (h : awaited ≡ false)
+  module _ {awaited : Bool} {r : Answer} {w' list : List ℕ} (e : awaited ≡ is_awaited is_last d) (h : awaited ≡ false)
       (more : a.place < length a.stream) (commanded : Commanded w a r w' list) where
     asked : {buffer buffer' : List ℕ} {r' : Turned}
-        → Taken w (answered d offset (answeredOf r (contents w') list)) buffer r' w' list buffer'
+        → Taken w (answered d offset (answered_of r (contents w') list)) buffer r' w' list buffer'
         → Taken w (turn (plan_of w) a offset is_last) buffer r' w' list buffer'
     unfolding turn
     asked taken = rw (← told, ← e, h, lt-leb (length a.stream) a.place more, ← commanded.same) taken
 
     pub refusing : {buffer buffer' : List ℕ} {n : ℕ}
         → (r.number ≡ 0 → ⊥)
-        → Line (refusedLine r.number offset) 0 buffer buffer' n
+        → Line (refused_line r.number offset) 0 buffer buffer' n
         → Taken w (turn (plan_of w) a offset is_last) buffer
         (record { used = r.used; written = n; verdict = stops }) w' list buffer'
     refusing refused line = asked (after-refusal commanded d offset refused line)
 
     -- no more tasks start than there can be processors
-    few : ValidPlan w → r.starts ≤ maxProcessors
+    few : ValidPlan w → r.starts ≤ max_processors
     few valid =
         rw (ap (λ (v : rules.Answered). v.answer.starts) commanded.same)
         (asking_holds (plan_of w) a (lives valid.reached).formed).fitting
@@ -126,7 +126,7 @@ module _ (w : List ℕ) (a : rules.Asking) (offset : ℕ) (is_last : Bool) {d : 
     pub accepting : {buffer buffer' : List ℕ} {n : ℕ}
         → ValidPlan w
         → r.number ≡ 0
-        → Line (acceptedLine d (answeredOf r (contents w') list)) r.starts buffer buffer' n
+        → Line (accepted_line d (answered_of r (contents w') list)) r.starts buffer buffer' n
         → Taken w (turn (plan_of w) a offset is_last) buffer
-        (record { used = r.used; written = n; verdict = goesOn }) w' list buffer'
+        (record { used = r.used; written = n; verdict = going_on }) w' list buffer'
     accepting valid accepted line = asked (after-acceptance commanded d offset accepted (few valid) line)

@@ -7,13 +7,13 @@ use native.Mathlib.Omega.{arith}
 use lib.Dec.{eqb, leb, ltb}
 use lib.ListN.{length}
 use Rattle.numbers.specs.Lists.{at}
-use Rattle.numbers.specs.Limits.{leastStarts}
+use Rattle.numbers.specs.Limits.{least_starts}
 use Rattle.rules.specs.State.{State}
 use Rattle.format.specs.Command.{Command, Form, forms, room, Decoded, refused, read, decode}
-use Rattle.rules.specs.Grounds.{ground}
+use Rattle.rules.specs.Grounds.{ground_for}
 use Rattle.rules.specs.Obey.{obey}
 use Rattle.rules.specs.Answer.{Asking, refuse, accept, judge, respond, command}
-use Rattle.texts.specs.Printer.{goesOn, waits, stops, idle, answered, isAwaited, turn}
+use Rattle.texts.specs.Printer.{going_on, waits, stops, idle, answered, is_awaited, turn}
 use Rattle.format.proofs.Bytes.{Reading, nothing_left, no_line, cut_short, in-full, reading, read-by, All, found}
 use Rattle.answer.specs.Meaning.{plan_of}
 use Rattle.printing.specs.declared.Turned.{Turned}
@@ -23,9 +23,9 @@ module _ (s : State) (list : List ℕ) (place n : ℕ) (within : place ≤ n) wh
   -- a command uses its own bytes, or none where it is refused
   judged : (c : Command) (used : ℕ) → place + used ≤ n → place + (judge s c used list).answer.used ≤ n
   unfolding judge accept refuse
-  judged c used room = go (eqb (ground s c) 0)
+  judged c used room = go (eqb (ground_for s c) 0)
     where
-      go : (t : Bool) → place + (cond t (accept (obey s c) used list) (refuse (ground s c) s list)).answer.used ≤ n
+      go : (t : Bool) → place + (cond t (accept (obey s c) used list) (refuse (ground_for s c) s list)).answer.used ≤ n
       go true = room
       go false = omega arith
 
@@ -33,7 +33,7 @@ module _ (s : State) (list : List ℕ) (place n : ℕ) (within : place ≤ n) wh
       → ((c : Command) (used : ℕ) → d ≡ read c used → place + used ≤ n)
       → place + (respond s d list).answer.used ≤ n
   unfolding respond refuse
-  responded d room = go (ltb (length list) leastStarts) d room
+  responded d room = go (ltb (length list) least_starts) d room
     where
       go : (t : Bool) (d : Decoded)
           → ((c : Command) (used : ℕ) → d ≡ read c used → place + used ≤ n)
@@ -48,7 +48,7 @@ pub turned : (s : State) (a : Asking) (offset : ℕ) (is_last : Bool)
     → a.place ≤ length a.stream
     → a.place + (turn s a offset is_last).used ≤ length a.stream
 unfolding turn idle answered command
-turned s a offset is_last within = go (isAwaited is_last (decode a.stream a.place)) (leb (length a.stream) a.place)
+turned s a offset is_last within = go (is_awaited is_last (decode a.stream a.place)) (leb (length a.stream) a.place)
   where
     go : (t t' : Bool)
         → a.place
@@ -79,18 +79,18 @@ all_short =
 
 -- so a command that is awaited has at most 7 bytes
 decode-few :
-    (stream : List ℕ) (place : ℕ) → isAwaited false (decode stream place) ≡ true → length stream < place + 8
-unfolding isAwaited
+    (stream : List ℕ) (place : ℕ) → is_awaited false (decode stream place) ≡ true → length stream < place + 8
+unfolding is_awaited
 decode-few stream place e = go (reading stream place) e
   where
-    go : {d : Decoded} → Reading stream place d → isAwaited false d ≡ true → length stream < place + 8
+    go : {d : Decoded} → Reading stream place d → is_awaited false d ≡ true → length stream < place + 8
     go (nothing_left out) e = omega arith
     go (no_line there) e = absurd (false≢true e)
     go (cut_short f there less) e = let short = (found Short forms (at stream place) f all_short there).1 in omega arith
     go (in-full f there all) e = absurd (false≢true e)
 
-awaited : (is_last : Bool) (d : Decoded) → isAwaited is_last d ≡ true → isAwaited false d ≡ true
-unfolding isAwaited
+awaited : (is_last : Bool) (d : Decoded) → is_awaited is_last d ≡ true → is_awaited false d ≡ true
+unfolding is_awaited
 awaited true d e = absurd (false≢true e)
 awaited false d e = e
 
@@ -98,15 +98,15 @@ awaited false d e = e
 stopped : stops ≡ waits → ⊥
 stopped e = omega arith
 
-answers : (t : Bool) → cond t goesOn stops ≡ waits → ⊥
+answers : (t : Bool) → cond t going_on stops ≡ waits → ⊥
 answers true e = omega arith
 answers false e = stopped e
 
 module _ (s : State) (a : Asking) (offset : ℕ) (is_last : Bool) (e : (turn s a offset is_last).verdict ≡ waits) where
   -- a turn waits where the command is awaited
-  awaits : isAwaited is_last (decode a.stream a.place) ≡ true
+  awaits : is_awaited is_last (decode a.stream a.place) ≡ true
   unfolding turn idle answered
-  awaits = go (isAwaited is_last (decode a.stream a.place)) (leb (length a.stream) a.place) e
+  awaits = go (is_awaited is_last (decode a.stream a.place)) (leb (length a.stream) a.place) e
     where
       go : (t t' : Bool)
           → (cond t (idle waits s a.list)
@@ -123,9 +123,9 @@ module _ (s : State) (a : Asking) (offset : ℕ) (is_last : Bool) (e : (turn s a
 
   -- and the input has not ended
   pub not-ended : is_last ≡ false
-  unfolding isAwaited
+  unfolding is_awaited
   not-ended = go is_last awaits
     where
-      go : (t : Bool) → isAwaited t (decode a.stream a.place) ≡ true → t ≡ false
+      go : (t : Bool) → is_awaited t (decode a.stream a.place) ≡ true → t ≡ false
       go true e = absurd (false≢true e)
       go false e = refl

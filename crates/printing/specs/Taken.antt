@@ -1,6 +1,6 @@
 -- A turn of the day printer in code.
 use Rattle.std.specs.Prelude.{◌≡◌, List, ℕ, ◌≤◌, length}
-use Rattle.texts.specs.Text.{longestLine}
+use Rattle.texts.specs.Text.{longest_line}
 use Rattle.texts.specs.Printer as rules
 use Rattle.answer.specs.Meaning.{plan_of}
 use Rattle.answer.specs.ValidPlan.{ValidPlan}
@@ -17,8 +17,8 @@ pub record Taken (w : List ℕ) (t : rules.Turn) (buffer : List ℕ) (r : Turned
   -- what is printed stands at the front of the buffer, as much of it as there is room for
   pub printed : Written t.text buffer buffer' r.written
   -- and it is no longer than the longest line
-  pub short : length t.text ≤ longestLine
+  pub short : length t.text ≤ longest_line
   -- commands led to the plan that is left
   pub valid : ValidPlan w'
   -- the very words are left, unless a command was accepted
-  pub kept : (r.verdict ≡ rules.goesOn → ⊥) → w' ≡ w
+  pub kept : (r.verdict ≡ rules.going_on → ⊥) → w' ≡ w

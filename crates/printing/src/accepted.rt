@@ -1,8 +1,8 @@
 // The line of an accepted command.
-ghost use Rattle.texts.specs.Text.{acceptedLine};
+ghost use Rattle.texts.specs.Text.{accepted_line};
 ghost use Rattle.codec.specs.Meaning.{decoded};
 ghost use Rattle.words.specs.Contents.{contents};
-ghost use Rattle.answer.specs.Meaning.{answeredOf};
+ghost use Rattle.answer.specs.Meaning.{answered_of};
 ghost use Rattle.answer.specs.ValidPlan.{ValidPlan};
 ghost use Rattle.lines.specs.Line.{Line};
 
@@ -23,7 +23,7 @@ pub(crate) fn accepted_line(
 ) -> usize
     requires { ValidPlan plan.now }
     ensures { Line
-        (acceptedLine (decoded asked) (answeredOf answer (contents plan.now) starts.now))
+        (accepted_line (decoded asked) (answered_of answer (contents plan.now) starts.now))
         answer.starts buffer.old buffer.new result }
 {
     match asked {

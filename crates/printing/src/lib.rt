@@ -45,7 +45,7 @@ impl Turned {
 
 // "no byte is left, or operands are cut short": they may still come, unless the input has ended.
 fn is_awaited(is_last: bool, asked: Decoded) -> bool
-    ensures { result ≡ rules.isAwaited is_last (decoded asked) }
+    ensures { result ≡ rules.is_awaited is_last (decoded asked) }
 {
     if is_last {
         return false;

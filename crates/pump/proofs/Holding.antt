@@ -9,7 +9,7 @@ use lib.IntN.{ℤ, pos, negsuc}
 use lib.ListN.{length, take, drop, length-append}
 use lib.Seq.{length-take-le}
 use Rattle.texts.specs.Printer as rules
-use Rattle.texts.specs.Printer.{waits, stops, moved, fronted, fed, isCounted, maxOffset, step}
+use Rattle.texts.specs.Printer.{waits, stops, moved, fronted, fed, is_counted, max_offset, step}
 use Rattle.answer.specs.Meaning.{plan_of}
 use Rattle.answer.specs.ValidPlan.{ValidPlan}
 use Rattle.io.specs.Counts.{clamp_len}
@@ -37,18 +37,18 @@ at-start e =
     let place = ap (λ (y : rules.Position). y.place) e in
     let filled = ap (λ (y : rules.Position). y.filled) e in
     let offset = ap (λ (y : rules.Position). y.offset) e in
-    record { at-hand = omega arith; in_buffer = omega arith; counted = omega arith }
+    record { at_hand = omega arith; in_buffer = omega arith; counted = omega arith }
 
--- the bytes that can still be counted bytesLeft of the next command and bytesLeft of what is read next, and the end of the input
-abbrev pub bytesLeft : rules.Position → ℕ
-bytesLeft y = (maxOffset - y.offset) + (maxOffset - (y.offset + (y.filled - y.place))) + cond y.isLast 0 1
+-- the bytes that can still be counted bytes_left of the next command and bytes_left of what is read next, and the end of the input
+abbrev pub bytes_left : rules.Position → ℕ
+bytes_left y = (max_offset - y.offset) + (max_offset - (y.offset + (y.filled - y.place))) + cond y.is_last 0 1
 
 -- bytes that are used bring it down
 used-up : (used : ℕ) (y : rules.Position)
     → 0 < used
     → y.place + used ≤ y.filled
-    → y.offset + (y.filled - y.place) ≤ maxOffset
-    → bytesLeft (moved used y) < bytesLeft y
+    → y.offset + (y.filled - y.place) ≤ max_offset
+    → bytes_left (moved used y) < bytes_left y
 unfolding moved
 used-up used y some within counted = omega arith
 
@@ -70,16 +70,16 @@ again offset place used filled count within = omega arith
 -- and so does a read: it gives a byte or ends the input
 read-in : (used count : ℕ) (y : rules.Position)
     → y.place + used ≤ y.filled
-    → y.isLast ≡ false
-    → y.offset + (y.filled - y.place) + count ≤ maxOffset
-    → bytesLeft (fed count (fronted (moved used y))) < bytesLeft y
+    → y.is_last ≡ false
+    → y.offset + (y.filled - y.place) + count ≤ max_offset
+    → bytes_left (fed count (fronted (moved used y))) < bytes_left y
 unfolding moved fronted fed
 read-in used zero y within more counted =
     rw (more, again y.offset y.place used y.filled 0 within)
-    (fewer maxOffset y.offset (y.offset + (y.filled - y.place)) (y.offset + used) _ 1 0 (omega arith) counted (omega arith) (omega arith))
+    (fewer max_offset y.offset (y.offset + (y.filled - y.place)) (y.offset + used) _ 1 0 (omega arith) counted (omega arith) (omega arith))
 read-in used (suc count) y within more counted =
     rw (more, ne_eqb (suc count) 0 (λ e. omega arith), again y.offset y.place used y.filled (suc count) within)
-    (fewer maxOffset y.offset (y.offset + (y.filled - y.place)) (y.offset + used) _ 1 1 (omega arith) counted (omega arith) (omega arith))
+    (fewer max_offset y.offset (y.offset + (y.filled - y.place)) (y.offset + used) _ 1 1 (omega arith) counted (omega arith) (omega arith))
 
 clamped-most : (z : ℤ) (n : ℕ) → clamp_len z n ≤ n
 clamped-most (pos k) n = omega arith
@@ -99,7 +99,7 @@ module _ {input output starts w : List ℕ} {x : Position} (loop : PumpLoop inpu
   reach : Reach part x.place x.is_last taken
   reach =
       step-reach (plan_of w) part starts (length output) (position_of x) loop.valid.reached
-      (omega (arith, part-size, loop.stands.at-hand))
+      (omega (arith, part-size, loop.stands.at_hand))
 
   module _ {r : Stepped} {w' starts' output' : List ℕ} (stepped : Step x taken output r w' starts' output') where
     place' : r.position.place ≡ x.place + taken.used
@@ -137,7 +137,7 @@ module _ {input output starts w : List ℕ} {x : Position} (loop : PumpLoop inpu
           starts-size = sym starts-size;
           stands =
               record {
-                at-hand = omega (arith, place', filled', inside);
+                at_hand = omega (arith, place', filled', inside);
                 in_buffer = omega (arith, filled', loop.stands.in_buffer);
                 counted = omega (arith, place', filled', offset', inside, loop.stands.counted);
               };
@@ -148,29 +148,29 @@ module _ {input output starts w : List ℕ} {x : Position} (loop : PumpLoop inpu
     room e = omega (arith, reach.few (sym stepped.verdict ∙ e), part-size, place', filled')
 
     -- a step that neither waits nor stops has used a byte
-    pub falls : (r.verdict ≡ waits → ⊥) → (r.verdict ≡ stops → ⊥) → bytesLeft (position_of r.position) < bytesLeft (position_of x)
+    pub falls : (r.verdict ≡ waits → ⊥) → (r.verdict ≡ stops → ⊥) → bytes_left (position_of r.position) < bytes_left (position_of x)
     falls not-waiting not_stopped =
         let goes = reach.third (λ e. not-waiting (stepped.verdict ∙ e)) (λ e. not_stopped (stepped.verdict ∙ e)) in
         let some =
         step-some (plan_of w) part starts (length output) (position_of x) (omega (arith, loop.output-size)) goes in
-        subst (λ (y : rules.Position). bytesLeft y < bytesLeft (position_of x)) (sym stepped.position)
+        subst (λ (y : rules.Position). bytes_left y < bytes_left (position_of x)) (sym stepped.position)
         (used-up taken.used (position_of x) some inside loop.stands.counted)
 
-    module _ {input' : List ℕ} {f : Refilled} (filled : Filled input r.position input' f) (counted : isCounted (length input) (position_of r.position) ≡ true) where
+    module _ {input' : List ℕ} {f : Refilled} (filled : Filled input r.position input' f) (counted : is_counted (length input) (position_of r.position) ≡ true) where
       abbrev count : ℕ
       count = clamp_len f.got (length input - left_of r.position)
 
-      far : r.position.offset + length input ≤ maxOffset
-      unfolding isCounted
-      far = leb-true (r.position.offset + length input) maxOffset counted
+      far : r.position.offset + length input ≤ max_offset
+      unfolding is_counted
+      far = leb-true (r.position.offset + length input) max_offset counted
 
       most : count ≤ length input - left_of r.position
       most = clamped-most f.got (length input - left_of r.position)
 
       -- a read waits for what comes next
-      pub refalls : r.verdict ≡ waits → bytesLeft (position_of f.position) < bytesLeft (position_of x)
+      pub refalls : r.verdict ≡ waits → bytes_left (position_of f.position) < bytes_left (position_of x)
       refalls e =
-          subst (λ (y : rules.Position). bytesLeft y < bytesLeft (position_of x))
+          subst (λ (y : rules.Position). bytes_left y < bytes_left (position_of x))
           (sym (filled.position ∙ ap (λ (y : rules.Position). fed count (fronted y)) stepped.position))
           (read-in taken.used count (position_of x) inside (reach.awaited (sym stepped.verdict ∙ e))
           (omega (arith, far, most, place', filled', offset', inside, loop.stands.in_buffer, loop.input-size)))
@@ -197,7 +197,7 @@ module _ {input output starts w : List ℕ} {x : Position} (loop : PumpLoop inpu
             starts-size = before.starts-size;
             stands =
                 record {
-                  at-hand = omega (arith, place'');
+                  at_hand = omega (arith, place'');
                   in_buffer = omega (arith, filled'', most, loop.input-size, before.stands.in_buffer);
                   counted = omega (arith, place'', filled'', offset'', far, most, loop.input-size, before.stands.in_buffer);
                 };

@@ -3,8 +3,8 @@ use Rattle.std.specs.Prelude.{◌≡◌, List, ◌++◌, ℕ, ◌+◌, ◌-◌, 
 use Rattle.put.specs.Written.{over}
 
 -- the entries ahead of the place stay
-unfoldable pub overFrom : ℕ → List ℕ → List ℕ → List ℕ
-overFrom place text buffer = take place buffer ++ over text (drop place buffer)
+unfoldable pub over_from : ℕ → List ℕ → List ℕ → List ℕ
+over_from place text buffer = take place buffer ++ over text (drop place buffer)
 
 -- the place behind what there was room for
 abbrev pub behind : ℕ → List ℕ → List ℕ → ℕ
@@ -12,5 +12,5 @@ behind place text buffer = place + min (length text) (length buffer - place)
 
 -- the buffer before and after, and the place of the next piece
 pub record Put (text : List ℕ) (place : ℕ) (before after : List ℕ) (next : ℕ) : Type 0 where
-  pub bytes : after ≡ overFrom place text before
+  pub bytes : after ≡ over_from place text before
   pub ends : next ≡ behind place text before

@@ -12,7 +12,7 @@ use Rattle.books.specs.Standing.{waiting, activated, running, finished, count}
 use Rattle.books.specs.Booking.{Books}
 use Rattle.tree.specs.Tree.{Valid}
 use Rattle.numbers.proofs.Sums.{only-true, only-false}
-use Rattle.tree.proofs.Orders.{sumOver, sum-along}
+use Rattle.tree.proofs.Orders.{sum_over, sum-along}
 use Rattle.store.specs.Cached.{Reached}
 
 -- a sum along a list whose first k entries give nothing, and whose others give one
@@ -21,17 +21,17 @@ sum-behind :
     → k ≤ length l
     → ((e : ℕ) → e < k → f (at l e) ≡ 0)
     → ((e : ℕ) → k ≤ e → e < length l → f (at l e) ≡ 1)
-    → sumOver f l + k ≡ length l
-unfolding sumOver
+    → sum_over f l + k ≡ length l
+unfolding sum_over
 sum-behind f [] k h before from = omega arith
 sum-behind f (x ∷ l) zero h before from =
     let here : f x ≡ 1 = from 0 (omega arith) (omega arith) in
-    let rest : sumOver f l + 0 ≡ length l
+    let rest : sum_over f l + 0 ≡ length l
     = sum-behind f l 0 (omega arith) (λ e low. absurd (omega arith)) (λ e low high. from (suc e) (omega arith) (omega arith)) in
     omega arith
 sum-behind f (x ∷ l) (suc k) h before from =
     let here : f x ≡ 0 = before 0 (omega arith) in
-    let rest : sumOver f l + k ≡ length l
+    let rest : sum_over f l + k ≡ length l
     = sum-behind f l k (omega arith) (λ e low. before (suc e) (omega arith))
     (λ e low high. from (suc e) (omega arith) (omega arith)) in
     omega arith
@@ -45,15 +45,15 @@ pub waiting-count :
 unfolding count count_to
 waiting-count n par order k next valid reached =
     let whole = valid.whole in
-    let along : sumOver (λ i. only (eqb (at k.standings i) waiting) 1) order
+    let along : sum_over (λ i. only (eqb (at k.standings i) waiting) 1) order
     ≡ sum_to (λ i. only (eqb (at k.standings i) waiting) 1) n
     = sum-along (λ i. only (eqb (at k.standings i) waiting) 1) n order valid.inside valid.once whole in
     let within = reached.within in
-    let behind : sumOver (λ i. only (eqb (at k.standings i) waiting) 1) order + next ≡ length order
+    let behind : sum_over (λ i. only (eqb (at k.standings i) waiting) 1) order + next ≡ length order
     = sum-behind (λ i. only (eqb (at k.standings i) waiting) 1) order next (omega arith)
     (λ e low.
     only-false (eqb (at k.standings (at order e)) waiting) 1
-    (ne_eqb (at k.standings (at order e)) waiting (reached.before-next e low)))
+    (ne_eqb (at k.standings (at order e)) waiting (reached.before_next e low)))
     (λ e low high.
     only-true (eqb (at k.standings (at order e)) waiting) 1
     (eq-eqb (at k.standings (at order e)) waiting (reached.from_next e low (omega arith)))) in

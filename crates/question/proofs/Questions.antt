@@ -13,7 +13,7 @@ use Rattle.numbers.specs.Lists.{at}
 use Rattle.rules.specs.Phase
 use Rattle.books.specs.Standing.{waiting, activated, running, finished, count, counts}
 use Rattle.rules.specs.Reachable.{Reachable}
-use Rattle.rules.specs.Question.{bookedIn, booked, inUseIn, inUse, standing}
+use Rattle.rules.specs.Question.{booked_in, booked, in_use_in, in_use, standing}
 use Rattle.books.specs.Booking.{total}
 use Rattle.numbers.proofs.Sums.{only-true, only-cong, count_none, count-all}
 use Rattle.numbers.proofs.Tests.{decide, same_or_not, or_cases}
@@ -23,7 +23,7 @@ use Rattle.theorem.proofs.Stores.{in-use-going}
 use Rattle.theorem.proofs.Holds.{day-holds}
 use Rattle.rules.proofs.Reaching.{lives}
 use Rattle.words.specs.Contents.{Contents}
-use Rattle.store.specs.Rows.{rows_of, books, activationOf}
+use Rattle.store.specs.Rows.{rows_of, books, activation_of}
 use Rattle.answer.specs.Meaning.{meaning}
 use Rattle.answer.specs.Sound.{Sound}
 use Rattle.answer.proofs.Meant.{in-running, cached-now, parents-meant, works-meant, outs-meant, standings-rows, booked-rows, order-valid, going}
@@ -31,18 +31,18 @@ use Rattle.question.proofs.Counting.{waiting-count, four-counts}
 
 -- from BEGIN to FETCH a plan runs or is ready
 held-phase :
-    (c : Contents) → Phase.holdsTrays c.phase ≡ true → (c.phase ≡ Phase.running) ⊎ (c.phase ≡ Phase.ready)
-unfolding Phase.holdsTrays
+    (c : Contents) → Phase.holds_trays c.phase ≡ true → (c.phase ≡ Phase.running) ⊎ (c.phase ≡ Phase.ready)
+unfolding Phase.holds_trays
 held-phase c held =
     ⊎_elim (λ (e : eqb c.phase Phase.running ≡ true). inl (eqb-true c.phase Phase.running e))
     (λ (e : eqb c.phase Phase.ready ≡ true). inr (eqb-true c.phase Phase.ready e))
     (or_cases (eqb c.phase Phase.running) (eqb c.phase Phase.ready) held)
 
 -- in both of them the kept total is what is booked
-pub booked-kept : (c : Contents) → Sound c → only (Phase.holdsTrays c.phase) c.stores.chilled.total ≡ booked (meaning c)
-unfolding bookedIn
+pub booked-kept : (c : Contents) → Sound c → only (Phase.holds_trays c.phase) c.stores.chilled.total ≡ booked (meaning c)
+unfolding booked_in
 booked-kept c sound =
-    only-cong (Phase.holdsTrays c.phase) c.stores.chilled.total (total c.size (at (meaning c).stores.chilled.booked))
+    only-cong (Phase.holds_trays c.phase) c.stores.chilled.total (total c.size (at (meaning c).stores.chilled.booked))
     (λ held.
     ⊎_elim
     (λ (now : c.phase ≡ Phase.running).
@@ -56,46 +56,46 @@ pub in-use-kept :
     (c : Contents)
     → Reachable (meaning c)
     → Sound c
-    → only (Phase.holdsTrays c.phase) c.stores.chilled.used ≡ inUse (meaning c)
-unfolding inUseIn
+    → only (Phase.holds_trays c.phase) c.stores.chilled.used ≡ in_use (meaning c)
+unfolding in_use_in
 in-use-kept c reached sound =
     ⊎_elim
-    (λ (held : Phase.holdsTrays c.phase ≡ true). ⊎_elim (running held) ready (held-phase c held))
-    (λ (held : Phase.holdsTrays c.phase ≡ false). elsewhere held)
-    (decide (Phase.holdsTrays c.phase))
+    (λ (held : Phase.holds_trays c.phase ≡ true). ⊎_elim (running held) ready (held-phase c held))
+    (λ (held : Phase.holds_trays c.phase ≡ false). elsewhere held)
+    (decide (Phase.holds_trays c.phase))
   where
     running :
-        Phase.holdsTrays c.phase ≡ true
+        Phase.holds_trays c.phase ≡ true
         → c.phase ≡ Phase.running
-        → only (Phase.holdsTrays c.phase) c.stores.chilled.used ≡ inUse (meaning c)
+        → only (Phase.holds_trays c.phase) c.stores.chilled.used ≡ in_use (meaning c)
     running held now =
         let day = (lives reached).day (in-running c sound now) in
-        only-true (Phase.holdsTrays c.phase) c.stores.chilled.used held
+        only-true (Phase.holds_trays c.phase) c.stores.chilled.used held
         ∙ ((cached-now c sound now).stores chilled).uses
         ∙ sym
         (in-use-going (meaning c) day.0 day.1 (going c reached sound now) chilled
         ∙ rw (parents-meant c sound, works-meant c sound, outs-meant c sound, standings-rows c sound (in-running c sound now)) refl)
 
     -- the trolley is all that is booked, and all that is in use
-    ready : c.phase ≡ Phase.ready → only (Phase.holdsTrays c.phase) c.stores.chilled.used ≡ inUse (meaning c)
+    ready : c.phase ≡ Phase.ready → only (Phase.holds_trays c.phase) c.stores.chilled.used ≡ in_use (meaning c)
     ready now =
         let on : Phase.running ≤ c.phase = omega arith in
         let day = (lives reached).day on in
         let planned = day.1.planned in
         let root = some-root (meaning c).size (at (meaning c).parents) planned.rooted in
         let trolley = ((day-holds (meaning c) day.0 day.1).stores chilled).remains now root.0 root.1 root.2 in
-        ap (only (Phase.holdsTrays c.phase)) ((sound.day on).closed (omega arith)).uses
+        ap (only (Phase.holds_trays c.phase)) ((sound.day on).closed (omega arith)).uses
         ∙ booked-kept c sound
         ∙ trolley.0
         ∙ sym trolley.1
 
     elsewhere :
-        Phase.holdsTrays c.phase ≡ false → only (Phase.holdsTrays c.phase) c.stores.chilled.used ≡ inUse (meaning c)
+        Phase.holds_trays c.phase ≡ false → only (Phase.holds_trays c.phase) c.stores.chilled.used ≡ in_use (meaning c)
     elsewhere held = rw held refl
 
 -- before a day there is no standing
 pub standing-early : (c : Contents) → c.phase < Phase.running → 0 ∷ 0 ∷ 0 ∷ 0 ∷ [] ≡ standing (meaning c)
-unfolding standing Phase.holdsTrays
+unfolding standing Phase.holds_trays
 standing-early c h =
     rw (
       ne_eqb c.phase Phase.running (λ e. omega arith),
@@ -115,8 +115,8 @@ in-day :
     (c : Contents)
     → Sound c
     → Phase.running ≤ c.phase
-    → (Phase.holdsTrays c.phase || eqb c.phase Phase.over) ≡ true
-unfolding Phase.holdsTrays
+    → (Phase.holds_trays c.phase || eqb c.phase Phase.over) ≡ true
+unfolding Phase.holds_trays
 in-day c sound day =
     let named = sound.named in
     ⊎_elim (λ e. rw (eq-eqb c.phase Phase.running e) refl)
@@ -145,7 +145,7 @@ running-tallied c reached sound now =
     let runs = kept.runs in
     let ends = kept.ends in
     let waits =
-    waiting-count c.size (at c.parents) (activationOf c) (books c) c.next (order-valid c reached sound day)
+    waiting-count c.size (at c.parents) (activation_of c) (books c) c.next (order-valid c reached sound day)
     kept.reached
     in
     let all =

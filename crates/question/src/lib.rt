@@ -11,7 +11,7 @@ use words::plan::Plan;
 
 // A figure of the cold room, 0 where no trays of the plan lie in it.
 fn while_held(phase: u32, figure: u32) -> u32
-    ensures { result ≡ only (Phase.holdsTrays phase) figure }
+    ensures { result ≡ only (Phase.holds_trays phase) figure }
 {
     if Plan::holds_trays(phase) {
         return figure;
@@ -38,7 +38,7 @@ pub fn booked(plan: &[u32; Plan::WORDS]) -> u32
 
 pub fn in_use(plan: &[u32; Plan::WORDS]) -> u32
     requires { ValidPlan plan.now }
-    ensures { result ≡ rules.inUse (plan_of plan.now) }
+    ensures { result ≡ rules.in_use (plan_of plan.now) }
 {
     let used = cell(plan, Plan::HEAD, Plan::CHILLED + Plan::USED);
     while_held(phase(plan), used)

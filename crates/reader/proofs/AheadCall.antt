@@ -38,9 +38,9 @@ module _ {M : Type 1} {𝓤 : Ura M} (𝓛 : Logic 𝓤) (mem : Memory → SProp
     Ensured r = ensured 𝓛 ahead.ended (ahead.clauses 𝓛 mem run) (κ, tt) (s, (place, (used, tt))) tt r
 
     pub asked : place < 2 ^ 64 → used < 2 ^ 64 → ent 𝓤 (⋆ 𝓛 (‵ (Lent κ s) ∷ (‵ (flft κ q) ⊛ ‵ ftrue) ∷ [])) (Ahead.pre to)
-    asked place-fits used-fits =
+    asked place-fits used_fits =
         qed 𝓛 (‵ (Lent κ s) ∷ (‵ (flft κ q) ⊛ ‵ ftrue) ∷ []) ∵
-        nothing ! $ owned ! usize (Is usize) (uint_Makes 𝓛 w64) used _ (refl, used-fits) $ fjoin ! $
+        nothing ! $ owned ! usize (Is usize) (uint_Makes 𝓛 w64) used _ (refl, used_fits) $ fjoin ! $
         owned ! usize (Is usize) (uint_Makes 𝓛 w64) place _ (refl, place-fits) $ fjoin ! $
         move ! (1 ∷ 0 ∷ []) $ fjoin ! $ move ! (1 ∷ 0 ∷ []) $ join ! $ frame ! $ done !
 

@@ -12,8 +12,8 @@ use lib.Seq.{get_or-set_same, get_or-set_other}
 use borrow.Author.Tests.{eq-eqb, ne_eqb}
 use Rattle.numbers.specs.Lists.{at}
 use Rattle.numbers.proofs.Tests.{same_or_not}
-use Rattle.words.specs.Layout.{words, entries, bits, blocks, readyBase, filledWord}
-use Rattle.words.specs.Contents.{Contents, contents, withReady}
+use Rattle.words.specs.Layout.{words, entries, bits, blocks, ready_base, filled_word}
+use Rattle.words.specs.Contents.{Contents, contents, with_ready}
 use Rattle.words.specs.Digits.{digits}
 use Rattle.words.specs.Marks.{Marks, changed, MayChange, Changed}
 use Rattle.words.proofs.Views.{part_at}
@@ -46,8 +46,8 @@ module _ (l l' : List ℕ) (j : ℕ) (other : (q : ℕ) → (q ≡ j → ⊥) �
       (same_or_not q j))
 
 -- the word of a place, where it is added or taken
-abbrev digitsWith : (ℕ → Bool) → ℕ → Bool → ℕ
-digitsWith test place b = digits (λ k. changed test place b (bits * (place / bits) + k)) bits
+abbrev digits_with : (ℕ → Bool) → ℕ → Bool → ℕ
+digits_with test place b = digits (λ k. changed test place b (bits * (place / bits) + k)) bits
 
 -- a place of the set, and the words where it is added or taken
 module _ {c : Contents} {test : ℕ → Bool} (m : Marks test c) {place : ℕ} (inside : place < entries) where
@@ -65,14 +65,14 @@ module _ {c : Contents} {test : ℕ → Bool} (m : Marks test c) {place : ℕ} (
   test-there : (b : Bool) → test place ≡ b → test (bits * (place / bits) + place % bits) ≡ b
   test-there b e = ap test (omega arith) ∙ e
 
-  word-added : test place ≡ false → digitsWith test place true ≡ at c.ready (place / bits) + 2 ^ (place % bits)
+  word-added : test place ≡ false → digits_with test place true ≡ at c.ready (place / bits) + 2 ^ (place % bits)
   word-added off =
       digits_more bits (place % bits) (λ k. test (bits * (place / bits) + k))
       (λ k. changed test place true (bits * (place / bits) + k)) (omega arith) (test-there false off) (changed-there true)
       (λ k d. changed-other true (bits * (place / bits) + k) (λ e. d (omega arith)))
       ∙ ap (λ (v : ℕ). v + 2 ^ (place % bits)) (sym (m.marked (place / bits) in_blocks))
 
-  word-taken : test place ≡ true → at c.ready (place / bits) ≡ digitsWith test place false + 2 ^ (place % bits)
+  word-taken : test place ≡ true → at c.ready (place / bits) ≡ digits_with test place false + 2 ^ (place % bits)
   word-taken on =
       m.marked (place / bits) in_blocks
       ∙ digits_more bits (place % bits) (λ k. changed test place false (bits * (place / bits) + k))
@@ -83,10 +83,10 @@ module _ {c : Contents} {test : ℕ → Bool} (m : Marks test c) {place : ℕ} (
   marks-with :
       (b : Bool) (word filled : ℕ)
       → length c.ready ≡ blocks
-      → word ≡ digitsWith test place b
+      → word ≡ digits_with test place b
       → filled ≡ digits (some (set c.ready (place / bits) word)) blocks
-      → Marks (changed test place b) (withReady (set c.ready (place / bits) word) filled c)
-  unfolding withReady
+      → Marks (changed test place b) (with_ready (set c.ready (place / bits) word) filled c)
+  unfolding with_ready
   marks-with b word filled sized e f =
       record {
         marked =
@@ -116,9 +116,9 @@ module _ (w : List ℕ) (place : ℕ) (b : Bool) (pre : MayChange place (not b) 
   block_in : place / bits < blocks
   block_in = let i = pre.inside in omega arith
 
-  word_read : at w (readyBase + place / bits) ≡ at (contents w).ready (place / bits)
+  word_read : at w (ready_base + place / bits) ≡ at (contents w).ready (place / bits)
   unfolding contents
-  word_read = part_at readyBase blocks w (place / bits) block_in
+  word_read = part_at ready_base blocks w (place / bits) block_in
 
   module _ (word : ℕ) where
     -- the words of the set then
@@ -134,50 +134,50 @@ module _ (w : List ℕ) (place : ℕ) (b : Bool) (pre : MayChange place (not b) 
     after-other : (q : ℕ) → (q ≡ place / bits → ⊥) → at after q ≡ at (contents w).ready q
     after-other q d = get_or-set_other (contents w).ready (place / bits) q word 0 d
 
-    module _ (word-is : (test : ℕ → Bool) → Marks test (contents w) → test place ≡ not b → word ≡ digitsWith test place b) where
+    module _ (word-is : (test : ℕ → Bool) → Marks test (contents w) → test place ≡ not b → word ≡ digits_with test place b) where
       changed-to :
           {c : Contents} {filled : ℕ}
-          → c ≡ withReady after filled (contents w)
+          → c ≡ with_ready after filled (contents w)
           → filled ≡ digits (some after) blocks
           → Changed place b (contents w) c
-      unfolding withReady
+      unfolding with_ready
       changed-to {filled = filled} e filled_is =
           record {
-            same = e ∙ sym (ap (λ (d : Contents). withReady d.ready d.filled (contents w)) e);
+            same = e ∙ sym (ap (λ (d : Contents). with_ready d.ready d.filled (contents w)) e);
             marks =
                 λ test m there.
                 rw e (marks-with m pre.inside b word filled (lengths w).ready (word-is test m there) filled_is);
           }
 
-      module _ {w' : List ℕ} (written : w' ≡ set w (readyBase + place / bits) word) where
-        once : contents w' ≡ withReady after (contents w).filled (contents w)
+      module _ {w' : List ℕ} (written : w' ≡ set w (ready_base + place / bits) word) where
+        once : contents w' ≡ with_ready after (contents w).filled (contents w)
         once = ap contents written ∙ contents-ready w long (place / bits) word block_in
 
         changed-once : (contents w).filled ≡ digits (some after) blocks → Changed place b (contents w) (contents w')
         changed-once filled_is = changed-to once filled_is
 
-        filled-read : at w' filledWord ≡ (contents w).filled
-        unfolding contents withReady
+        filled-read : at w' filled_word ≡ (contents w).filled
+        unfolding contents with_ready
         filled-read = ap (λ (c : Contents). c.filled) once
 
         changed-twice :
             {w'' : List ℕ} {filled : ℕ}
-            → w'' ≡ set w' filledWord filled
+            → w'' ≡ set w' filled_word filled
             → filled ≡ digits (some after) blocks
             → Changed place b (contents w) (contents w'')
-        unfolding withReady
+        unfolding with_ready
         changed-twice {w''} {filled} again filled_is =
-            let same_length : length w' ≡ words = ap length written ∙ length-set w (readyBase + place / bits) word ∙ long in
+            let same_length : length w' ≡ words = ap length written ∙ length-set w (ready_base + place / bits) word ∙ long in
             changed-to
             (ap contents again
             ∙ contents-filled w' same_length filled
-            ∙ ap (λ (c : Contents). withReady c.ready filled c) once)
+            ∙ ap (λ (c : Contents). with_ready c.ready filled c) once)
             filled_is
 
 -- a place is added
 module _ (w : List ℕ) (place : ℕ) (pre : MayChange place false (contents w)) {word bit : ℕ}
-    (read : word ≡ at w (readyBase + place / bits)) (power : bit ≡ 2 ^ (place % bits)) where
-  more-is : (test : ℕ → Bool) → Marks test (contents w) → test place ≡ false → word + bit ≡ digitsWith test place true
+    (read : word ≡ at w (ready_base + place / bits)) (power : bit ≡ 2 ^ (place % bits)) where
+  more-is : (test : ℕ → Bool) → Marks test (contents w) → test place ≡ false → word + bit ≡ digits_with test place true
   more-is test m off = let e = word-added m pre.inside off in let r = word_read w place true pre in omega arith
 
   pub more-fits : word + bit < 2 ^ bits
@@ -189,7 +189,7 @@ module _ (w : List ℕ) (place : ℕ) (pre : MayChange place false (contents w))
   full : at (after w place true pre (word + bit)) (place / bits) ≡ 0 → ⊥
   full e = let t = after-there w place true pre (word + bit) in let p = pow_pos (place % bits) in omega arith
 
-  module _ {w' : List ℕ} (written : w' ≡ set w (readyBase + place / bits) (word + bit)) where
+  module _ {w' : List ℕ} (written : w' ≡ set w (ready_base + place / bits) (word + bit)) where
     -- to a word that was not 0
     pub added : (word ≡ 0 → ⊥) → Changed place true (contents w) (contents w')
     added some-before =
@@ -200,7 +200,7 @@ module _ (w : List ℕ) (place : ℕ) (pre : MayChange place false (contents w))
         (after-other w place true pre (word + bit)) full (λ e. some-before (read ∙ word_read w place true pre ∙ e))))
 
     -- to a word that was 0
-    module _ (none_before : word ≡ 0) {filled flag : ℕ} (look : filled ≡ at w' filledWord) (second : flag ≡ 2 ^ (place / bits)) where
+    module _ (none_before : word ≡ 0) {filled flag : ℕ} (look : filled ≡ at w' filled_word) (second : flag ≡ 2 ^ (place / bits)) where
       filled_is : filled + flag ≡ digits (some (after w place true pre (word + bit))) blocks
       filled_is =
           let f =
@@ -218,13 +218,13 @@ module _ (w : List ℕ) (place : ℕ) (pre : MayChange place false (contents w))
           let f = digits-below blocks (some (after w place true pre (word + bit))) in
           omega arith
 
-      pub added-first : {w'' : List ℕ} → w'' ≡ set w' filledWord (filled + flag) → Changed place true (contents w) (contents w'')
+      pub added-first : {w'' : List ℕ} → w'' ≡ set w' filled_word (filled + flag) → Changed place true (contents w) (contents w'')
       added-first again = changed-twice w place true pre (word + bit) more-is written again filled_is
 
 -- a place is taken
 module _ (w : List ℕ) (place : ℕ) (pre : MayChange place true (contents w)) {word bit : ℕ}
-    (read : word ≡ at w (readyBase + place / bits)) (power : bit ≡ 2 ^ (place % bits)) where
-  fewer-is : (test : ℕ → Bool) → Marks test (contents w) → test place ≡ true → word - bit ≡ digitsWith test place false
+    (read : word ≡ at w (ready_base + place / bits)) (power : bit ≡ 2 ^ (place % bits)) where
+  fewer-is : (test : ℕ → Bool) → Marks test (contents w) → test place ≡ true → word - bit ≡ digits_with test place false
   fewer-is test m on = let e = word-taken m pre.inside on in let r = word_read w place false pre in omega arith
 
   pub word-has : bit ≤ word
@@ -236,7 +236,7 @@ module _ (w : List ℕ) (place : ℕ) (pre : MayChange place true (contents w)) 
   full-before : at (contents w).ready (place / bits) ≡ 0 → ⊥
   full-before e = let h = word-has in let r = word_read w place false pre in let p = pow_pos (place % bits) in omega arith
 
-  module _ {w' : List ℕ} (written : w' ≡ set w (readyBase + place / bits) (word - bit)) where
+  module _ {w' : List ℕ} (written : w' ≡ set w (ready_base + place / bits) (word - bit)) where
     -- from a word that has others
     pub taken : (word - bit ≡ 0 → ⊥) → Changed place false (contents w) (contents w')
     taken Some-after =
@@ -248,7 +248,7 @@ module _ (w : List ℕ) (place : ℕ) (pre : MayChange place true (contents w)) 
         full-before))
 
     -- the last one of a word
-    module _ (none_after : word - bit ≡ 0) {filled flag : ℕ} (look : filled ≡ at w' filledWord) (second : flag ≡ 2 ^ (place / bits)) where
+    module _ (none_after : word - bit ≡ 0) {filled flag : ℕ} (look : filled ≡ at w' filled_word) (second : flag ≡ 2 ^ (place / bits)) where
       filled-was : filled ≡ digits (some (after w place false pre (word - bit))) blocks + flag
       filled-was =
           let f =
@@ -263,6 +263,6 @@ module _ (w : List ℕ) (place : ℕ) (pre : MayChange place true (contents w)) 
       pub filled-has : flag ≤ filled
       filled-has = let e = filled-was in omega arith
 
-      pub taken-last : {w'' : List ℕ} → w'' ≡ set w' filledWord (filled - flag) → Changed place false (contents w) (contents w'')
+      pub taken-last : {w'' : List ℕ} → w'' ≡ set w' filled_word (filled - flag) → Changed place false (contents w) (contents w'')
       taken-last again =
           changed-twice w place false pre (word - bit) fewer-is written again (let e = filled-was in omega arith)

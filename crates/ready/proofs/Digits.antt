@@ -7,7 +7,7 @@ use native.Mathlib.Omega.{arith}
 use lib.Count.{count_trailing_zeros, under}
 use Rattle.numbers.specs.Sums.{only}
 use Rattle.numbers.proofs.Tests.{decide, le-or-lt}
-use Rattle.words.specs.Digits.{digits, firstIn}
+use Rattle.words.specs.Digits.{digits, first_in}
 
 -- the same places have the same number
 pub digits_same :
@@ -75,8 +75,8 @@ digits-zero (suc count) f e zero h = by-test (f 0) (omega arith)
 digits-zero (suc count) f e (suc k) h = digits-zero count (λ k. f (suc k)) (omega arith) k (omega arith)
 
 -- the lowest digit is the first place
-pub lowest-digit : (count : ℕ) (f : ℕ → Bool) → count_trailing_zeros count (digits f count) ≡ firstIn f count
-unfolding count_trailing_zeros digits firstIn
+pub lowest-digit : (count : ℕ) (f : ℕ → Bool) → count_trailing_zeros count (digits f count) ≡ first_in f count
+unfolding count_trailing_zeros digits first_in
 lowest-digit zero f = refl
 lowest-digit (suc count) f = by-test (f 0) (digits rest count) (lowest-digit count rest)
   where
@@ -85,8 +85,8 @@ lowest-digit (suc count) f = by-test (f 0) (digits rest count) (lowest-digit cou
 
     by-test :
         (b : Bool) (d : ℕ)
-        → count_trailing_zeros count d ≡ firstIn rest count
-        → under ((only b 1 + 2 * d) % 2) (count_trailing_zeros count ((only b 1 + 2 * d) / 2)) ≡ cond b 0 (suc (firstIn rest count))
+        → count_trailing_zeros count d ≡ first_in rest count
+        → under ((only b 1 + 2 * d) % 2) (count_trailing_zeros count ((only b 1 + 2 * d) / 2)) ≡ cond b 0 (suc (first_in rest count))
     by-test true d later =
         let odd : (1 + 2 * d) % 2 ≡ 1 = omega arith in
         ap (λ (r : ℕ). under r (count_trailing_zeros count ((1 + 2 * d) / 2))) odd
@@ -103,46 +103,46 @@ pub first-is :
     → e ≤ count
     → ((k : ℕ) → k < e → f k ≡ false)
     → (e < count → f e ≡ true)
-    → firstIn f count ≡ e
-unfolding firstIn
+    → first_in f count ≡ e
+unfolding first_in
 first-is f zero e h none some = omega arith
 first-is f (suc count) zero h none some =
-    ap (λ (b : Bool). cond b 0 (suc (firstIn (λ k. f (suc k)) count))) (some (omega arith))
+    ap (λ (b : Bool). cond b 0 (suc (first_in (λ k. f (suc k)) count))) (some (omega arith))
 first-is f (suc count) (suc e) h none some =
-    ap (λ (b : Bool). cond b 0 (suc (firstIn (λ k. f (suc k)) count))) (none 0 (omega arith))
+    ap (λ (b : Bool). cond b 0 (suc (first_in (λ k. f (suc k)) count))) (none 0 (omega arith))
     ∙ ap suc (first-is (λ k. f (suc k)) count e (omega arith) (λ k l. none (suc k) (omega arith)) (λ l. some (omega arith)))
 
-pub first-before : (f : ℕ → Bool) (count k : ℕ) → k < firstIn f count → f k ≡ false
-unfolding firstIn
+pub first-before : (f : ℕ → Bool) (count k : ℕ) → k < first_in f count → f k ≡ false
+unfolding first_in
 first-before f zero k h = absurd (omega arith)
 first-before f (suc count) k h =
     ⊎_elim
     (λ (e : f 0 ≡ true).
-    let here : firstIn f (suc count) ≡ 0 = ap (λ (b : Bool). cond b 0 (suc (firstIn (λ k. f (suc k)) count))) e in
+    let here : first_in f (suc count) ≡ 0 = ap (λ (b : Bool). cond b 0 (suc (first_in (λ k. f (suc k)) count))) e in
     absurd (omega arith))
     (λ (e : f 0 ≡ false).
-    let later : firstIn f (suc count) ≡ suc (firstIn (λ k. f (suc k)) count) =
-    ap (λ (b : Bool). cond b 0 (suc (firstIn (λ k. f (suc k)) count))) e
+    let later : first_in f (suc count) ≡ suc (first_in (λ k. f (suc k)) count) =
+    ap (λ (b : Bool). cond b 0 (suc (first_in (λ k. f (suc k)) count))) e
     in
     by_place k (omega arith) e (λ j l. first-before (λ k. f (suc k)) count j (omega arith)))
     (decide (f 0))
   where
     by_place :
         (k : ℕ)
-        → k < suc (firstIn (λ k. f (suc k)) count)
+        → k < suc (first_in (λ k. f (suc k)) count)
         → f 0 ≡ false
-        → ((j : ℕ) → j < firstIn (λ k. f (suc k)) count → f (suc j) ≡ false)
+        → ((j : ℕ) → j < first_in (λ k. f (suc k)) count → f (suc j) ≡ false)
         → f k ≡ false
     by_place zero h e later = e
     by_place (suc j) h e later = later j (omega arith)
 
-pub first-there : (f : ℕ → Bool) (count : ℕ) → firstIn f count < count → f (firstIn f count) ≡ true
-unfolding firstIn
+pub first-there : (f : ℕ → Bool) (count : ℕ) → first_in f count < count → f (first_in f count) ≡ true
+unfolding first_in
 first-there f zero h = absurd (omega arith)
 first-there f (suc count) h = by-test (f 0) refl h (first-there (λ k. f (suc k)) count)
   where
     rest : ℕ
-    rest = firstIn (λ k. f (suc k)) count
+    rest = first_in (λ k. f (suc k)) count
 
     by-test :
         (b : Bool)
@@ -153,8 +153,8 @@ first-there f (suc count) h = by-test (f 0) refl h (first-there (λ k. f (suc k)
     by-test true e h later = e
     by-test false e h later = later (omega arith)
 
-pub first_some : (f : ℕ → Bool) (count : ℕ) → (digits f count ≡ 0 → ⊥) → firstIn f count < count
+pub first_some : (f : ℕ → Bool) (count : ℕ) → (digits f count ≡ 0 → ⊥) → first_in f count < count
 first_some f count some =
-    ⊎_elim (λ (h : count ≤ firstIn f count). absurd (some (digits-none count f (λ k l. first-before f count k (omega arith)))))
-    (λ (h : firstIn f count < count). h)
-    (le-or-lt count (firstIn f count))
+    ⊎_elim (λ (h : count ≤ first_in f count). absurd (some (digits-none count f (λ k l. first-before f count k (omega arith)))))
+    (λ (h : first_in f count < count). h)
+    (le-or-lt count (first_in f count))

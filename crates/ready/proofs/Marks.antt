@@ -12,7 +12,7 @@ use Rattle.numbers.specs.Lists.{at}
 use Rattle.numbers.proofs.Tests.{same_or_not}
 use Rattle.words.specs.Layout.{entries, bits, blocks}
 use Rattle.words.specs.Contents.{Contents}
-use Rattle.words.specs.Digits.{digits, firstIn}
+use Rattle.words.specs.Digits.{digits, first_in}
 use Rattle.words.specs.Marks.{Marks, FirstMarked}
 use Rattle.ready.proofs.Digits.{digits_same, digits-zero, lowest-digit, first-before, first-there, first-is, first_some}
 
@@ -57,7 +57,7 @@ module _ {c : Contents} {test : ℕ → Bool} (m : Marks test c) where
   not_some q e = eqb-true (at c.ready q) 0 (not-false (eqb (at c.ready q) 0) e)
 
   -- there is none
-  none_first : c.filled ≡ 0 → firstIn test entries ≡ entries
+  none_first : c.filled ≡ 0 → first_in test entries ≡ entries
   none_first empty =
       first-is test entries entries (omega arith)
       (λ e h.
@@ -67,7 +67,7 @@ module _ {c : Contents} {test : ℕ → Bool} (m : Marks test c) where
 
   -- it is in the first word that is not 0, at its lowest bit
   module _ (full : c.filled ≡ 0 → ⊥) {q : ℕ} (word : q ≡ count_trailing_zeros bits c.filled) where
-    word-is : q ≡ firstIn (some c.ready) blocks
+    word-is : q ≡ first_in (some c.ready) blocks
     word-is = word ∙ ap (count_trailing_zeros blocks) m.filled ∙ lowest-digit blocks (some c.ready)
 
     pub word_in : q < blocks
@@ -84,7 +84,7 @@ module _ {c : Contents} {test : ℕ → Bool} (m : Marks test c) where
       in-word : ℕ → Bool
       in-word j = test (bits * q + j)
 
-      bit_is : k ≡ firstIn in-word bits
+      bit_is : k ≡ first_in in-word bits
       unfolding in-word
       bit_is = bit ∙ ap (count_trailing_zeros bits) (m.marked q word_in) ∙ lowest-digit bits in-word
 
@@ -92,7 +92,7 @@ module _ {c : Contents} {test : ℕ → Bool} (m : Marks test c) where
       unfolding in-word
       bit_in = let s = first_some in-word bits (λ e. word-full (m.marked q word_in ∙ e)) in omega (arith, bit_is)
 
-      first-place : firstIn test entries ≡ bits * q + k
+      first-place : first_in test entries ≡ bits * q + k
       unfolding in-word
       first-place =
           let i = word_in in
@@ -115,7 +115,7 @@ first-none none c empty =
           λ test m.
           let e = none_first m empty in
           sym
-          (ap (λ (b : Bool). cond b (firstIn test entries) none) (le-ltb (firstIn test entries) entries (omega arith)));
+          (ap (λ (b : Bool). cond b (first_in test entries) none) (le-ltb (first_in test entries) entries (omega arith)));
     }
 
 pub first-lowest :
@@ -132,5 +132,5 @@ first-lowest none c q k full word bit =
           let i = word_in m full word in
           let j = bit_in m full word bit in
           sym
-          (ap (λ (b : Bool). cond b (firstIn test entries) none) (lt-ltb (firstIn test entries) entries (omega arith)) ∙ e);
+          (ap (λ (b : Bool). cond b (first_in test entries) none) (lt-ltb (first_in test entries) entries (omega arith)) ∙ e);
     }

@@ -2,11 +2,11 @@
 use mathlib.Core.Path.{◌≡◌, sym, ap, ap₂, ◌∙◌}
 use Prim.Native.Nat.{ℕ}
 use lib.Dec.{eqb}
-use Rattle.numbers.specs.Sums.{Task, lowestTo}
+use Rattle.numbers.specs.Sums.{Task, lowest_to}
 use Rattle.numbers.specs.Lists.{at}
 use Rattle.rules.specs.Phase
-use Rattle.books.specs.Booking.{isUnendedChild, fed}
-use Rattle.whys.specs.Why.{unendedChild}
+use Rattle.books.specs.Booking.{is_unended_child, fed}
+use Rattle.whys.specs.Why.{unended_child}
 use Rattle.words.specs.Contents.{Contents}
 use Rattle.store.proofs.Unended.{fed-is}
 use Rattle.answer.specs.Meaning.{meaning}
@@ -16,10 +16,10 @@ use Rattle.answer.proofs.Meant.{in-running, cached-now, parents-meant, standings
 module _ (c : Contents) (sound : Sound c) (now : c.phase ≡ Phase.running) where
   -- the lowest-numbered child that has not ended
   pub child-kept :
-      (i : ℕ) → lowestTo (isUnendedChild (at c.parents) (at c.standings) i) c.size ≡ unendedChild (meaning c) i
-  unfolding unendedChild
+      (i : ℕ) → lowest_to (is_unended_child (at c.parents) (at c.standings) i) c.size ≡ unended_child (meaning c) i
+  unfolding unended_child
   child-kept i =
-      ap₂ (λ (par st : ℕ → ℕ). lowestTo (isUnendedChild par st i) c.size) (sym (parents-meant c sound))
+      ap₂ (λ (par st : ℕ → ℕ). lowest_to (is_unended_child par st i) c.size) (sym (parents-meant c sound))
       (sym (standings-meant c sound now))
 
   -- the children of a task that have not ended are counted

@@ -10,19 +10,19 @@ use Rattle.rules.specs.Phase
 use Rattle.books.specs.Standing.{waiting}
 use Rattle.rules.specs.Reachable.{Reachable}
 use Rattle.books.specs.Booking.{misses}
-use Rattle.tree.specs.Tree.{rankIn}
-use Rattle.whys.specs.Why.{firstWaiting, lackIn}
+use Rattle.tree.specs.Tree.{rank_in}
+use Rattle.whys.specs.Why.{first_waiting, lack_in}
 use Rattle.numbers.proofs.Tests.{le-or-lt}
 use Rattle.tree.proofs.Orders.{place_at}
 use Rattle.tree.proofs.Ranks.{stands, tree_of}
 use Rattle.whys.proofs.Why.{first-is}
 use Rattle.words.specs.Contents.{Contents}
 use Rattle.words.proofs.Contents.{Lengths}
-use Rattle.store.specs.Rows.{books, activationOf}
+use Rattle.store.specs.Rows.{books, activation_of}
 use Rattle.store.specs.Kept.{Kept}
 use Rattle.store.proofs.InStore.{cached-in, total-within}
 use Rattle.booking.proofs.Turn.{next-is-first, misses-it}
-use Rattle.booking.proofs.Booking.{turn, nextTask, lacking}
+use Rattle.booking.proofs.Booking.{turn, next_task, lacking}
 use Rattle.answer.specs.Meaning.{meaning}
 use Rattle.answer.specs.Sound.{Sound}
 use Rattle.answer.proofs.Meant.{in-running, parents-meant, standings-rows, booked-rows, needs-meant, activation-meant, still_kept}
@@ -39,15 +39,15 @@ module _ (c : Contents) (reached : Reachable (meaning c)) (sound : Sound c) (now
   within-bound = total-within kept chilled
 
   module _ (more : c.next < c.size) where
-    pub next-first : firstWaiting (meaning c) ≡ nextTask c
-    unfolding firstWaiting
+    pub next-first : first_waiting (meaning c) ≡ next_task c
+    unfolding first_waiting
     next-first =
         rw (activation-meant c sound day, standings-rows c sound day)
-        (first-is c.size (at c.parents) (activationOf c) kept.invariant.valid (at (books c).standings) (nextTask c)
+        (first-is c.size (at c.parents) (activation_of c) kept.invariant.valid (at (books c).standings) (next_task c)
         (next-is-first (turn kept sizes more)))
 
-    pub next-lack : lackIn (meaning c) (meaning c).stores.chilled (nextTask c) ≡ c.stores.chilled.total + lacking c chilled - c.stores.chilled.bound
-    unfolding lackIn misses
+    pub next-lack : lack_in (meaning c) (meaning c).stores.chilled (next_task c) ≡ c.stores.chilled.total + lacking c chilled - c.stores.chilled.bound
+    unfolding lack_in misses
     next-lack =
         rw (needs-meant c sound now, parents-meant c sound, standings-rows c sound day, booked-rows c sound day)
         (ap₂ (λ (b m : ℕ). b + m - c.stores.chilled.bound) (sym (cached-in kept chilled).totals) (misses-it (turn kept sizes more) chilled))
@@ -56,12 +56,12 @@ module _ (c : Contents) (reached : Reachable (meaning c)) (sound : Sound c) (now
   pub some-waits : (i : ℕ) → Task c.size i → at (meaning c).standings i ≡ waiting → c.next < c.size
   some-waits i t w =
       let valid = kept.invariant.valid in
-      let there = place_at i (activationOf c) (stands c.size (at c.parents) (activationOf c) valid i t) in
-      let low = (tree_of c.size (at c.parents) (activationOf c) valid (λ j _. kept.invariant.parents j)).below i t in
+      let there = place_at i (activation_of c) (stands c.size (at c.parents) (activation_of c) valid i t) in
+      let low = (tree_of c.size (at c.parents) (activation_of c) valid (λ j _. kept.invariant.parents j)).below i t in
       ⊎_elim
       (λ (h : c.size ≤ c.next).
       absurd
-      (kept.cached.reached.before-next (rankIn (activationOf c) i) (omega arith)
+      (kept.cached.reached.before_next (rank_in (activation_of c) i) (omega arith)
       (ap (at (books c).standings) there ∙ rw (standings-rows c sound day) at w)))
       (λ (h : c.next < c.size). h)
       (le-or-lt c.size c.next)

@@ -9,7 +9,7 @@ use Rattle.answer.specs.ValidPlan.{ValidPlan}
 pub record Asked (w : List ℕ) (task : ℕ) : Type 0 where
   pub valid : ValidPlan w
   pub runs : (contents w).phase ≡ Phase.running
-  pub is-task : Task (contents w).size task
+  pub is_task : Task (contents w).size task
 
 -- a plan that runs, and in which somebody waits
 pub record AskedWaiting (w : List ℕ) : Type 0 where

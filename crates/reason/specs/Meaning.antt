@@ -4,10 +4,10 @@ use Rattle.whys.specs.Why as rules
 use Rattle.reason.specs.declared.Reason.{Reason}
 use Rattle.reason.specs.declared.Reason.TheVariants.{Refused, Ended, Running, NotBooked, Unfed, NoProcessor}
 
-abbrev pub reasonOf : Reason → rules.Reason
-reasonOf (Refused ground) = rules.refused ground
-reasonOf Ended = rules.ended
-reasonOf Running = rules.running
-reasonOf (NotBooked first lack) = rules.notBooked first (each (λ _. lack))
-reasonOf (Unfed child) = rules.unfed child
-reasonOf NoProcessor = rules.noProcessor
+abbrev pub reason_of : Reason → rules.Reason
+reason_of (Refused ground_for) = rules.refused ground_for
+reason_of Ended = rules.ended
+reason_of Running = rules.running
+reason_of (NotBooked first lack) = rules.not_booked first (each (λ _. lack))
+reason_of (Unfed child) = rules.unfed child
+reason_of NoProcessor = rules.no_processor

@@ -1,14 +1,14 @@
 // Why a task is not starting. The plan is only read, in at most one pass over its tasks.
 ghost use Rattle.std.specs.Prelude.{◌≡◌, ◌≤◌};
-ghost use Rattle.numbers.specs.Limits.{maxTasks};
+ghost use Rattle.numbers.specs.Limits.{max_tasks};
 ghost use Rattle.numbers.specs.Lists.{at};
-ghost use Rattle.numbers.specs.Sums.{lowestTo};
-ghost use Rattle.books.specs.Booking.{isUnendedChild};
+ghost use Rattle.numbers.specs.Sums.{lowest_to};
+ghost use Rattle.books.specs.Booking.{is_unended_child};
 ghost use Rattle.whys.specs.Why as rules;
 ghost use Rattle.words.specs.Contents.{contents};
 ghost use Rattle.answer.specs.Meaning.{plan_of};
 ghost use Rattle.answer.specs.ValidPlan.{ValidPlan};
-ghost use Rattle.reason.specs.Meaning.{reasonOf};
+ghost use Rattle.reason.specs.Meaning.{reason_of};
 ghost use Rattle.reason.specs.Asked.{AskedWaiting, Asked};
 
 use cells::{cell, entry};
@@ -32,8 +32,8 @@ pub enum Reason {
 
 // Whether a task is a child of another and has not ended.
 fn is_unended_child(plan: &[u32; Plan::WORDS], task: usize, child: usize) -> bool
-    requires { child ≤ maxTasks }
-    ensures { result ≡ isUnendedChild (at (contents plan.now).parents) (at (contents plan.now).standings) task child }
+    requires { child ≤ max_tasks }
+    ensures { result ≡ is_unended_child (at (contents plan.now).parents) (at (contents plan.now).standings) task child }
 {
     if cell(plan, child, Plan::PARENT) as usize != task {
         return false;
@@ -43,8 +43,8 @@ fn is_unended_child(plan: &[u32; Plan::WORDS], task: usize, child: usize) -> boo
 
 // "the lowest-numbered unended child", 0 where all have ended.
 fn unended_child(plan: &[u32; Plan::WORDS], task: usize) -> u16
-    requires { (contents plan.now).size ≤ maxTasks }
-    ensures { result ≡ lowestTo (isUnendedChild (at (contents plan.now).parents) (at (contents plan.now).standings) task) (contents plan.now).size }
+    requires { (contents plan.now).size ≤ max_tasks }
+    ensures { result ≡ lowest_to (is_unended_child (at (contents plan.now).parents) (at (contents plan.now).standings) task) (contents plan.now).size }
 {
     let n = cell(plan, Plan::HEAD, Plan::SIZE) as usize;
     let mut child = 0;
@@ -61,8 +61,8 @@ fn unended_child(plan: &[u32; Plan::WORDS], task: usize) -> u16
 // lacks"
 fn not_booked(plan: &[u32; Plan::WORDS]) -> Reason
     requires { AskedWaiting plan.now }
-    ensures { reasonOf result ≡ rules.notBooked (rules.firstWaiting (plan_of plan.now))
-        (rules.lacks (plan_of plan.now) (rules.firstWaiting (plan_of plan.now))) }
+    ensures { reason_of result ≡ rules.not_booked (rules.first_waiting (plan_of plan.now))
+        (rules.lacks (plan_of plan.now) (rules.first_waiting (plan_of plan.now))) }
 {
     let next = cell(plan, Plan::HEAD, Plan::NEXT) as usize;
     let first = entry(plan, Plan::ACTIVATION, next) as u16;
@@ -74,7 +74,7 @@ fn not_booked(plan: &[u32; Plan::WORDS]) -> Reason
 // "the first that is true"
 fn first_true(plan: &[u32; Plan::WORDS], task: usize) -> Reason
     requires { Asked plan.now task }
-    ensures { reasonOf result ≡ rules.why (plan_of plan.now) task }
+    ensures { reason_of result ≡ rules.why (plan_of plan.now) task }
 {
     let standing = cell(plan, task, Plan::STANDING);
     if standing == Plan::FINISHED {
@@ -95,7 +95,7 @@ fn first_true(plan: &[u32; Plan::WORDS], task: usize) -> Reason
 // "3 outside running, then 4 for the step"
 pub fn why(plan: &[u32; Plan::WORDS], task: u16) -> Reason
     requires { ValidPlan plan.now }
-    ensures { reasonOf result ≡ rules.why (plan_of plan.now) task }
+    ensures { reason_of result ≡ rules.why (plan_of plan.now) task }
 {
     if cell(plan, Plan::HEAD, Plan::PHASE) != Plan::RUNNING {
         return Reason::Refused(3);

@@ -13,12 +13,12 @@ use Rattle.books.specs.Kind.{Kind, Each, of, each}
 use Rattle.numbers.specs.Lists.{at}
 use Rattle.rules.specs.Phase
 use Rattle.books.specs.Standing.{running, finished}
-use Rattle.rules.specs.State.{State, store_of, needsIn}
+use Rattle.rules.specs.State.{State, store_of, needs_in}
 use Rattle.format.specs.Command.{done}
 use Rattle.numbers.specs.Sums.{within}
 use Rattle.books.specs.Booking.{Books, Share, Climbed, total, activate, start, release, climb, dispatch}
-use Rattle.tree.specs.Tree.{chain, rankIn}
-use Rattle.rules.specs.Obey.{withBooked, withBooks, termsOf, booksOf, ahead, begun, proceed, endedStandings, shared, ended, phaseAfter, plain, obey, free}
+use Rattle.tree.specs.Tree.{chain, rank_in}
+use Rattle.rules.specs.Obey.{with_booked, with_books, terms_of, books_of, ahead, begun, proceed, ended_standings, shared, ended, phase_after, plain, obey, free}
 use Rattle.books.specs.Invariant.{Stocked}
 use Rattle.books.proofs.EachStore.{of-each, each_same}
 use Rattle.numbers.proofs.Tests.{same_or_not}
@@ -42,17 +42,17 @@ no-starts n par st [] all may = refl
 no-starts n par st (x ∷ l) all may = let e = all x may.0 in let b = may.1 in absurd (omega arith)
 
 -- the plan once its root has ended: all have, and its out remains booked
-abbrev pub readyAfter : State → ℕ → State
-readyAfter s j =
-    withBooks s Phase.ready (endedStandings s j) (each (λ k. set (store_of s k).booked j (at (store_of s k).outs j)))
+abbrev pub ready_after : State → ℕ → State
+ready_after s j =
+    with_books s Phase.ready (ended_standings s j) (each (λ k. set (store_of s k).booked j (at (store_of s k).outs j)))
 
 module _ (s : State) (p : Planned s) (going : Going s) (j : ℕ) (task : Task s.size j) (runs : at s.standings j ≡ running)
     (root : at s.parents j ≡ 0) where
-  pub all-ended : (i : ℕ) → Task s.size i → at (endedStandings s j) i ≡ finished
-  unfolding endedStandings
+  pub all-ended : (i : ℕ) → Task s.size i → at (ended_standings s j) i ≡ finished
+  unfolding ended_standings
   all-ended =
-      root-last s.size (at s.parents) (rankIn s.activation) (tree s p) (at (set s.standings j finished))
-      (finishing-shape s.size (at s.parents) (rankIn s.activation) (tree s p) (at s.standings) _
+      root-last s.size (at s.parents) (rank_in s.activation) (tree s p) (at (set s.standings j finished))
+      (finishing-shape s.size (at s.parents) (rank_in s.activation) (tree s p) (at s.standings) _
       going.settled.good.shape j task runs
       (moved-by-set s.size s.standings j finished going.settled.good.sized task))
       p.rooted j task root (at_set s.size s.standings j finished going.settled.good.sized task)
@@ -60,40 +60,40 @@ module _ (s : State) (p : Planned s) (going : Going s) (j : ℕ) (task : Task s.
   abbrev remaining : Kind → List ℕ
   remaining k = set (store_of s k).booked j (at (store_of s k).outs j)
 
-  abbrev keptIn : Kind → Share
-  keptIn k = record { left = at (store_of s k).booked j - at (store_of s k).outs j; booked = remaining k }
+  abbrev kept_in : Kind → Share
+  kept_in k = record { left = at (store_of s k).booked j - at (store_of s k).outs j; booked = remaining k }
 
   -- nobody is above the root
   abbrev kept : Climbed
-  kept = record { offered = []; share = each keptIn }
+  kept = record { offered = []; share = each kept_in }
 
   shared-is : shared s j ≡ kept
   unfolding shared dispatch climb
   shared-is =
       ap
       (λ (l : List ℕ).
-      climb s.size (at s.parents) (termsOf s) (at (endedStandings s j)) l
-      (each (λ k. release (at s.parents) (at (store_of s k).outs) (of (booksOf s).booked k) j)))
+      climb s.size (at s.parents) (terms_of s) (at (ended_standings s j)) l
+      (each (λ k. release (at s.parents) (at (store_of s k).outs) (of (books_of s).booked k) j)))
       (ap (chain s.size (at s.parents)) root ∙ chain-none s.size (at s.parents))
       ∙ ap (λ (h : Each Share). record { offered = []; share = h })
-      (each_same (λ k. release (at s.parents) (at (store_of s k).outs) (of (booksOf s).booked k) j) keptIn
+      (each_same (λ k. release (at s.parents) (at (store_of s k).outs) (of (books_of s).booked k) j) kept_in
       (λ k.
       ap (λ (b : List ℕ). release (at s.parents) (at (store_of s k).outs) b j) (of-each (λ d. (store_of s d).booked) k)
       ∙ release-root (at s.parents) (at (store_of s k).outs) (store_of s k).booked j (eq-eqb (at s.parents j) 0 root)))
 
   abbrev books : Books
-  books = record { standings = endedStandings s j; booked = each remaining }
+  books = record { standings = ended_standings s j; booked = each remaining }
 
   ended_is : ended s j ≡ books
   unfolding ended
   ended_is =
-      ap (λ (c : Climbed). record { standings = endedStandings s j; booked = each (λ k. (of c.share k).booked) }) shared-is
+      ap (λ (c : Climbed). record { standings = ended_standings s j; booked = each (λ k. (of c.share k).booked) }) shared-is
 
   -- nobody waits
   nobody-booked : ahead s books ≡ books
   unfolding ahead activate
   nobody-booked =
-      passes-all s.size (at s.parents) (termsOf s) s.activation (length s.activation) books
+      passes-all s.size (at s.parents) (terms_of s) s.activation (length s.activation) books
       (λ e h w.
       let t =
       within-task s.size _
@@ -101,28 +101,28 @@ module _ (s : State) (p : Planned s) (going : Going s) (j : ℕ) (task : Task s.
       in
       let f = all-ended (at s.activation e) t in
       omega arith)
-      ∙ ap (λ (l : List ℕ). activate s.size (at s.parents) (termsOf s) l books) (drop-length s.activation)
+      ∙ ap (λ (l : List ℕ). activate s.size (at s.parents) (terms_of s) l books) (drop-length s.activation)
 
   -- nobody is ready
   nobody-starts : begun s books ≡ []
   unfolding begun
   nobody-starts =
-      no-starts s.size (at s.parents) (endedStandings s j) _ all-ended
+      no-starts s.size (at s.parents) (ended_standings s j) _ all-ended
       (starts-startable s.size (at s.parents) s.execution p.formed.execution-inside
-      (free s.size s.processors (endedStandings s j)) (endedStandings s j))
+      (free s.size s.processors (ended_standings s j)) (ended_standings s j))
 
-  phase-is : phaseAfter s j ≡ Phase.ready
-  unfolding phaseAfter
-  phase-is = rw (eq-eqb (at s.parents j) 0 root) refl
+  phase_is : phase_after s j ≡ Phase.ready
+  unfolding phase_after
+  phase_is = rw (eq-eqb (at s.parents j) 0 root) refl
 
-  pub closes : obey s (done j) ≡ plain (readyAfter s j)
+  pub closes : obey s (done j) ≡ plain (ready_after s j)
   unfolding obey proceed start
   closes =
-      rw (shared-is, ended_is, phase-is, nobody-booked, nobody-starts) refl
+      rw (shared-is, ended_is, phase_is, nobody-booked, nobody-starts) refl
 
   -- in each store
   module _ (k : Kind) where
-    stock : Stocked s.size (at s.parents) (needsIn s (store_of s k)) (at (store_of s k).outs) (store_of s k).bound (at s.standings)
+    stock : Stocked s.size (at s.parents) (needs_in s (store_of s k)) (at (store_of s k).outs) (store_of s k).bound (at s.standings)
         (store_of s k).booked
     stock = rw (of-each (λ d. (store_of s d).booked) k) at (going.settled.good.stock k)
 
@@ -130,7 +130,7 @@ module _ (s : State) (p : Planned s) (going : Going s) (j : ℕ) (task : Task s.
     held : at (store_of s k).outs j ≤ at (store_of s k).booked j
     held =
         let exact =
-        running-holds-need s.size (at s.parents) (rankIn s.activation) (tree s p) (needsIn s (store_of s k))
+        running-holds-need s.size (at s.parents) (rank_in s.activation) (tree s p) (needs_in s (store_of s k))
         (at (store_of s k).outs) (at s.standings) (at (store_of s k).booked) going.settled.good.shape stock.books j task runs
         in
         let room = needs-roomy s (store_of s k) j task in
@@ -144,13 +144,13 @@ module _ (s : State) (p : Planned s) (going : Going s) (j : ℕ) (task : Task s.
 
     -- the others had ended, and hold nothing
     empty : (i : ℕ) → Task s.size i → (i ≡ j → ⊥) → at (remaining k) i ≡ 0
-    unfolding endedStandings
+    unfolding ended_standings
     empty i t d =
         elsewhere i d
         ∙ stock.books.empty i t (sym (at_other s.standings j finished i d) ∙ all-ended i t)
 
-    remains-then : Remaining (readyAfter s j) (withBooked (store_of s k) (remaining k)) false
-    unfolding withBooks total
+    remains-then : Remaining (ready_after s j) (with_booked (store_of s k) (remaining k)) false
+    unfolding with_books total
     remains-then =
         record {
           booked =
@@ -174,8 +174,8 @@ module _ (s : State) (p : Planned s) (going : Going s) (j : ℕ) (task : Task s.
               omega arith);
         }
 
-  pub closing : Closed (readyAfter s j) false
-  unfolding withBooks
+  pub closing : Closed (ready_after s j) false
+  unfolding with_books
   closing =
       record {
         phased = refl;
@@ -183,5 +183,5 @@ module _ (s : State) (p : Planned s) (going : Going s) (j : ℕ) (task : Task s.
         stock =
             λ k.
             rw
-            (of-each (λ d. withBooked (store_of s d) (of (each remaining) d)) k, of-each remaining k) (remains-then k);
+            (of-each (λ d. with_booked (store_of s d) (of (each remaining) d)) k, of-each remaining k) (remains-then k);
       }

@@ -11,15 +11,15 @@ use borrow.Author.Tests.{eqb-true, eq-eqb, ne_eqb}
 use Rattle.books.specs.Kind.{Kind, of, each}
 use Rattle.numbers.specs.Lists.{at, first}
 use Rattle.rules.specs.Phase
-use Rattle.rules.specs.State.{State, rootOf, store_of}
+use Rattle.rules.specs.State.{State, root_of, store_of}
 use Rattle.format.specs.Command.{fetch}
 use Rattle.numbers.specs.Sums.{within}
 use Rattle.rules.specs.Grounds.{in_turn}
 use Rattle.books.specs.Booking.{total}
-use Rattle.rules.specs.Obey.{withBooked, withBooks, obey}
+use Rattle.rules.specs.Obey.{with_booked, with_books, obey}
 use Rattle.rules.specs.Obey
-use Rattle.rules.specs.Day.{Event, fetched, isFetched}
-use Rattle.tree.specs.Tree.{rankIn}
+use Rattle.rules.specs.Day.{Event, fetched, is_fetched}
+use Rattle.tree.specs.Tree.{rank_in}
 use Rattle.books.proofs.EachStore.{of-each}
 use Rattle.numbers.proofs.Tests.{clash, same_or_not, or_right}
 use Rattle.numbers.proofs.Sums.{Task, sum-zero, only-false}
@@ -34,33 +34,33 @@ use Rattle.rules.proofs.Formed.{Accepted}
 use Rattle.rules.proofs.InDay.{Planned, InDay, Closed, Course, goes, closed, tree, books-planned}
 
 -- the root of a plan is a task without a parent
-pub root-found : (s : State) → Planned s → Task s.size (rootOf s) × (at s.parents (rootOf s) ≡ 0)
+pub root-found : (s : State) → Planned s → Task s.size (root_of s) × (at s.parents (root_of s) ≡ 0)
 root-found s p = (root-task s.size (at s.parents) p.rooted, root-parent s.size (at s.parents) p.rooted)
 
 -- the first in the activation order without a parent is that task: there is no other
-pub root-first : (s : State) → Planned s → first (λ i. eqb (at s.parents i) 0) s.activation ≡ rootOf s
-root-first s p = go (first isRoot s.activation) refl
+pub root-first : (s : State) → Planned s → first (λ i. eqb (at s.parents i) 0) s.activation ≡ root_of s
+root-first s p = go (first is_root s.activation) refl
   where
-    isRoot : ℕ → Bool
-    isRoot i = eqb (at s.parents i) 0
+    is_root : ℕ → Bool
+    is_root i = eqb (at s.parents i) 0
 
-    go : (r : ℕ) → first isRoot s.activation ≡ r → first isRoot s.activation ≡ rootOf s
+    go : (r : ℕ) → first is_root s.activation ≡ r → first is_root s.activation ≡ root_of s
     go zero e =
         let r = root-found s p in
         absurd
-        (clash (eq-eqb (at s.parents (rootOf s)) 0 r.1)
-        (first-none isRoot s.size s.activation p.valid.inside e (rootOf s)
-        (stands s.size (at s.parents) s.activation p.valid (rootOf s) r.0)))
+        (clash (eq-eqb (at s.parents (root_of s)) 0 r.1)
+        (first-none is_root s.size s.activation p.valid.inside e (root_of s)
+        (stands s.size (at s.parents) s.activation p.valid (root_of s) r.0)))
     go (suc i) e =
-        let h = first_passes isRoot s.activation i e in
+        let h = first_passes is_root s.activation i e in
         let r = root-found s p in
         e
-        ∙ one-root s.size (at s.parents) p.rooted (suc i) (rootOf s)
+        ∙ one-root s.size (at s.parents) p.rooted (suc i) (root_of s)
         (within-task s.size (suc i) (every-mem (λ k. within k s.size) s.activation (suc i) p.valid.inside h.0))
         r.0 (eqb-true (at s.parents (suc i)) 0 h.1) r.1
 
 -- it stands last in the activation order: its parent would stand behind it
-pub last-is-root : (s : State) → Planned s → at s.activation (s.size - 1) ≡ rootOf s
+pub last-is-root : (s : State) → Planned s → at s.activation (s.size - 1) ≡ root_of s
 last-is-root s p =
     let root = root-found s p in
     let some = root.0.low in
@@ -80,12 +80,12 @@ last-is-root s p =
     let t = tree s p in
     let up = t.rises x task d in
     let below =
-    t.below (at s.parents x) (parent-task s.size (at s.parents) (rankIn s.activation) t x task d)
+    t.below (at s.parents x) (parent-task s.size (at s.parents) (rank_in s.activation) t x task d)
     in
     absurd (omega arith))
     (same_or_not (at s.parents x) 0)
     in
-    one-root s.size (at s.parents) p.rooted x (rootOf s) task root.0 top root.1
+    one-root s.size (at s.parents) p.rooted x (root_of s) task root.0 top root.1
 
 -- what is set to nothing is nothing, also past the end
 freed-there : (i : ℕ) (l : List ℕ) → at (set l i 0) i ≡ 0
@@ -110,31 +110,31 @@ module _ (s : State) (happened : List Event) (day : InDay s happened) (a : Accep
       by-course (goes g) = let p = g.phased in let r = in-ready in absurd (omega arith)
       by-course (closed gone c) = by-fetch gone c
 
-  not_yet : isFetched happened ≡ false
+  not_yet : is_fetched happened ≡ false
   not_yet = day.fetch ∙ ne_eqb s.phase Phase.over (λ q. let r = in-ready in omega arith)
 
   abbrev freed : Kind → List ℕ
-  freed k = set (store_of s k).booked (rootOf s) 0
+  freed k = set (store_of s k).booked (root_of s) 0
 
   -- what remained was the root's
-  pub nothing : (k : Kind) (i : ℕ) → Task s.size i → at (set (store_of s k).booked (rootOf s) 0) i ≡ 0
+  pub nothing : (k : Kind) (i : ℕ) → Task s.size i → at (set (store_of s k).booked (root_of s) 0) i ≡ 0
   nothing k i t =
       let r = root-found s day.planned in
       let remained = (loaded.stock k).booked in
       ⊎_elim
-      (λ (q : i ≡ rootOf s).
+      (λ (q : i ≡ root_of s).
       ap (at (freed k)) q
-      ∙ freed-there (rootOf s) (store_of s k).booked)
+      ∙ freed-there (root_of s) (store_of s k).booked)
       (λ d.
-      at_other (store_of s k).booked (rootOf s) 0 i d
+      at_other (store_of s k).booked (root_of s) 0 i d
       ∙ remained i t
       ∙ only-false (eqb (at s.parents i) 0) _
       (ne_eqb (at s.parents i) 0
-      (λ z. d (one-root s.size (at s.parents) day.planned.rooted i (rootOf s) t r.0 z r.1))))
-      (same_or_not i (rootOf s))
+      (λ z. d (one-root s.size (at s.parents) day.planned.rooted i (root_of s) t r.0 z r.1))))
+      (same_or_not i (root_of s))
 
   pub fetch-in-day : InDay (obey s fetch).state (happened ++ (fetched ∷ []))
-  unfolding obey Obey.unloaded withBooks total isFetched
+  unfolding obey Obey.unloaded with_books total is_fetched
   fetch-in-day =
       record {
         planned = books-planned s Phase.over _ _ (omega arith) day.planned;
@@ -145,7 +145,7 @@ module _ (s : State) (happened : List Event) (day : InDay s happened) (a : Accep
               all = loaded.all;
               stock =
                   λ k.
-                  rw (of-each (λ d. withBooked (store_of s d) (of (each freed) d)) k, of-each freed k)
+                  rw (of-each (λ d. with_booked (store_of s d) (of (each freed) d)) k, of-each freed k)
                   (record {
                     booked = nothing k;
                     within = (let z = sum-zero (at (freed k)) s.size (nothing k) in omega arith);
@@ -155,5 +155,5 @@ module _ (s : State) (happened : List Event) (day : InDay s happened) (a : Accep
         order =
             fetched-in-order s.size (at s.parents) happened day.order not_yet
             (all-reported s.size (at s.standings) happened day.logged loaded.all);
-        fetch = fetched-append happened (fetched ∷ []) ∙ or_right (isFetched happened) true refl;
+        fetch = fetched-append happened (fetched ∷ []) ∙ or_right (is_fetched happened) true refl;
       }

@@ -10,14 +10,14 @@ use lib.Dec.{eqb, leb}
 use lib.ListN.{length, length-append, get_or-append}
 use borrow.Author.Tests.{eqb-true, eq-eqb, ne_eqb, leb-true, not-true}
 use Rattle.books.specs.Kind.{Kind, chilled, Each, of}
-use Rattle.numbers.specs.Limits.{maxTasks, maxProcessors, maxCount, maxBound}
+use Rattle.numbers.specs.Limits.{max_tasks, max_processors, max_count, max_bound}
 use Rattle.numbers.specs.Lists.{at, mem, every, distinct}
 use Rattle.rules.specs.Phase
 use Rattle.rules.specs.State.{Store, State, none, store_of}
 use Rattle.format.specs.Command.{Command, plan, task, activation, execution, begin, done, fetch, places}
-use Rattle.rules.specs.Grounds.{in_turn, inLimits, demand, ownGround, ground}
+use Rattle.rules.specs.Grounds.{in_turn, in_limits, demand, own_ground, ground_for}
 use Rattle.numbers.specs.Sums.{within}
-use Rattle.rules.specs.Obey.{opened, withCounts, withTask, withOrders, completed, withBooked, withBooks, withBound, proceed, phaseAfter, unloaded, obey}
+use Rattle.rules.specs.Obey.{opened, with_counts, with_task, with_orders, completed, with_booked, with_books, with_bound, proceed, phase_after, unloaded, obey}
 use Rattle.numbers.proofs.Tests.{and-true, same_or_not}
 use Rattle.tree.proofs.Orders.{within-task, every-snoc, distinct_snoc}
 use Rattle.books.proofs.EachStore.{of-each}
@@ -31,14 +31,14 @@ demand-none false k rest d e = absurd (d e)
 -- a command that no ground refuses
 pub record Accepted (s : State) (c : Command) : Type 0 where
   pub turn : in_turn s c ≡ true
-  pub limits : inLimits s c ≡ true
-  pub own : ownGround s c ≡ 0
+  pub limits : in_limits s c ≡ true
+  pub own : own_ground s c ≡ 0
 
-pub no-ground : (s : State) (c : Command) → ground s c ≡ 0 → Accepted s c
-unfolding ground
+pub no-ground : (s : State) (c : Command) → ground_for s c ≡ 0 → Accepted s c
+unfolding ground_for
 no-ground s c e =
-    let one = demand-none (in_turn s c) 3 (demand (inLimits s c) 4 (ownGround s c)) (λ q. omega arith) e in
-    let two = demand-none (inLimits s c) 4 (ownGround s c) (λ q. omega arith) one.1 in
+    let one = demand-none (in_turn s c) 3 (demand (in_limits s c) 4 (own_ground s c)) (λ q. omega arith) e in
+    let two = demand-none (in_limits s c) 4 (own_ground s c) (λ q. omega arith) one.1 in
     record { turn = one.0; limits = two.0; own = two.1 }
 
 -- a column: an entry for nobody, and one in its limit for each task that is given so far
@@ -49,18 +49,18 @@ pub record Column (given limit : ℕ) (l : List ℕ) : Type 0 where
 
 -- a store of a plan
 pub record StoreFormed (given : ℕ) (store : Store) : Type 0 where
-  pub bounded : store.bound ≤ maxBound
-  pub works : Column given maxCount store.works
-  pub outs : Column given maxCount store.outs
+  pub bounded : store.bound ≤ max_bound
+  pub works : Column given max_count store.works
+  pub outs : Column given max_count store.outs
 
 -- the parents of the tasks that are given so far
 pub record Given (s : State) : Type 0 where
   pub parents : Column (length s.parents) s.size s.parents
-  pub in-steps : s.phase ≡ Phase.steps → (1 ≤ length s.parents) × (length s.parents ≤ s.size)
+  pub in_steps : s.phase ≡ Phase.steps → (1 ≤ length s.parents) × (length s.parents ≤ s.size)
   pub whole : Phase.orders ≤ s.phase → length s.parents ≡ suc s.size
 
 pub record Formed (s : State) : Type 0 where
-  pub sized : s.size ≤ maxTasks
+  pub sized : s.size ≤ max_tasks
   pub given : Given s
   pub stores : (k : Kind) → StoreFormed (length s.parents) (store_of s k)
   pub activation-inside : every (λ i. within i s.size) s.activation ≡ true
@@ -68,7 +68,7 @@ pub record Formed (s : State) : Type 0 where
   pub execution-inside : every (λ i. within i s.size) s.execution ≡ true
   pub execution-once : distinct s.execution ≡ true
   pub staffed : (s.phase ≡ Phase.empty → ⊥) → 1 ≤ s.processors
-  pub limited : s.processors ≤ maxProcessors
+  pub limited : s.processors ≤ max_processors
 
 -- a column without entries
 none-at : (limit i : ℕ) → at [] i ≤ limit
@@ -109,7 +109,7 @@ unfolding every distinct
 none-formed =
     record {
       sized = omega arith;
-      given = record { parents = no-column; in-steps = λ e. absurd (omega arith); whole = λ h. absurd (omega arith) };
+      given = record { parents = no-column; in_steps = λ e. absurd (omega arith); whole = λ h. absurd (omega arith) };
       stores = λ k.
           subst (StoreFormed 0) (sym (of-each (λ _. record { bound = 0; works = []; outs = []; booked = [] }) k))
           (record { bounded = omega arith; works = no-column; outs = no-column });
@@ -132,15 +132,15 @@ pub with-books-formed :
     → Phase.orders ≤ s.phase
     → Phase.orders ≤ phase
     → Formed s
-    → Formed (withBooks s phase st b)
-unfolding withBooks
+    → Formed (with_books s phase st b)
+unfolding with_books
 with-books-formed s phase st b p before after h =
     record {
       sized = h.sized;
-      given = record { parents = h.given.parents; in-steps = λ e. absurd (omega arith); whole = λ _. h.given.whole before };
+      given = record { parents = h.given.parents; in_steps = λ e. absurd (omega arith); whole = λ _. h.given.whole before };
       stores = λ k.
           let store = h.stores k in
-          subst (StoreFormed (length s.parents)) (sym (of-each (λ k. withBooked (store_of s k) (of b k)) k))
+          subst (StoreFormed (length s.parents)) (sym (of-each (λ k. with_booked (store_of s k) (of b k)) k))
           (record { bounded = store.bounded; works = store.works; outs = store.outs });
       activation-inside = h.activation-inside;
       activation-once = h.activation-once;
@@ -151,8 +151,8 @@ with-books-formed s phase st b p before after h =
     }
 
 -- the phase after a report
-pub after-report : (s : State) (j : ℕ) → Phase.running ≤ phaseAfter s j
-unfolding phaseAfter
+pub after-report : (s : State) (j : ℕ) → Phase.running ≤ phase_after s j
+unfolding phase_after
 after-report s j = go (eqb (at s.parents j) 0)
   where
     go : (t : Bool) → Phase.running ≤ cond t Phase.ready Phase.running
@@ -172,16 +172,16 @@ below a b h d = omega arith
 
 -- STEP adds an entry to each column
 task-given :
-    (s : State) (parent work out : ℕ) → s.phase ≡ Phase.steps → parent ≤ s.size → Given s → Given (withTask s parent work out)
-unfolding withTask
+    (s : State) (parent work out : ℕ) → s.phase ≡ Phase.steps → parent ≤ s.size → Given s → Given (with_task s parent work out)
+unfolding with_task
 task-given s parent work out steps limit h =
     let given = length s.parents in
     record {
       parents =
           subst (λ (g : ℕ). Column g s.size (s.parents ++ (parent ∷ []))) (sym (length-append s.parents (parent ∷ [])))
-          (longer-column parent (h.in-steps steps).0 limit h.parents);
-      in-steps = λ e.
-          (let room = below given s.size (h.in-steps steps).1 (task-more given s.size e) in simp length-append (omega arith, omega arith));
+          (longer-column parent (h.in_steps steps).0 limit h.parents);
+      in_steps = λ e.
+          (let room = below given s.size (h.in_steps steps).1 (task-more given s.size e) in simp length-append (omega arith, omega arith));
       whole = λ e. (let all = task-last given s.size e in simp length-append (omega arith));
     }
 
@@ -192,12 +192,12 @@ record Listed (n : ℕ) (l : List ℕ) : Type 0 where
 
 -- other orders
 with-orders-formed :
-    (s : State) {act exec : List ℕ} → Listed s.size act → Listed s.size exec → Formed s → Formed (withOrders s act exec)
-unfolding withOrders
+    (s : State) {act exec : List ℕ} → Listed s.size act → Listed s.size exec → Formed s → Formed (with_orders s act exec)
+unfolding with_orders
 with-orders-formed s act exec h =
     record {
       sized = h.sized;
-      given = record { parents = h.given.parents; in-steps = h.given.in-steps; whole = h.given.whole };
+      given = record { parents = h.given.parents; in_steps = h.given.in_steps; whole = h.given.whole };
       stores = h.stores;
       activation-inside = act.inside;
       activation-once = act.once;
@@ -221,12 +221,12 @@ one_more s l i h limits own =
     }
 
 -- other places of the cold room
-pub with-bound-formed : (s : State) (bound : ℕ) → bound ≤ maxBound → Formed s → Formed (withBound s bound)
-unfolding withBound
+pub with-bound-formed : (s : State) (bound : ℕ) → bound ≤ max_bound → Formed s → Formed (with_bound s bound)
+unfolding with_bound
 with-bound-formed s bound limit h =
     record {
       sized = h.sized;
-      given = record { parents = h.given.parents; in-steps = h.given.in-steps; whole = h.given.whole };
+      given = record { parents = h.given.parents; in_steps = h.given.in_steps; whole = h.given.whole };
       stores = stores;
       activation-inside = h.activation-inside;
       activation-once = h.activation-once;
@@ -236,7 +236,7 @@ with-bound-formed s bound limit h =
       limited = h.limited;
     }
   where
-    stores : (k : Kind) → StoreFormed (length s.parents) (store_of (withBound s bound) k)
+    stores : (k : Kind) → StoreFormed (length s.parents) (store_of (with_bound s bound) k)
     stores chilled =
         let store = h.stores chilled in record { bounded = limit; works = store.works; outs = store.outs }
 
@@ -250,18 +250,18 @@ completed-formed s h =
 
 -- an accepted command keeps it
 pub obey-formed : (s : State) (c : Command) → Accepted s c → Formed s → Formed (obey s c).state
-unfolding obey opened withTask withOrders completed unloaded withBound in_turn inLimits ownGround every distinct proceed
+unfolding obey opened with_task with_orders completed unloaded with_bound in_turn in_limits own_ground every distinct proceed
 obey-formed s (plan n p bound) a h =
-    let limits = and-true (within n maxTasks && within p maxProcessors) (leb bound maxBound) a.limits in
-    let both = and-true (within n maxTasks) (within p maxProcessors) limits.0 in
-    let tasks = within-task maxTasks n both.0 in
-    let between = within-task maxProcessors p both.1 in
+    let limits = and-true (within n max_tasks && within p max_processors) (leb bound max_bound) a.limits in
+    let both = and-true (within n max_tasks) (within p max_processors) limits.0 in
+    let tasks = within-task max_tasks n both.0 in
+    let between = within-task max_processors p both.1 in
     record {
       sized = tasks.high;
-      given = record { parents = nobody-column; in-steps = λ _. (omega arith, tasks.low); whole = λ e. absurd (omega arith) };
+      given = record { parents = nobody-column; in_steps = λ _. (omega arith, tasks.low); whole = λ e. absurd (omega arith) };
       stores = λ k.
           subst (StoreFormed 1) (sym (of-each (λ _. record { bound = bound; works = 0 ∷ []; outs = 0 ∷ []; booked = [] }) k))
-          (record { bounded = leb-true bound maxBound limits.1; works = nobody-column; outs = nobody-column });
+          (record { bounded = leb-true bound max_bound limits.1; works = nobody-column; outs = nobody-column });
       activation-inside = refl;
       activation-once = refl;
       execution-inside = refl;
@@ -270,22 +270,22 @@ obey-formed s (plan n p bound) a h =
       limited = between.high;
     }
 obey-formed s (task parent work out) a h =
-    let limits = and-true (leb parent s.size && leb work maxCount) (leb out maxCount) a.limits in
-    let both = and-true (leb parent s.size) (leb work maxCount) limits.0 in
+    let limits = and-true (leb parent s.size && leb work max_count) (leb out max_count) a.limits in
+    let both = and-true (leb parent s.size) (leb work max_count) limits.0 in
     let steps = eqb-true s.phase Phase.steps a.turn in
     record {
       sized = h.sized;
       given = task-given s parent work out steps (leb-true parent s.size both.0) h.given;
       stores = λ k.
           let store = h.stores k in
-          let some = (h.given.in-steps steps).0 in
+          let some = (h.given.in_steps steps).0 in
           subst (StoreFormed (length (s.parents ++ (parent ∷ []))))
-          (sym (of-each (λ k. withCounts (store_of s k) work out) k))
-          (subst (λ (given : ℕ). StoreFormed given (withCounts (store_of s k) work out)) (sym (length-append s.parents (parent ∷ [])))
+          (sym (of-each (λ k. with_counts (store_of s k) work out) k))
+          (subst (λ (given : ℕ). StoreFormed given (with_counts (store_of s k) work out)) (sym (length-append s.parents (parent ∷ [])))
           (record {
             bounded = store.bounded;
-            works = longer-column work some (leb-true work maxCount both.1) store.works;
-            outs = longer-column out some (leb-true out maxCount limits.1) store.outs;
+            works = longer-column work some (leb-true work max_count both.1) store.works;
+            outs = longer-column out some (leb-true out max_count limits.1) store.outs;
           }));
       activation-inside = h.activation-inside;
       activation-once = h.activation-once;
@@ -312,5 +312,5 @@ obey-formed s fetch a h =
     with-books-formed s _ _ _ (h.staffed (λ e. omega arith)) (omega arith) (omega arith) h
 obey-formed s (places bound) a h =
     let now = eqb-true s.phase Phase.running a.turn in
-    with-books-formed (withBound s bound) _ _ _ (h.staffed (λ e. omega arith)) (omega arith) (omega arith)
-    (with-bound-formed s bound (leb-true bound maxBound a.limits) h)
+    with-books-formed (with_bound s bound) _ _ _ (h.staffed (λ e. omega arith)) (omega arith) (omega arith)
+    (with-bound-formed s bound (leb-true bound max_bound a.limits) h)

@@ -12,15 +12,15 @@ use Rattle.numbers.specs.Sums.{only, sum_to}
 use Rattle.numbers.specs.Lists.{at}
 use Rattle.tree.specs.Need.{need}
 use Rattle.tree.specs.Peak.{Peaked}
-use Rattle.tree.specs.Tree.{roots, ordered, Valid, rankIn, Tree}
+use Rattle.tree.specs.Tree.{roots, ordered, Valid, rank_in, Tree}
 use Rattle.rules.specs.Phase
 use Rattle.books.specs.Standing.{waiting, running, finished, count}
-use Rattle.rules.specs.State.{Store, State, needsIn, store_of, OrdersHold}
+use Rattle.rules.specs.State.{Store, State, needs_in, store_of, OrdersHold}
 use Rattle.format.specs.Command.{begin}
-use Rattle.rules.specs.Grounds.{demand, peakIn, fitsIn, ownGround}
+use Rattle.rules.specs.Grounds.{demand, peak_in, fits_in, own_ground}
 use Rattle.books.specs.Booking.{Terms, Books, start, total}
-use Rattle.rules.specs.Obey.{withOrders, completed, withBooked, withBooks, booksOf, termsBy, termsOf, ahead, begun, proceed, fresh}
-use Rattle.rules.specs.Day.{Event, started, isFetched}
+use Rattle.rules.specs.Obey.{with_orders, completed, with_booked, with_books, books_of, terms_by, terms_of, ahead, begun, proceed, fresh}
+use Rattle.rules.specs.Day.{Event, started, is_fetched}
 use Rattle.books.specs.Invariant.{Roomy, arrived, Stocked, Good}
 use Rattle.books.proofs.EachStore.{of-each, all-each}
 use Rattle.numbers.proofs.Sums.{Task, sum-zero, count_none, only-false}
@@ -41,13 +41,13 @@ pub record Planned (s : State) : Type 0 where
   pub executed : length s.execution ≡ s.size
   pub rooted : roots s.size (at s.parents) ≡ 1
   pub staffed : 1 ≤ s.processors
-  pub fits : (k : Kind) → peakIn s (store_of s k) ≤ (store_of s k).bound
+  pub fits : (k : Kind) → peak_in s (store_of s k) ≤ (store_of s k).bound
 
 -- the root has not ended
 pub record Going (s : State) : Type 0 where
   pub phased : s.phase ≡ Phase.running
   pub settled :
-      Settled s.size (at s.parents) (rankIn s.activation) (termsOf s) s.processors (booksOf s)
+      Settled s.size (at s.parents) (rank_in s.activation) (terms_of s) s.processors (books_of s)
   pub unended : (r : ℕ) → Task s.size r → at s.parents r ≡ 0 → at s.standings r ≡ finished → ⊥
 
 -- what remains booked in a store once the root has ended
@@ -72,7 +72,7 @@ pub record InDay (s : State) (happened : List Event) : Type 0 where
   pub course : Course s
   pub logged : Logged s.size (at s.standings) happened
   pub order : InOrder s.size (at s.parents) happened
-  pub fetch : isFetched happened ≡ eqb s.phase Phase.over
+  pub fetch : is_fetched happened ≡ eqb s.phase Phase.over
 
 -- a plan whose tasks have all ended is past running
 pub past-running : {s : State} (gone : Bool) → Closed s gone → Phase.running < s.phase
@@ -96,12 +96,12 @@ four-standings s (goes g) i t = g.settled.good.shape.four i t
 four-standings s (closed gone c) i t = let e = c.all i t in omega arith
 
 -- the needs in a store leave room for the children's outs and the own out
-pub needs-roomy : (s : State) (store : Store) → Roomy s.size (at s.parents) (needsIn s store) (at store.outs)
+pub needs-roomy : (s : State) (store : Store) → Roomy s.size (at s.parents) (needs_in s store) (at store.outs)
 unfolding need
 needs-roomy s store i t = omega arith
 
 -- a planned plan is a tree by the places of its activation order
-pub tree : (s : State) → Planned s → Tree s.size (at s.parents) (rankIn s.activation)
+pub tree : (s : State) → Planned s → Tree s.size (at s.parents) (rank_in s.activation)
 tree s p = tree_of s.size (at s.parents) s.activation p.valid (λ i _. p.formed.given.parents.limited i)
 
 -- the first day of the books: nobody has begun, and nothing is booked
@@ -166,20 +166,20 @@ fresh-idle n =
 
 -- what BEGIN's checks give
 pub begin-planned : (s : State) → Formed s → Accepted s begin → Planned (completed s)
-unfolding ownGround completed withOrders peakIn fitsIn
+unfolding own_ground completed with_orders peak_in fits_in
 begin-planned s formed a =
     let turn = begin-turn s a.turn in
     let now = turn.now in
     let seven =
     demand-none (eqb (roots s.size (at s.parents)) 1) 7
-    (demand (ordered (at s.parents) s.activation) 8 (demand (all (fitsIn s)) 9 0))
+    (demand (ordered (at s.parents) s.activation) 8 (demand (all (fits_in s)) 9 0))
     (λ q. omega arith) a.own
     in
     let eight =
-    demand-none (ordered (at s.parents) s.activation) 8 (demand (all (fitsIn s)) 9 0)
+    demand-none (ordered (at s.parents) s.activation) 8 (demand (all (fits_in s)) 9 0)
     (λ q. omega arith) seven.1
     in
-    let nine = demand-none (all (fitsIn s)) 9 0 (λ q. omega arith) eight.1 in
+    let nine = demand-none (all (fits_in s)) 9 0 (λ q. omega arith) eight.1 in
     record {
       formed = completed-formed s formed;
       given = omega arith;
@@ -193,7 +193,7 @@ begin-planned s formed a =
       executed = turn.executed;
       rooted = eqb-true (roots s.size (at s.parents)) 1 seven.0;
       staffed = formed.staffed (λ z. omega arith);
-      fits = λ k. leb-true (peakIn s (store_of s k)) (store_of s k).bound (all-each (fitsIn s) nine.0 k);
+      fits = λ k. leb-true (peak_in s (store_of s k)) (store_of s k).bound (all-each (fits_in s) nine.0 k);
     }
 
 -- both orders of such a plan are what they must be
@@ -207,8 +207,8 @@ orders-hold s p =
 
 -- the plan itself stays as it was in its day
 pub books-planned :
-    (s : State) (phase : ℕ) (st : List ℕ) (b : Each (List ℕ)) → Phase.orders ≤ phase → Planned s → Planned (withBooks s phase st b)
-unfolding withBooks peakIn
+    (s : State) (phase : ℕ) (st : List ℕ) (b : Each (List ℕ)) → Phase.orders ≤ phase → Planned s → Planned (with_books s phase st b)
+unfolding with_books peak_in
 books-planned s phase st b later p =
     record {
       formed = with-books-formed s phase st b p.staffed p.given later p.formed;
@@ -217,25 +217,25 @@ books-planned s phase st b later p =
       executed = p.executed;
       rooted = p.rooted;
       staffed = p.staffed;
-      fits = λ k. rw (of-each (λ d. withBooked (store_of s d) (of b d)) k) (p.fits k);
+      fits = λ k. rw (of-each (λ d. with_booked (store_of s d) (of b d)) k) (p.fits k);
     }
 
 -- other books change nothing of what booking finds of the stores
-pub terms-stay : (s : State) (phase : ℕ) (st : List ℕ) (b : Each (List ℕ)) → termsOf (withBooks s phase st b) ≡ termsOf s
-unfolding withBooks
-terms-stay s phase st b = fun_ext (λ k. ap (λ (e : Store). termsBy s e) (of-each (λ d. withBooked (store_of s d) (of b d)) k))
+pub terms-stay : (s : State) (phase : ℕ) (st : List ℕ) (b : Each (List ℕ)) → terms_of (with_books s phase st b) ≡ terms_of s
+unfolding with_books
+terms-stay s phase st b = fun_ext (λ k. ap (λ (e : Store). terms_by s e) (of-each (λ d. with_booked (store_of s d) (of b d)) k))
 
 -- booking ahead and starting, from books in which what holds of the day is kept
 module _ (s : State) (p : Planned s) (k : Books) (peaks : Each Peaked) (offers : ℕ)
-    (good : Good s.size (at s.parents) (rankIn s.activation) (termsOf s) k)
+    (good : Good s.size (at s.parents) (rank_in s.activation) (terms_of s) k)
     (few : count s.size (at k.standings) running ≤ s.processors) where
   proceeds :
-      Coursed s.size (at s.parents) (rankIn s.activation) (termsOf (proceed s Phase.running k peaks offers).state)
-      s.processors k (booksOf (proceed s Phase.running k peaks offers).state) (proceed s Phase.running k peaks offers).started
-  unfolding proceed withBooks ahead begun
+      Coursed s.size (at s.parents) (rank_in s.activation) (terms_of (proceed s Phase.running k peaks offers).state)
+      s.processors k (books_of (proceed s Phase.running k peaks offers).state) (proceed s Phase.running k peaks offers).started
+  unfolding proceed with_books ahead begun
   proceeds =
       rw (terms-stay s Phase.running (start (begun s (ahead s k)) (ahead s k).standings) (ahead s k).booked)
-      (coursed s.size (at s.parents) s.activation p.valid (tree s p) (termsOf s) (λ d. needs-roomy s (store_of s d))
+      (coursed s.size (at s.parents) s.activation p.valid (tree s p) (terms_of s) (λ d. needs-roomy s (store_of s d))
       s.processors s.execution p.formed.execution-inside p.formed.execution-once p.executed k (ahead s k) good few refl
       (begun s (ahead s k)) refl)
 
@@ -244,10 +244,10 @@ module _ (s : State) (p : Planned s) (k : Books) (peaks : Each Peaked) (offers :
       (happened : List Event)
       → Logged s.size (at k.standings) happened
       → InOrder s.size (at s.parents) happened
-      → isFetched happened ≡ false
+      → is_fetched happened ≡ false
       → ((r : ℕ) → Task s.size r → at s.parents r ≡ 0 → at k.standings r ≡ finished → ⊥)
       → InDay (proceed s Phase.running k peaks offers).state (happened ++ map started (proceed s Phase.running k peaks offers).started)
-  unfolding proceed withBooks
+  unfolding proceed with_books
   proceed-in-day happened logged order fetch unended =
       let log = proceeds.logged happened logged order in
       record {

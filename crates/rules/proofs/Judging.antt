@@ -7,14 +7,14 @@ use lib.Dec.{eqb}
 use borrow.Author.Tests.{eq-eqb, ne_eqb}
 use Rattle.rules.specs.State.{State}
 use Rattle.format.specs.Command.{Command}
-use Rattle.rules.specs.Grounds.{in_turn, inLimits, demand, ownGround, ground}
+use Rattle.rules.specs.Grounds.{in_turn, in_limits, demand, own_ground, ground_for}
 use Rattle.rules.specs.Obey.{obey}
 use Rattle.rules.specs.Answer.{refuse, accept, judge}
 
 -- a command against which there is a ground is refused by its number
 pub judge-refused :
     (s : State) (c : Command) (k used : ℕ) (list : List ℕ)
-    → ground s c ≡ k
+    → ground_for s c ≡ k
     → (k ≡ 0 → ⊥)
     → judge s c used list ≡ refuse k s list
 unfolding judge
@@ -25,27 +25,27 @@ judge-refused s c k used list g some =
 -- a command against which there is no ground is obeyed
 pub judge-accepted :
     (s : State) (c : Command) (used : ℕ) (list : List ℕ)
-    → ground s c ≡ 0
+    → ground_for s c ≡ 0
     → judge s c used list ≡ accept (obey s c) used list
 unfolding judge
 judge-accepted s c used list g =
-    ap (λ (t : Bool). cond t (accept (obey s c) used list) (refuse (ground s c) s list)) (eq-eqb (ground s c) 0 g)
+    ap (λ (t : Bool). cond t (accept (obey s c) used list) (refuse (ground_for s c) s list)) (eq-eqb (ground_for s c) 0 g)
 
 -- out of turn is ground 3
-pub ground-turn : (s : State) (c : Command) → in_turn s c ≡ false → ground s c ≡ 3
-unfolding ground
-ground-turn s c t = ap (λ (b : Bool). demand b 3 (demand (inLimits s c) 4 (ownGround s c))) t
+pub ground-turn : (s : State) (c : Command) → in_turn s c ≡ false → ground_for s c ≡ 3
+unfolding ground_for
+ground-turn s c t = ap (λ (b : Bool). demand b 3 (demand (in_limits s c) 4 (own_ground s c))) t
 
 -- in turn and outside the limits is ground 4
-pub ground-limits : (s : State) (c : Command) → in_turn s c ≡ true → inLimits s c ≡ false → ground s c ≡ 4
-unfolding ground
+pub ground-limits : (s : State) (c : Command) → in_turn s c ≡ true → in_limits s c ≡ false → ground_for s c ≡ 4
+unfolding ground_for
 ground-limits s c t l =
-    ap (λ (b : Bool). demand b 3 (demand (inLimits s c) 4 (ownGround s c))) t
-    ∙ ap (λ (b : Bool). demand b 4 (ownGround s c)) l
+    ap (λ (b : Bool). demand b 3 (demand (in_limits s c) 4 (own_ground s c))) t
+    ∙ ap (λ (b : Bool). demand b 4 (own_ground s c)) l
 
 -- in turn and inside the limits, only what is checked of that command is left
-pub ground-own : (s : State) (c : Command) → in_turn s c ≡ true → inLimits s c ≡ true → ground s c ≡ ownGround s c
-unfolding ground
+pub ground-own : (s : State) (c : Command) → in_turn s c ≡ true → in_limits s c ≡ true → ground_for s c ≡ own_ground s c
+unfolding ground_for
 ground-own s c t l =
-    ap (λ (b : Bool). demand b 3 (demand (inLimits s c) 4 (ownGround s c))) t
-    ∙ ap (λ (b : Bool). demand b 4 (ownGround s c)) l
+    ap (λ (b : Bool). demand b 3 (demand (in_limits s c) 4 (own_ground s c))) t
+    ∙ ap (λ (b : Bool). demand b 4 (own_ground s c)) l

@@ -12,7 +12,7 @@ use Rattle.numbers.specs.Lists.{at, mem, every, distinct}
 use Rattle.numbers.specs.Sums.{within}
 use Rattle.books.specs.Standing.{activated, running, finished, count}
 use Rattle.books.specs.Booking.{start}
-use Rattle.rules.specs.Day.{Event, started, ended, fetched, bounded, starts, ends, isFetched, runs}
+use Rattle.rules.specs.Day.{Event, started, ended, fetched, bounded, starts, ends, is_fetched, runs}
 use Rattle.numbers.proofs.Tests.{same_or_not, or_right, or-none, eqb-above}
 use Rattle.numbers.proofs.Sums.{Task, count-all}
 use Rattle.numbers.proofs.Counts.{count-cong}
@@ -39,8 +39,8 @@ ends-append (fetched ∷ l) m = ends-append l m
 ends-append (bounded b ∷ l) m = ends-append l m
 
 -- the fetch, in what happens one after the other
-pub fetched-append : (l m : List Event) → isFetched (l ++ m) ≡ (isFetched l || isFetched m)
-unfolding isFetched
+pub fetched-append : (l m : List Event) → is_fetched (l ++ m) ≡ (is_fetched l || is_fetched m)
+unfolding is_fetched
 fetched-append [] m = refl
 fetched-append (started i ∷ l) m = fetched-append l m
 fetched-append (ended i ∷ l) m = fetched-append l m
@@ -48,12 +48,12 @@ fetched-append (fetched ∷ l) m = refl
 fetched-append (bounded b ∷ l) m = fetched-append l m
 
 -- starts are no fetch
-pub starts-unfetched : (l : List ℕ) (happened : List Event) → isFetched (happened ++ map started l) ≡ isFetched happened
-unfolding isFetched
+pub starts-unfetched : (l : List ℕ) (happened : List Event) → is_fetched (happened ++ map started l) ≡ is_fetched happened
+unfolding is_fetched
 starts-unfetched l happened =
-    fetched-append happened (map started l) ∙ ap (λ (t : Bool). isFetched happened || t) (none l) ∙ or-none (isFetched happened)
+    fetched-append happened (map started l) ∙ ap (λ (t : Bool). is_fetched happened || t) (none l) ∙ or-none (is_fetched happened)
   where
-    none : (l : List ℕ) → isFetched (map started l) ≡ false
+    none : (l : List ℕ) → is_fetched (map started l) ≡ false
     none [] = refl
     none (i ∷ l) = none l
 
@@ -105,7 +105,7 @@ pub record InOrder (n : ℕ) (par : ℕ → ℕ) (happened : List Event) : Type 
   pub fetch :
       (earlier later : List Event)
       → happened ≡ earlier ++ fetched ∷ later
-      → (isFetched earlier ≡ false) × (length (ends earlier) ≡ n)
+      → (is_fetched earlier ≡ false) × (length (ends earlier) ≡ n)
 
 module _ (n : ℕ) (par : ℕ → ℕ) where
   pub nothing-in-order : InOrder n par []
@@ -125,7 +125,7 @@ module _ (n : ℕ) (par : ℕ → ℕ) where
       → ((i : ℕ) → started i ≡ new → mem i (starts old) ≡ false)
       → ((i : ℕ) → started i ≡ new → (c : ℕ) → Task n c → par c ≡ i → mem c (ends old) ≡ true)
       → ((i : ℕ) → ended i ≡ new → runs old i ≡ true)
-      → (fetched ≡ new → (isFetched old ≡ false) × (length (ends old) ≡ n))
+      → (fetched ≡ new → (is_fetched old ≡ false) × (length (ends old) ≡ n))
       → InOrder n par (old ++ (new ∷ []))
   one_more old new h first fed ran fetch =
       record {
@@ -154,7 +154,7 @@ module _ (n : ℕ) (par : ℕ → ℕ) where
       ran-there e i (before l p) = h.ran e l i p
 
       fetch-there :
-          (e : List Event) → Where old new e fetched → (isFetched e ≡ false) × (length (ends e) ≡ n)
+          (e : List Event) → Where old new e fetched → (is_fetched e ≡ false) × (length (ends e) ≡ n)
       fetch-there e (last p q) = rw p (fetch q)
       fetch-there e (before l p) = h.fetch e l p
 
@@ -170,7 +170,7 @@ module _ (n : ℕ) (par : ℕ → ℕ) where
   pub fetched-in-order :
       (old : List Event)
       → InOrder n par old
-      → isFetched old ≡ false
+      → is_fetched old ≡ false
       → length (ends old) ≡ n
       → InOrder n par (old ++ (fetched ∷ []))
   unfolding kind

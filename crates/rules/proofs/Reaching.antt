@@ -8,12 +8,12 @@ use native.Mathlib.Omega.{arith}
 use lib.Dec.{eqb, ltb}
 use lib.ListN.{length, replicate}
 use borrow.Author.Tests.{eqb-true, eq-eqb}
-use Rattle.numbers.specs.Limits.{leastStarts}
+use Rattle.numbers.specs.Limits.{least_starts}
 use Rattle.rules.specs.Phase
 use Rattle.rules.specs.State.{State, none}
 use Rattle.format.specs.Command.{Command, plan, task, activation, execution, begin, done, fetch, places, Decoded, refused, read, decode}
-use Rattle.rules.specs.Grounds.{in_turn, ground}
-use Rattle.rules.specs.Obey.{opened, withTask, withOrders, obey}
+use Rattle.rules.specs.Grounds.{in_turn, ground_for}
+use Rattle.rules.specs.Obey.{opened, with_task, with_orders, obey}
 use Rattle.rules.specs.Answer.{Asking, Answered, refuse, accept, judge, respond, command}
 use Rattle.rules.specs.Day.{Event, started, ended, fetched, bounded, after}
 use Rattle.rules.specs.Reachable.{Reachable, start, next}
@@ -31,7 +31,7 @@ pub data Response (s : State) (d : Decoded) (list : List ℕ) : Type 0 where
   obeyed : (c : Command) → Accepted s c → (respond s d list).state ≡ (obey s c).state → Response s d list
 
 -- the branches
-short-list : (s : State) (d : Decoded) (list : List ℕ) → ltb (length list) leastStarts ≡ true → (respond s d list).state ≡ s
+short-list : (s : State) (d : Decoded) (list : List ℕ) → ltb (length list) least_starts ≡ true → (respond s d list).state ≡ s
 unfolding respond refuse
 short-list s d list e =
     ap
@@ -40,54 +40,54 @@ short-list s d list e =
     e
 
 not-read :
-    (s : State) (k : ℕ) (list : List ℕ) → ltb (length list) leastStarts ≡ false → (respond s (refused k) list).state ≡ s
+    (s : State) (k : ℕ) (list : List ℕ) → ltb (length list) least_starts ≡ false → (respond s (refused k) list).state ≡ s
 unfolding respond refuse
 not-read s k list e = ap (λ (t : Bool). (cond t (refuse 10 s list) (refuse k s list)).state) e
 
 pub is_read :
     (s : State) (c : Command) (used : ℕ) (list : List ℕ)
-    → ltb (length list) leastStarts ≡ false
+    → ltb (length list) least_starts ≡ false
     → respond s (read c used) list ≡ judge s c used list
 unfolding respond
 is_read s c used list e = ap (λ (t : Bool). cond t (refuse 10 s list) (judge s c used list)) e
 
 granted :
     (s : State) (c : Command) (used : ℕ) (list : List ℕ)
-    → eqb (ground s c) 0 ≡ true
+    → eqb (ground_for s c) 0 ≡ true
     → (judge s c used list).state ≡ (obey s c).state
 unfolding judge accept
 granted s c used list e =
-    ap (λ (t : Bool). (cond t (accept (obey s c) used list) (refuse (ground s c) s list)).state) e
+    ap (λ (t : Bool). (cond t (accept (obey s c) used list) (refuse (ground_for s c) s list)).state) e
 
 denied :
-    (s : State) (c : Command) (used : ℕ) (list : List ℕ) → eqb (ground s c) 0 ≡ false → (judge s c used list).state ≡ s
+    (s : State) (c : Command) (used : ℕ) (list : List ℕ) → eqb (ground_for s c) 0 ≡ false → (judge s c used list).state ≡ s
 unfolding judge refuse
 denied s c used list e =
-    ap (λ (t : Bool). (cond t (accept (obey s c) used list) (refuse (ground s c) s list)).state) e
+    ap (λ (t : Bool). (cond t (accept (obey s c) used list) (refuse (ground_for s c) s list)).state) e
 
 pub response : (s : State) (d : Decoded) (list : List ℕ) → Response s d list
 response s d list =
-    ⊎_elim (λ (e : ltb (length list) leastStarts ≡ true). left_alone (short-list s d list e))
-    (λ (e : ltb (length list) leastStarts ≡ false). by-decoded s d list e)
-    (decide (ltb (length list) leastStarts))
+    ⊎_elim (λ (e : ltb (length list) least_starts ≡ true). left_alone (short-list s d list e))
+    (λ (e : ltb (length list) least_starts ≡ false). by-decoded s d list e)
+    (decide (ltb (length list) least_starts))
   where
-    by-decoded : (s : State) (d : Decoded) (list : List ℕ) → ltb (length list) leastStarts ≡ false → Response s d list
+    by-decoded : (s : State) (d : Decoded) (list : List ℕ) → ltb (length list) least_starts ≡ false → Response s d list
     by-decoded s (refused k) list e = left_alone (not-read s k list e)
     by-decoded s (read c used) list e =
         ⊎_elim
-        (λ (g : eqb (ground s c) 0 ≡ true).
-        obeyed c (no-ground s c (eqb-true (ground s c) 0 g))
+        (λ (g : eqb (ground_for s c) 0 ≡ true).
+        obeyed c (no-ground s c (eqb-true (ground_for s c) 0 g))
         (ap (λ (a : Answered). a.state) (is_read s c used list e) ∙ granted s c used list g))
-        (λ (g : eqb (ground s c) 0 ≡ false).
+        (λ (g : eqb (ground_for s c) 0 ≡ false).
         left_alone (ap (λ (a : Answered). a.state) (is_read s c used list e) ∙ denied s c used list g))
-        (decide (eqb (ground s c) 0))
+        (decide (eqb (ground_for s c) 0))
 
 -- so is the plan that a command leaves against which there is no ground
-pub obeyed-reachable : (s : State) (c : Command) → ground s c ≡ 0 → Reachable s → Reachable (obey s c).state
+pub obeyed-reachable : (s : State) (c : Command) → ground_for s c ≡ 0 → Reachable s → Reachable (obey s c).state
 obeyed-reachable s c g r =
-    let list : List ℕ = replicate leastStarts 0 in
+    let list : List ℕ = replicate least_starts 0 in
     subst Reachable
-    (ap (λ (a : Answered). a.state) (is_read s c 0 list refl) ∙ granted s c 0 list (eq-eqb (ground s c) 0 g)) (next (read c 0) list r)
+    (ap (λ (a : Answered). a.state) (is_read s c 0 list refl) ∙ granted s c 0 list (eq-eqb (ground_for s c) 0 g)) (next (read c 0) list r)
 
 -- the plan after any list of askings is one that commands led to
 pub after-reachable : (l : List Asking) {s : State} → Reachable s → Reachable (after s l)
@@ -110,7 +110,7 @@ obey-day :
     → Lived s
     → Phase.running ≤ (obey s c).state.phase
     → (happened : List Event) × InDay (obey s c).state happened
-unfolding obey opened withTask withOrders in_turn
+unfolding obey opened with_task with_orders in_turn
 obey-day s (plan n p bound) a lived h = absurd (omega arith)
 obey-day s (task parent work out) a lived h = absurd (early (eqb (length s.parents) s.size) h)
   where

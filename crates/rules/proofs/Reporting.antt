@@ -13,11 +13,11 @@ use Rattle.rules.specs.Phase
 use Rattle.books.specs.Standing.{running, finished, count}
 use Rattle.rules.specs.State.{State, store_of}
 use Rattle.format.specs.Command.{done}
-use Rattle.rules.specs.Grounds.{in_turn, inLimits, noPeaks, ownGround}
-use Rattle.rules.specs.Obey.{withBooks, termsOf, booksOf, proceed, endedStandings, shared, phaseAfter, obey}
+use Rattle.rules.specs.Grounds.{in_turn, in_limits, no_peaks, own_ground}
+use Rattle.rules.specs.Obey.{with_books, terms_of, books_of, proceed, ended_standings, shared, phase_after, obey}
 use Rattle.rules.specs.Obey
-use Rattle.rules.specs.Day.{Event, started, ended, isFetched}
-use Rattle.tree.specs.Tree.{rankIn}
+use Rattle.rules.specs.Day.{Event, started, ended, is_fetched}
+use Rattle.tree.specs.Tree.{rank_in}
 use Rattle.books.specs.Invariant.{Good}
 use Rattle.numbers.proofs.Tests.{same_or_not, or-none}
 use Rattle.numbers.proofs.Sums.{Task}
@@ -59,11 +59,11 @@ one-more-ended n st j sized t runs =
 
 module _ (s : State) (happened : List Event) (day : InDay s happened) (j : ℕ) (a : Accepted s (done j)) where
   task : Task s.size j
-  unfolding inLimits
+  unfolding in_limits
   task = within-task s.size j a.limits
 
   runs : at s.standings j ≡ running
-  unfolding ownGround
+  unfolding own_ground
   runs =
       eqb-true (at s.standings j) running
       (demand-none (eqb (at s.standings j) running) 6 0 (λ q. omega arith) a.own).0
@@ -77,7 +77,7 @@ module _ (s : State) (happened : List Event) (day : InDay s happened) (j : ℕ) 
   going = still-going s day.course in-running
 
   few : count s.size (at (Obey.ended s j).standings) running ≤ s.processors
-  unfolding Obey.ended endedStandings
+  unfolding Obey.ended ended_standings
   few =
       let one = one_fewer s.size s.standings j going.settled.good.sized task runs in
       let all = going.settled.staffed in
@@ -85,11 +85,11 @@ module _ (s : State) (happened : List Event) (day : InDay s happened) (j : ℕ) 
 
   -- who has ended: j, and those that had
   ended-other : (i : ℕ) → (i ≡ j → ⊥) → at (Obey.ended s j).standings i ≡ at s.standings i
-  unfolding Obey.ended endedStandings
+  unfolding Obey.ended ended_standings
   ended-other i d = at_other s.standings j finished i d
 
   logged : Logged s.size (at (Obey.ended s j).standings) (happened ++ (ended j ∷ []))
-  unfolding Obey.ended endedStandings
+  unfolding Obey.ended ended_standings
   logged =
       ended-logged s.size s.standings going.settled.good.sized happened j task day.logged runs
 
@@ -99,11 +99,11 @@ module _ (s : State) (happened : List Event) (day : InDay s happened) (j : ℕ) 
       (logged-runs s.size (at s.standings) happened day.logged j task (omega (arith, runs))
       ∙ eq-eqb (at s.standings j) running runs)
 
-  not-fetched : isFetched (happened ++ (ended j ∷ [])) ≡ false
-  unfolding isFetched
+  not-fetched : is_fetched (happened ++ (ended j ∷ [])) ≡ false
+  unfolding is_fetched
   not-fetched =
       fetched-append happened (ended j ∷ [])
-      ∙ or-none (isFetched happened)
+      ∙ or-none (is_fetched happened)
       ∙ day.fetch
       ∙ ne_eqb s.phase Phase.over (λ q. let r = in-running in omega arith)
 
@@ -117,33 +117,33 @@ module _ (s : State) (happened : List Event) (day : InDay s happened) (j : ℕ) 
   -- a task with a parent: what it held is shared out, and the day goes on
   module _ (higher : at s.parents j ≡ 0 → ⊥) where
     good :
-        Good s.size (at s.parents) (rankIn s.activation) (termsOf s) (Obey.ended s j)
-    unfolding Obey.ended shared endedStandings
+        Good s.size (at s.parents) (rank_in s.activation) (terms_of s) (Obey.ended s j)
+    unfolding Obey.ended shared ended_standings
     good =
-        sharing-good s.size (at s.parents) (rankIn s.activation) (tree s day.planned) (termsOf s)
-        (λ d. needs-roomy s (store_of s d)) (booksOf s) going.settled.good j task runs higher
+        sharing-good s.size (at s.parents) (rank_in s.activation) (tree s day.planned) (terms_of s)
+        (λ d. needs-roomy s (store_of s d)) (books_of s) going.settled.good j task runs higher
 
     -- the root is another one
     still-unended : (r : ℕ) → Task s.size r → at s.parents r ≡ 0 → at (Obey.ended s j).standings r ≡ finished → ⊥
     still-unended r t root e =
         going.unended r t root (sym (ended-other r (λ q. higher (ap (at s.parents) (sym q) ∙ root))) ∙ e)
 
-    runs_on : phaseAfter s j ≡ Phase.running
-    unfolding phaseAfter
+    runs_on : phase_after s j ≡ Phase.running
+    unfolding phase_after
     runs_on = rw (ne_eqb (at s.parents j) 0 higher) refl
 
     goes_on : InDay (obey s (done j)).state happens
     unfolding obey
     goes_on =
         rw runs_on
-        (subst (λ (l : List Event). InDay (proceed s Phase.running (Obey.ended s j) noPeaks offers).state l)
-        (append_assoc happened (ended j ∷ []) (map started (proceed s Phase.running (Obey.ended s j) noPeaks offers).started))
-        (proceed-in-day s day.planned (Obey.ended s j) noPeaks offers good few (happened ++ (ended j ∷ [])) logged in_order not-fetched
+        (subst (λ (l : List Event). InDay (proceed s Phase.running (Obey.ended s j) no_peaks offers).state l)
+        (append_assoc happened (ended j ∷ []) (map started (proceed s Phase.running (Obey.ended s j) no_peaks offers).started))
+        (proceed-in-day s day.planned (Obey.ended s j) no_peaks offers good few (happened ++ (ended j ∷ [])) logged in_order not-fetched
         still-unended))
 
   -- the root: its out remains, and all have ended
   stands : at s.parents j ≡ 0 → InDay (obey s (done j)).state happens
-  unfolding withBooks Obey.ended
+  unfolding with_books Obey.ended
   stands root =
       rw (closes s day.planned going j task runs root)
       (record {

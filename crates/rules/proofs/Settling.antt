@@ -12,8 +12,8 @@ use Rattle.books.specs.Kind.{Kind, Each, of}
 use Rattle.numbers.specs.Lists.{at, every, distinct}
 use Rattle.books.specs.Standing.{waiting, activated, running, finished, count}
 use Rattle.rules.specs.Obey.{free}
-use Rattle.books.specs.Booking.{Terms, Books, total, childrenFigure, missing, misses, allowsIn, allows, activate, ready, starts, start}
-use Rattle.tree.specs.Tree.{figure, Valid, rankIn, Tree}
+use Rattle.books.specs.Booking.{Terms, Books, total, children_figure, missing, misses, allows_in, allows, activate, ready, starts, start}
+use Rattle.tree.specs.Tree.{figure, Valid, rank_in, Tree}
 use Rattle.rules.specs.Day.{Event, started}
 use Rattle.books.specs.Invariant.{FirstWaiting, Roomy, Good}
 use Rattle.books.proofs.EachStore.{all_same}
@@ -31,7 +31,7 @@ pub missing-same :
     → ((c : ℕ) → Task n c → eqb (st' c) finished ≡ eqb (st c) finished)
     → (x : ℕ)
     → missing n par need st' b x ≡ missing n par need st b x
-unfolding missing childrenFigure
+unfolding missing children_figure
 missing-same n par need st st' b same x =
     ap (λ (f : ℕ). need x - (b x + f))
     (sum-cong (λ c. only (eqb (par c) x && not (eqb (st' c) finished)) (figure n par b c))
@@ -45,7 +45,7 @@ pub allows-same :
     → (x : ℕ)
     → allows n par terms (record { standings = st'; booked = b }) x
     ≡ allows n par terms (record { standings = st; booked = b }) x
-unfolding allows allowsIn misses
+unfolding allows allows_in misses
 allows-same n par terms st st' b same x =
     all_same _ _
     (λ k.
@@ -71,13 +71,13 @@ pub record Coursed (n : ℕ) (par rank : ℕ → ℕ) (terms : Kind → Terms) (
       → InOrder n par happened
       → Logged n (at k'.standings) (happened ++ map started l) × InOrder n par (happened ++ map started l)
 
-module _ (n : ℕ) (par : ℕ → ℕ) (order : List ℕ) (valid : Valid n par order) (tree : Tree n par (rankIn order))
+module _ (n : ℕ) (par : ℕ → ℕ) (order : List ℕ) (valid : Valid n par order) (tree : Tree n par (rank_in order))
     (terms : Kind → Terms) (roomy : (k : Kind) → Roomy n par (terms k).need (terms k).out) (processors : ℕ) (execution : List ℕ)
     (inside : every (λ i. within i n) execution ≡ true) (once : distinct execution ≡ true) (whole : length execution ≡ n)
-    (k k₁ : Books) (good : Good n par (rankIn order) terms k)
+    (k k₁ : Books) (good : Good n par (rank_in order) terms k)
     (staffed : count n (at k.standings) running ≤ processors) (ahead : k₁ ≡ activate n par terms order k) (l : List ℕ)
     (begun : l ≡ starts n par execution (free n processors k₁.standings) k₁.standings) where
-  pub activated-ahead : Activated n par (rankIn order) terms k k₁
+  pub activated-ahead : Activated n par (rank_in order) terms k k₁
   activated-ahead =
       rw ahead (activates n par order valid tree terms roomy [] order k refl (λ j m. absurd (nobody j m)) good)
 
@@ -132,11 +132,11 @@ module _ (n : ℕ) (par : ℕ → ℕ) (order : List ℕ) (valid : Valid n par o
   waits-after i w = ⊎_elim (λ e. e ∙ w) (λ h. absurd (omega (arith, h.0))) (kind i)
 
   settles :
-      Settled n par (rankIn order) terms processors (record { standings = start l k₁.standings; booked = k₁.booked })
+      Settled n par (rank_in order) terms processors (record { standings = start l k₁.standings; booked = k₁.booked })
   unfolding free
   settles =
       record {
-        good = start-good n par (rankIn order) terms l k₁.standings k₁.booked may-start activated-ahead.good;
+        good = start-good n par (rank_in order) terms l k₁.standings k₁.booked may-start activated-ahead.good;
         halted =
             λ x w.
             allows-same n par terms k₁.standings (start l k₁.standings) k₁.booked same_ended x
@@ -160,7 +160,7 @@ module _ (n : ℕ) (par : ℕ → ℕ) (order : List ℕ) (valid : Valid n par o
       }
 
   pub coursed :
-      Coursed n par (rankIn order) terms processors k
+      Coursed n par (rank_in order) terms processors k
       (record { standings = start l k₁.standings; booked = k₁.booked }) l
   coursed =
       record {

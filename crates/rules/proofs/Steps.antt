@@ -9,10 +9,10 @@ use lib.Dec.{eqb, ltb}
 use lib.ListN.{length, take, drop}
 use lib.Seq.{take-append_seam}
 use borrow.Author.Tests.{eqb-true, eqb-false, ne_eqb, ltb-false}
-use Rattle.numbers.specs.Limits.{leastStarts}
+use Rattle.numbers.specs.Limits.{least_starts}
 use Rattle.rules.specs.State.{State}
 use Rattle.format.specs.Command.{Command, Decoded, refused, read, decode}
-use Rattle.rules.specs.Grounds.{ground}
+use Rattle.rules.specs.Grounds.{ground_for}
 use Rattle.rules.specs.Obey.{obey}
 use Rattle.rules.specs.Answer.{Asking, Answered, refuse, front, accept, judge, respond, command}
 use Rattle.rules.specs.Day.{started, accepted, reported, events}
@@ -31,7 +31,7 @@ pub record Obeyed (s : State) (a : Asking) (c : Command) (used : ℕ) : Type 0 w
   pub decoded : decode a.stream a.place ≡ read c used
   pub granted : Accepted s c
   pub is-accepted : accepted s a ≡ true
-  pub listed : leastStarts ≤ length a.list
+  pub listed : least_starts ≤ length a.list
   pub answered : command s a ≡ accept (obey s c) used a.list
   pub after : (command s a).state ≡ (obey s c).state
   pub happens : events s a ≡ reported (read c used) ++ map started (obey s c).started
@@ -54,9 +54,9 @@ refusing s a k d e =
 -- an answer that accepts
 accepting :
     (s : State) (a : Asking) (c : Command) (used : ℕ)
-    → ltb (length a.list) leastStarts ≡ false
+    → ltb (length a.list) least_starts ≡ false
     → decode a.stream a.place ≡ read c used
-    → ground s c ≡ 0
+    → ground_for s c ≡ 0
     → command s a ≡ accept (obey s c) used a.list
     → Step s a
 unfolding accepted accept front events
@@ -67,7 +67,7 @@ accepting s a c used long d g e =
       decoded = d;
       granted = no-ground s c g;
       is-accepted = yes-accepted;
-      listed = ltb-false (length a.list) leastStarts long;
+      listed = ltb-false (length a.list) least_starts long;
       answered = e;
       after = ap (λ (r : Answered). r.state) e;
       happens =
@@ -84,13 +84,13 @@ accepting s a c used long d g e =
     })
 
 -- the branches of an answer
-short-list : (s : State) (a : Asking) → ltb (length a.list) leastStarts ≡ true → command s a ≡ refuse 10 s a.list
+short-list : (s : State) (a : Asking) → ltb (length a.list) least_starts ≡ true → command s a ≡ refuse 10 s a.list
 unfolding command respond
 short-list s a e = rw e
 
 not-decoded :
     (s : State) (a : Asking) (k : ℕ)
-    → ltb (length a.list) leastStarts ≡ false
+    → ltb (length a.list) least_starts ≡ false
     → decode a.stream a.place ≡ refused k
     → command s a ≡ refuse k s a.list
 unfolding command respond
@@ -98,7 +98,7 @@ not-decoded s a k e d = rw (e, d)
 
 judged :
     (s : State) (a : Asking) (c : Command) (used : ℕ)
-    → ltb (length a.list) leastStarts ≡ false
+    → ltb (length a.list) least_starts ≡ false
     → decode a.stream a.place ≡ read c used
     → command s a ≡ judge s c used a.list
 unfolding command respond
@@ -106,36 +106,36 @@ judged s a c used e d = rw (e, d)
 
 judged-well :
     (s : State) (c : Command) (used : ℕ) (list : List ℕ)
-    → eqb (ground s c) 0 ≡ true
+    → eqb (ground_for s c) 0 ≡ true
     → judge s c used list ≡ accept (obey s c) used list
 unfolding judge
 judged-well s c used list e = rw e
 
 judged-ill :
     (s : State) (c : Command) (used : ℕ) (list : List ℕ)
-    → eqb (ground s c) 0 ≡ false
-    → judge s c used list ≡ refuse (ground s c) s list
+    → eqb (ground_for s c) 0 ≡ false
+    → judge s c used list ≡ refuse (ground_for s c) s list
 unfolding judge
 judged-ill s c used list e = rw e
 
 pub step : (s : State) (a : Asking) → Step s a
 step s a =
-    ⊎_elim (λ (e : ltb (length a.list) leastStarts ≡ true). refusing s a 10 (λ z. omega arith) (short-list s a e))
-    (λ (e : ltb (length a.list) leastStarts ≡ false).
+    ⊎_elim (λ (e : ltb (length a.list) least_starts ≡ true). refusing s a 10 (λ z. omega arith) (short-list s a e))
+    (λ (e : ltb (length a.list) least_starts ≡ false).
     by-decoded (decode a.stream a.place) refl (decode-counts a.stream a.place) e)
-    (decide (ltb (length a.list) leastStarts))
+    (decide (ltb (length a.list) least_starts))
   where
     by-decoded :
         (d : Decoded)
         → decode a.stream a.place ≡ d
         → Counts d
-        → ltb (length a.list) leastStarts ≡ false
+        → ltb (length a.list) least_starts ≡ false
         → Step s a
     by-decoded (refused k) d p e = refusing s a k p (not-decoded s a k e d)
     by-decoded (read c used) d p e =
         ⊎_elim
-        (λ (g : eqb (ground s c) 0 ≡ true).
-        accepting s a c used e d (eqb-true (ground s c) 0 g) (judged s a c used e d ∙ judged-well s c used a.list g))
-        (λ (g : eqb (ground s c) 0 ≡ false).
-        refusing s a (ground s c) (eqb-false (ground s c) 0 g) (judged s a c used e d ∙ judged-ill s c used a.list g))
-        (decide (eqb (ground s c) 0))
+        (λ (g : eqb (ground_for s c) 0 ≡ true).
+        accepting s a c used e d (eqb-true (ground_for s c) 0 g) (judged s a c used e d ∙ judged-well s c used a.list g))
+        (λ (g : eqb (ground_for s c) 0 ≡ false).
+        refusing s a (ground_for s c) (eqb-false (ground_for s c) 0 g) (judged s a c used e d ∙ judged-ill s c used a.list g))
+        (decide (eqb (ground_for s c) 0))

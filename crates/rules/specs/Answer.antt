@@ -1,11 +1,11 @@
 -- The answer to a command, and what it leaves.
 use Rattle.std.specs.Prelude.{cond, List, ◌++◌, ℕ, eqb, ltb, length, drop}
-use Rattle.numbers.specs.Limits.{leastStarts}
+use Rattle.numbers.specs.Limits.{least_starts}
 use Rattle.books.specs.Kind.{Each}
 use Rattle.tree.specs.Peak.{Peaked}
 use Rattle.rules.specs.State.{State}
 use Rattle.format.specs.Command.{Command, Decoded, refused, read, decode}
-use Rattle.rules.specs.Grounds.{noPeaks, ground}
+use Rattle.rules.specs.Grounds.{no_peaks, ground_for}
 use Rattle.rules.specs.Obey.{Outcome, obey}
 
 -- "An accepted command answers number 0, the bytes used and how many steps it starts. The peak is answered by BEGIN only, offers
@@ -28,7 +28,7 @@ pub record Answered : Type 0 where
 -- remain what they were."
 unfoldable pub refuse : ℕ → State → List ℕ → Answered
 refuse k s list =
-    record { answer = record { number = k; used = 0; starts = 0; peaks = noPeaks; offers = 0 }; state = s; list = list }
+    record { answer = record { number = k; used = 0; starts = 0; peaks = no_peaks; offers = 0 }; state = s; list = list }
 
 -- "writes the steps it starts, in order, to the front of that list and touches no later entry"
 unfoldable pub front : List ℕ → List ℕ → List ℕ
@@ -45,12 +45,12 @@ accept o used list =
 
 -- a whole command, refused where there is a ground
 unfoldable pub judge : State → Command → ℕ → List ℕ → Answered
-judge s c used list = cond (eqb (ground s c) 0) (accept (obey s c) used list) (refuse (ground s c) s list)
+judge s c used list = cond (eqb (ground_for s c) 0) (accept (obey s c) used list) (refuse (ground_for s c) s list)
 
 -- a decoded command with a start list. 10 "the start list has fewer than 64 entries" comes first
 unfoldable pub respond : State → Decoded → List ℕ → Answered
 respond s d list =
-    cond (ltb (length list) leastStarts) (refuse 10 s list)
+    cond (ltb (length list) least_starts) (refuse 10 s list)
     (elim d [ refused k ↦ refuse k s list | read c used ↦ judge s c used list ])
 
 -- one asking: a reader on some bytes, at a place, and the caller's start list

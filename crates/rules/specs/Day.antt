@@ -3,7 +3,7 @@
 use Rattle.std.specs.Prelude.{Bool, true, false, cond, not, ◌&&◌, ◌||◌, List, [], ◌∷◌, ◌++◌, map, ℕ, eqb, take}
 use Rattle.numbers.specs.Lists.{mem}
 use Rattle.rules.specs.State.{State}
-use Rattle.format.specs.Command.{planByte, beginByte, doneByte, fetchByte, placesByte, byte_of, operandsOf, Decoded, refused, read, decode}
+use Rattle.format.specs.Command.{plan_byte, begin_byte, done_byte, fetch_byte, places_byte, byte_of, operands_of, Decoded, refused, read, decode}
 use Rattle.rules.specs.Answer.{Asking, Answered, command}
 
 -- "Each finds the plan as the one before left it": the plan after a list of askings
@@ -24,13 +24,13 @@ unfoldable pub accepted : State → Asking → Bool
 accepted s a = accepts (command s a)
 
 -- PLAN and BEGIN, which bound a day
-unfoldable pub isPlan : Decoded → Bool
-isPlan (refused k) = false
-isPlan (read c used) = eqb (byte_of c) planByte
+unfoldable pub is_plan : Decoded → Bool
+is_plan (refused k) = false
+is_plan (read c used) = eqb (byte_of c) plan_byte
 
-unfoldable pub isBegin : Decoded → Bool
-isBegin (refused k) = false
-isBegin (read c used) = eqb (byte_of c) beginByte
+unfoldable pub is_begin : Decoded → Bool
+is_begin (refused k) = false
+is_begin (read c used) = eqb (byte_of c) begin_byte
 
 -- "In it a step starts where an accepted command writes it among its starts, ends with the accepted DONE for it (before that
 -- command's starts), and runs in between"
@@ -46,8 +46,8 @@ pub data Event : Type 0 where
 unfoldable pub reported : Decoded → List Event
 reported (refused k) = []
 reported (read c used) =
-    cond (eqb (byte_of c) doneByte) (map ended (operandsOf c))
-    (cond (eqb (byte_of c) fetchByte) (fetched ∷ []) (cond (eqb (byte_of c) placesByte) (map bounded (operandsOf c)) []))
+    cond (eqb (byte_of c) done_byte) (map ended (operands_of c))
+    (cond (eqb (byte_of c) fetch_byte) (fetched ∷ []) (cond (eqb (byte_of c) places_byte) (map bounded (operands_of c)) []))
 
 -- what happens with one asking, as its bytes, its answer and its start list say
 abbrev pub happens : Asking → Answered → List Event
@@ -83,35 +83,35 @@ unfoldable pub runs : List Event → ℕ → Bool
 runs happened i = mem i (starts happened) && not (mem i (ends happened))
 
 -- the trolley was fetched
-unfoldable pub isFetched : List Event → Bool
-isFetched [] = false
-isFetched (started i ∷ later) = isFetched later
-isFetched (ended i ∷ later) = isFetched later
-isFetched (fetched ∷ later) = true
-isFetched (bounded m ∷ later) = isFetched later
+unfoldable pub is_fetched : List Event → Bool
+is_fetched [] = false
+is_fetched (started i ∷ later) = is_fetched later
+is_fetched (ended i ∷ later) = is_fetched later
+is_fetched (fetched ∷ later) = true
+is_fetched (bounded m ∷ later) = is_fetched later
 
 -- "the bound in force": the last that was given, or the one found
-unfoldable pub inForce : ℕ → List Event → ℕ
-inForce found [] = found
-inForce found (started i ∷ later) = inForce found later
-inForce found (ended i ∷ later) = inForce found later
-inForce found (fetched ∷ later) = inForce found later
-inForce found (bounded m ∷ later) = inForce m later
+unfoldable pub in_force : ℕ → List Event → ℕ
+in_force found [] = found
+in_force found (started i ∷ later) = in_force found later
+in_force found (ended i ∷ later) = in_force found later
+in_force found (fetched ∷ later) = in_force found later
+in_force found (bounded m ∷ later) = in_force m later
 
 -- "A day is an accepted BEGIN and all commands after it, until a next plan is opened or the list ends."
-abbrev pub beginsDay : Asking → Answered → Bool
-beginsDay a r = accepts r && isBegin (decode a.stream a.place)
+abbrev pub begins_day : Asking → Answered → Bool
+begins_day a r = accepts r && is_begin (decode a.stream a.place)
 
-unfoldable pub opensDay : State → Asking → Bool
-opensDay s a = beginsDay a (command s a)
+unfoldable pub opens_day : State → Asking → Bool
+opens_day s a = begins_day a (command s a)
 
-abbrev pub beginsPlan : Asking → Answered → Bool
-beginsPlan a r = accepts r && isPlan (decode a.stream a.place)
+abbrev pub begins_plan : Asking → Answered → Bool
+begins_plan a r = accepts r && is_plan (decode a.stream a.place)
 
-unfoldable pub opensPlan : State → Asking → Bool
-opensPlan s a = beginsPlan a (command s a)
+unfoldable pub opens_plan : State → Asking → Bool
+opens_plan s a = begins_plan a (command s a)
 
 -- a next plan is opened among these askings
-unfoldable pub nextPlan : State → List Asking → Bool
-nextPlan s [] = false
-nextPlan s (a ∷ later) = opensPlan s a || nextPlan (command s a).state later
+unfoldable pub next_plan : State → List Asking → Bool
+next_plan s [] = false
+next_plan s (a ∷ later) = opens_plan s a || next_plan (command s a).state later

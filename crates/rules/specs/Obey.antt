@@ -5,9 +5,9 @@ use Rattle.numbers.specs.Lists.{at}
 use Rattle.tree.specs.Peak.{Peaked}
 use Rattle.rules.specs.Phase
 use Rattle.books.specs.Standing
-use Rattle.rules.specs.State.{Store, State, rootOf, needsIn, store_of}
+use Rattle.rules.specs.State.{Store, State, root_of, needs_in, store_of}
 use Rattle.format.specs.Command.{Command, plan, task, activation, execution, begin, done, fetch, places}
-use Rattle.rules.specs.Grounds.{noExecution, peaksOf, noPeaks}
+use Rattle.rules.specs.Grounds.{no_execution, peaks_of, no_peaks}
 use Rattle.books.specs.Booking.{Terms, Books, Climbed, activate, starts, start, dispatch}
 
 -- what an accepted command leaves: the plan, the tasks that it starts, in order, the peaks with their tasks (BEGIN only) and the offers
@@ -33,8 +33,8 @@ opened n p bound =
     }
 
 -- a store with the counts of one task more
-abbrev pub withCounts : Store → ℕ → ℕ → Store
-withCounts store work out =
+abbrev pub with_counts : Store → ℕ → ℕ → Store
+with_counts store work out =
     record {
       bound = store.bound;
       works = store.works ++ (work ∷ []);
@@ -43,8 +43,8 @@ withCounts store work out =
     }
 
 -- "STEP: the next step; the first is step 1"; "the n-th leads to orders"
-unfoldable pub withTask : State → ℕ → ℕ → ℕ → State
-withTask s parent work out =
+unfoldable pub with_task : State → ℕ → ℕ → ℕ → State
+with_task s parent work out =
     record {
       phase = cond (eqb (length s.parents) s.size) Phase.orders Phase.steps;
       size = s.size;
@@ -53,12 +53,12 @@ withTask s parent work out =
       activation = s.activation;
       execution = s.execution;
       standings = s.standings;
-      stores = each (λ k. withCounts (store_of s k) work out);
+      stores = each (λ k. with_counts (store_of s k) work out);
     }
 
 -- the plan with other orders
-unfoldable pub withOrders : State → List ℕ → List ℕ → State
-withOrders s act exec =
+unfoldable pub with_orders : State → List ℕ → List ℕ → State
+with_orders s act exec =
     record {
       phase = s.phase;
       size = s.size;
@@ -71,20 +71,20 @@ withOrders s act exec =
     }
 
 -- "with the activation order used for both", where no 04 was given
-unfoldable pub executionOrder : State → List ℕ
-executionOrder s = cond (noExecution s) s.activation s.execution
+unfoldable pub execution_order : State → List ℕ
+execution_order s = cond (no_execution s) s.activation s.execution
 
 -- the plan with both orders: "Once it is accepted the execution order counts as complete"
 unfoldable pub completed : State → State
-completed s = withOrders s s.activation (executionOrder s)
+completed s = with_orders s s.activation (execution_order s)
 
 -- a store with other booked trays
-abbrev pub withBooked : Store → List ℕ → Store
-withBooked store b = record { bound = store.bound; works = store.works; outs = store.outs; booked = b }
+abbrev pub with_booked : Store → List ℕ → Store
+with_booked store b = record { bound = store.bound; works = store.works; outs = store.outs; booked = b }
 
 -- the plan in a phase of its day, with other standings and booked trays
-unfoldable pub withBooks : State → ℕ → List ℕ → Each (List ℕ) → State
-withBooks s phase st b =
+unfoldable pub with_books : State → ℕ → List ℕ → Each (List ℕ) → State
+with_books s phase st b =
     record {
       phase = phase;
       size = s.size;
@@ -93,20 +93,20 @@ withBooks s phase st b =
       activation = s.activation;
       execution = s.execution;
       standings = st;
-      stores = each (λ k. withBooked (store_of s k) (of b k));
+      stores = each (λ k. with_booked (store_of s k) (of b k));
     }
 
 -- the books of a plan
-abbrev pub booksOf : State → Books
-booksOf s = record { standings = s.standings; booked = each (λ k. (store_of s k).booked) }
+abbrev pub books_of : State → Books
+books_of s = record { standings = s.standings; booked = each (λ k. (store_of s k).booked) }
 
 -- a store with other places
-abbrev pub withPlaces : Store → ℕ → Store
-withPlaces store bound = record { bound = bound; works = store.works; outs = store.outs; booked = store.booked }
+abbrev pub with_places : Store → ℕ → Store
+with_places store bound = record { bound = bound; works = store.works; outs = store.outs; booked = store.booked }
 
 -- the plan with other stores
-abbrev pub withStores : State → Each Store → State
-withStores s stores =
+abbrev pub with_stores : State → Each Store → State
+with_stores s stores =
     record {
       phase = s.phase;
       size = s.size;
@@ -119,23 +119,23 @@ withStores s stores =
     }
 
 -- the plan with other places of each store
-unfoldable pub withBounds : State → (Kind → ℕ) → State
-withBounds s bound = withStores s (each (λ k. withPlaces (store_of s k) (bound k)))
+unfoldable pub with_bounds : State → (Kind → ℕ) → State
+with_bounds s bound = with_stores s (each (λ k. with_places (store_of s k) (bound k)))
 
 -- the plan with other places of the cold room alone
-unfoldable pub withBound : State → ℕ → State
-withBound s bound = withStores s (put chilled (withPlaces s.stores.chilled bound) s.stores)
+unfoldable pub with_bound : State → ℕ → State
+with_bound s bound = with_stores s (put chilled (with_places s.stores.chilled bound) s.stores)
 
 -- a store of the plan as booking finds it
-abbrev pub termsBy : State → Store → Terms
-termsBy s store = record { bound = store.bound; need = needsIn s store; out = at store.outs }
+abbrev pub terms_by : State → Store → Terms
+terms_by s store = record { bound = store.bound; need = needs_in s store; out = at store.outs }
 
-abbrev pub termsOf : State → Kind → Terms
-termsOf s k = termsBy s (store_of s k)
+abbrev pub terms_of : State → Kind → Terms
+terms_of s k = terms_by s (store_of s k)
 
 -- what booking ahead makes of the books
 unfoldable pub ahead : State → Books → Books
-ahead s = activate s.size (at s.parents) (termsOf s) s.activation
+ahead s = activate s.size (at s.parents) (terms_of s) s.activation
 
 -- stations that run no task
 unfoldable pub free : (n processors : ℕ) → List ℕ → ℕ
@@ -150,7 +150,7 @@ begun s k =
 unfoldable pub proceed : State → ℕ → Books → Each Peaked → ℕ → Outcome
 proceed s phase k peaks offers =
     record {
-      state = withBooks s phase (start (begun s (ahead s k)) (ahead s k).standings) (ahead s k).booked;
+      state = with_books s phase (start (begun s (ahead s k)) (ahead s k).standings) (ahead s k).booked;
       started = begun s (ahead s k);
       peaks = peaks;
       offers = offers;
@@ -161,38 +161,38 @@ unfoldable pub fresh : ℕ → Books
 fresh n = record { standings = replicate (suc n) Standing.waiting; booked = each (λ _. replicate (suc n) 0) }
 
 -- the standings once task j has ended
-unfoldable pub endedStandings : State → ℕ → List ℕ
-endedStandings s j = set s.standings j Standing.finished
+unfoldable pub ended_standings : State → ℕ → List ℕ
+ended_standings s j = set s.standings j Standing.finished
 
 -- sharing out the booked trays of task j
 unfoldable pub shared : State → ℕ → Climbed
 shared s j =
-    dispatch s.size (at s.parents) (termsOf s) (at (endedStandings s j)) (booksOf s).booked j
+    dispatch s.size (at s.parents) (terms_of s) (at (ended_standings s j)) (books_of s).booked j
 
 -- the books once task j has ended and its booked trays are shared out
 unfoldable pub ended : State → ℕ → Books
-ended s j = record { standings = endedStandings s j; booked = each (λ k. (of (shared s j).share k).booked) }
+ended s j = record { standings = ended_standings s j; booked = each (λ k. (of (shared s j).share k).booked) }
 
 -- when the root ends "the phase is a new one, ready"
-unfoldable pub phaseAfter : State → ℕ → ℕ
-phaseAfter s j = cond (eqb (at s.parents j) 0) Phase.ready Phase.running
+unfoldable pub phase_after : State → ℕ → ℕ
+phase_after s j = cond (eqb (at s.parents j) 0) Phase.ready Phase.running
 
 -- the plan once its trolley is fetched: FETCH "frees it", the out of the root, "and leads to over"
 unfoldable pub unloaded : State → State
-unloaded s = withBooks s Phase.over s.standings (each (λ k. set (store_of s k).booked (rootOf s) 0))
+unloaded s = with_books s Phase.over s.standings (each (λ k. set (store_of s k).booked (root_of s) 0))
 
 -- a command that starts nothing
 abbrev pub plain : State → Outcome
-plain s = record { state = s; started = []; peaks = noPeaks; offers = 0 }
+plain s = record { state = s; started = []; peaks = no_peaks; offers = 0 }
 
 -- "BEGIN books ahead and starts. DONE shares out, books ahead and starts. Nothing else books or starts", but for 08: "then booking ahead
 -- and starting follow", by the new bound, "with no offers"
 unfoldable pub obey : State → Command → Outcome
 obey s (plan n p bound) = plain (opened n p bound)
-obey s (task parent work out) = plain (withTask s parent work out)
-obey s (activation i) = plain (withOrders s (s.activation ++ (i ∷ [])) s.execution)
-obey s (execution i) = plain (withOrders s s.activation (s.execution ++ (i ∷ [])))
-obey s begin = proceed (completed s) Phase.running (fresh s.size) (peaksOf s) 0
-obey s (done j) = proceed s (phaseAfter s j) (ended s j) noPeaks (length (shared s j).offered)
+obey s (task parent work out) = plain (with_task s parent work out)
+obey s (activation i) = plain (with_orders s (s.activation ++ (i ∷ [])) s.execution)
+obey s (execution i) = plain (with_orders s s.activation (s.execution ++ (i ∷ [])))
+obey s begin = proceed (completed s) Phase.running (fresh s.size) (peaks_of s) 0
+obey s (done j) = proceed s (phase_after s j) (ended s j) no_peaks (length (shared s j).offered)
 obey s fetch = plain (unloaded s)
-obey s (places bound) = proceed (withBound s bound) Phase.running (booksOf s) noPeaks 0
+obey s (places bound) = proceed (with_bound s bound) Phase.running (books_of s) no_peaks 0

@@ -21,5 +21,5 @@ abbrev pub ready : ℕ
 ready = 5
 
 -- from BEGIN to FETCH: trays of the plan may lie in the cold room
-unfoldable pub holdsTrays : ℕ → Bool
-holdsTrays phase = eqb phase running || eqb phase ready
+unfoldable pub holds_trays : ℕ → Bool
+holds_trays phase = eqb phase running || eqb phase ready

@@ -46,15 +46,15 @@ none =
     }
 
 -- the root of a plan
-abbrev pub rootOf : State → ℕ
-rootOf s = root s.size (at s.parents)
+abbrev pub root_of : State → ℕ
+root_of s = root s.size (at s.parents)
 
 -- the tasks of a plan in a store, and their needs
-abbrev pub tasksIn : State → Store → Tasks.Tasks
-tasksIn s store = record { size = s.size; parent = at s.parents; work = at store.works; out = at store.outs }
+abbrev pub tasks_in : State → Store → Tasks.Tasks
+tasks_in s store = record { size = s.size; parent = at s.parents; work = at store.works; out = at store.outs }
 
-abbrev pub needsIn : State → Store → ℕ → ℕ
-needsIn s store = Tasks.need (tasksIn s store)
+abbrev pub needs_in : State → Store → ℕ → ℕ
+needs_in s store = Tasks.need (tasks_in s store)
 
 -- the store of a kind
 abbrev pub store_of : State → Kind → Store
@@ -62,7 +62,7 @@ store_of s k = of s.stores k
 
 -- the needs in the cold room
 abbrev pub needs : State → ℕ → ℕ
-needs s = needsIn s s.stores.chilled
+needs s = needs_in s s.stores.chilled
 
 -- "There are two orders, each holding every step once. In the activation order each step stands before its parent."
 pub record OrdersHold (s : State) : Type 0 where

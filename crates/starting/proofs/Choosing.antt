@@ -14,11 +14,11 @@ use Rattle.numbers.proofs.Tests.{decide, and-true}
 use Rattle.books.proofs.Branches.{first-later, first-at}
 use Rattle.words.specs.Layout.{entries}
 use Rattle.words.specs.Contents.{Contents}
-use Rattle.words.specs.Digits.{firstIn}
+use Rattle.words.specs.Digits.{first_in}
 use Rattle.words.specs.Marks.{FirstMarked}
 use Rattle.ready.proofs.Digits.{first-before, first-there}
-use Rattle.store.specs.Rows.{books, executionOf}
-use Rattle.store.specs.Cached.{isReadyAt}
+use Rattle.store.specs.Rows.{books, execution_of}
+use Rattle.store.specs.Cached.{is_ready_at}
 use Rattle.store.specs.Kept.{Kept}
 
 -- no entry of a list passes
@@ -32,73 +32,73 @@ first-nowhere test (x ∷ l) none =
 -- a place with a ready task
 pub ready-in :
     (n : ℕ) (par : ℕ → ℕ) (execution st : List ℕ) (e : ℕ)
-    → isReadyAt n par execution st e ≡ true
+    → is_ready_at n par execution st e ≡ true
     → (e < n) × (ready n par st (at execution e) ≡ true)
-unfolding isReadyAt
+unfolding is_ready_at
 ready-in n par execution st e h =
     let both = and-true (ltb e n) (ready n par st (at execution e)) h in
     (ltb-true e n both.0, both.1)
 
 module _ {c : Contents} (kept : Kept c) where
   -- who is ready, and at which places
-  abbrev isReady : ℕ → Bool
-  isReady = ready c.size (at c.parents) (books c).standings
+  abbrev is_ready : ℕ → Bool
+  is_ready = ready c.size (at c.parents) (books c).standings
 
-  abbrev readyAt : ℕ → Bool
-  readyAt = isReadyAt c.size (at c.parents) (executionOf c) (books c).standings
+  abbrev ready_at : ℕ → Bool
+  ready_at = is_ready_at c.size (at c.parents) (execution_of c) (books c).standings
 
-  ready-there : (e : ℕ) → readyAt e ≡ true → (e < c.size) × (isReady (at (executionOf c) e) ≡ true)
-  ready-there = ready-in c.size (at c.parents) (executionOf c) (books c).standings
+  ready-there : (e : ℕ) → ready_at e ≡ true → (e < c.size) × (is_ready (at (execution_of c) e) ≡ true)
+  ready-there = ready-in c.size (at c.parents) (execution_of c) (books c).standings
 
-  not-ready : (e : ℕ) → e < c.size → readyAt e ≡ false → isReady (at (executionOf c) e) ≡ false
-  unfolding isReadyAt
-  not-ready e h none = sym (ap (λ (b : Bool). b && isReady (at (executionOf c) e)) (lt-ltb e c.size h)) ∙ none
+  not_ready : (e : ℕ) → e < c.size → ready_at e ≡ false → is_ready (at (execution_of c) e) ≡ false
+  unfolding is_ready_at
+  not_ready e h none = sym (ap (λ (b : Bool). b && is_ready (at (execution_of c) e)) (lt-ltb e c.size h)) ∙ none
 
   module _ {place : ℕ} (found : FirstMarked c.size c place) where
     -- the set has a place, and this is its first, or it has none
     by-test :
         (b : Bool)
-        → ltb (firstIn readyAt entries) entries ≡ b
-        → place ≡ cond b (firstIn readyAt entries) c.size
+        → ltb (first_in ready_at entries) entries ≡ b
+        → place ≡ cond b (first_in ready_at entries) c.size
     by-test b e =
-        found.first readyAt kept.cached.marks
-        ∙ ap (λ (v : Bool). cond v (firstIn readyAt entries) c.size) e
+        found.first ready_at kept.cached.marks
+        ∙ ap (λ (v : Bool). cond v (first_in ready_at entries) c.size) e
 
-    first-ready : (ltb (firstIn readyAt entries) entries ≡ true) → readyAt place ≡ true
+    first-ready : (ltb (first_in ready_at entries) entries ≡ true) → ready_at place ≡ true
     first-ready e =
-        ap readyAt (by-test true e) ∙ first-there readyAt entries (ltb-true (firstIn readyAt entries) entries e)
+        ap ready_at (by-test true e) ∙ first-there ready_at entries (ltb-true (first_in ready_at entries) entries e)
 
     -- nobody is ready
-    pub none-ready : place ≡ c.size → first isReady (executionOf c) ≡ 0
+    pub none-ready : place ≡ c.size → first is_ready (execution_of c) ≡ 0
     none-ready past =
         ⊎_elim
-        (λ (e : ltb (firstIn readyAt entries) entries ≡ true).
+        (λ (e : ltb (first_in ready_at entries) entries ≡ true).
         let i = (ready-there place (first-ready e)).0 in
         absurd (omega arith))
-        (λ (e : ltb (firstIn readyAt entries) entries ≡ false).
-        let all = ltb-false (firstIn readyAt entries) entries e in
+        (λ (e : ltb (first_in ready_at entries) entries ≡ false).
+        let all = ltb-false (first_in ready_at entries) entries e in
         let s = kept.invariant.small in
         let w = kept.cached.placed.whole in
-        first-nowhere isReady (executionOf c)
-        (λ k h. not-ready k (omega arith) (first-before readyAt entries k (omega arith))))
-        (decide (ltb (firstIn readyAt entries) entries))
+        first-nowhere is_ready (execution_of c)
+        (λ k h. not_ready k (omega arith) (first-before ready_at entries k (omega arith))))
+        (decide (ltb (first_in ready_at entries) entries))
 
     -- else the task at the place is the first that is
     module _ (inside : place ≡ c.size → ⊥) where
-      some-marked : ltb (firstIn readyAt entries) entries ≡ true
+      some-marked : ltb (first_in ready_at entries) entries ≡ true
       some-marked =
-          ⊎_elim (λ (e : ltb (firstIn readyAt entries) entries ≡ true). e)
-          (λ (e : ltb (firstIn readyAt entries) entries ≡ false). absurd (inside (by-test false e)))
-          (decide (ltb (firstIn readyAt entries) entries))
+          ⊎_elim (λ (e : ltb (first_in ready_at entries) entries ≡ true). e)
+          (λ (e : ltb (first_in ready_at entries) entries ≡ false). absurd (inside (by-test false e)))
+          (decide (ltb (first_in ready_at entries) entries))
 
-      pub place-ready : readyAt place ≡ true
+      pub place-ready : ready_at place ≡ true
       place-ready = first-ready some-marked
 
-      pub chosen-first : first isReady (executionOf c) ≡ at (executionOf c) place
+      pub chosen-first : first is_ready (execution_of c) ≡ at (execution_of c) place
       chosen-first =
           let here = ready-there place place-ready in
           let in_size = here.0 in
           let w = kept.cached.placed.whole in
           let e = by-test true some-marked in
-          first-at isReady (executionOf c) place (omega arith)
-          (λ k h. not-ready k (omega arith) (first-before readyAt entries k (omega arith))) here.1
+          first-at is_ready (execution_of c) place (omega arith)
+          (λ k h. not_ready k (omega arith) (first-before ready_at entries k (omega arith))) here.1

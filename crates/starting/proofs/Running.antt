@@ -12,12 +12,12 @@ use Rattle.books.specs.Kind.{Kind, of, each}
 use Rattle.books.specs.Kind
 use Rattle.numbers.specs.Sums.{Task}
 use Rattle.numbers.specs.Lists.{at}
-use Rattle.numbers.specs.Limits.{maxTasks}
+use Rattle.numbers.specs.Limits.{max_tasks}
 use Rattle.tree.specs.Need.{need}
 use Rattle.books.specs.Standing.{waiting, activated, running, finished, count}
-use Rattle.books.specs.Booking.{Terms, bookedIn, ready, fed, start}
+use Rattle.books.specs.Booking.{Terms, booked_in, ready, fed, start}
 use Rattle.books.specs.Invariant.{Balanced, Good}
-use Rattle.tree.specs.Tree.{rankIn}
+use Rattle.tree.specs.Tree.{rank_in}
 use Rattle.books.proofs.EachStore.{of-each}
 use Rattle.numbers.proofs.Sums.{count-le}
 use Rattle.numbers.proofs.Counts.{count-cong}
@@ -27,14 +27,14 @@ use Rattle.books.proofs.Entries.{at_other, moved-by-set}
 use Rattle.books.proofs.Starts.{Startable, fed-children, ready-parts, start-count, start-good, start-kind}
 use Rattle.books.proofs.Usage.{in-process-within}
 use Rattle.words.specs.Layout.{row, rows, words, standing, chilled}
-use Rattle.words.specs.Contents.{StoreContents, Contents, contents, withCell, storeWithCell, with_head, storeWithHead, withReady}
+use Rattle.words.specs.Contents.{StoreContents, Contents, contents, with_cell, store_with_cell, with_head, store_with_head, with_ready}
 use Rattle.words.specs.Marks.{Marks, changed, Changed}
 use Rattle.words.proofs.Contents.{contents-cell, contents-head}
 use Rattle.ready.proofs.Marks.{marks-kept}
-use Rattle.store.specs.Rows.{rows_of, books, termsIn, activationOf, executionOf}
-use Rattle.store.specs.Cached.{isReadyAt, inProcessBy, StoreCached}
+use Rattle.store.specs.Rows.{rows_of, books, terms_in, activation_of, execution_of}
+use Rattle.store.specs.Cached.{is_ready_at, in_process_by, StoreCached}
 use Rattle.store.specs.Kept.{DayInvariant, Kept, SamePlan}
-use Rattle.store.specs.Store.{AtTask, withStore, withHoldings, loaded}
+use Rattle.store.specs.Store.{AtTask, with_store, with_holdings, loaded}
 use Rattle.store.proofs.Rows.{rows-set, zero-set}
 use Rattle.store.proofs.Same.{terms-same}
 use Rattle.store.proofs.Ready.{placed-task, ready-changed}
@@ -45,8 +45,8 @@ use Rattle.starting.specs.Started.{MayRun, OneStarted}
 use Rattle.starting.proofs.Choosing.{ready-in}
 
 -- task x runs, and the ready set is another
-unfoldable pub withRunning : ℕ → List ℕ → ℕ → Contents → Contents
-withRunning x ready filled c =
+unfoldable pub with_running : ℕ → List ℕ → ℕ → Contents → Contents
+with_running x ready filled c =
     record {
       extent = c.extent;
       phase = c.phase;
@@ -76,10 +76,10 @@ module _ {place : ℕ} {c : Contents} (may : MayRun place c) where
   st = (books c).standings
 
   abbrev x : ℕ
-  x = at (executionOf c) place
+  x = at (execution_of c) place
 
   is-ready : (place < c.size) × (ready c.size (at c.parents) st x ≡ true)
-  is-ready = ready-in c.size (at c.parents) (executionOf c) st place may.ready
+  is-ready = ready-in c.size (at c.parents) (execution_of c) st place may.ready
 
   pub place_in : place < c.size
   place_in = is-ready.0
@@ -136,36 +136,36 @@ module _ {place : ℕ} {c : Contents} (may : MayRun place c) where
 
   -- the invariant of the day
   good-after :
-      Good c.size (at c.parents) (rankIn (activationOf c)) (termsIn c) (record { standings = after; booked = (books c).booked })
+      Good c.size (at c.parents) (rank_in (activation_of c)) (terms_in c) (record { standings = after; booked = (books c).booked })
   unfolding start
   good-after =
-      start-good c.size (at c.parents) (rankIn (activationOf c)) (termsIn c) (x ∷ []) st (books c).booked startable
+      start-good c.size (at c.parents) (rank_in (activation_of c)) (terms_in c) (x ∷ []) st (books c).booked startable
       may.kept.invariant.good
 
   module _ (k : Kind) where
     -- what is in use of a store
     used-after :
-        inProcessBy c.size (at c.parents) (at (of c.stores k).works) (at (of c.stores k).outs) (at after)
+        in_process_by c.size (at c.parents) (at (of c.stores k).works) (at (of c.stores k).outs) (at after)
         ≡ (of c.stores k).used + (at (of c.stores k).works x + at (of c.stores k).outs x)
     used-after =
         used-started c.size (at c.parents) (at (of c.stores k).works) (at (of c.stores k).outs)
         (λ i _. may.kept.invariant.parents i) (at st) (at after) x task is-booked is-fed moved
         ∙ ap (λ (v : ℕ). v + (at (of c.stores k).works x + at (of c.stores k).outs x)) (sym (may.kept.cached.stores k).uses)
 
-    pub used-fits : (of c.stores k).used + (at (of c.stores k).works x + at (of c.stores k).outs x) < 2 ^ 32
-    used-fits =
+    pub used_fits : (of c.stores k).used + (at (of c.stores k).works x + at (of c.stores k).outs x) < 2 ^ 32
+    used_fits =
         let inv = may.kept.invariant in
         let same-need :
         at (of c.stores k).needs ≡ need c.size (at c.parents) (at (of c.stores k).works) (at (of c.stores k).outs) =
         fun_ext (may.kept.cached.stores k).needed
         in
         let used =
-        in-process-within c.size (at c.parents) (rankIn (activationOf c))
-        (tree_of c.size (at c.parents) (activationOf c) inv.valid (λ i _. inv.parents i)) (at (of c.stores k).works)
-        (at (of c.stores k).outs) (at after) (at (bookedIn (books c) k)) good-after.shape
+        in-process-within c.size (at c.parents) (rank_in (activation_of c))
+        (tree_of c.size (at c.parents) (activation_of c) inv.valid (λ i _. inv.parents i)) (at (of c.stores k).works)
+        (at (of c.stores k).outs) (at after) (at (booked_in (books c) k)) good-after.shape
         (subst
         (λ (f : ℕ → ℕ).
-        Balanced c.size (at c.parents) f (at (of c.stores k).outs) (at after) (at (bookedIn (books c) k)))
+        Balanced c.size (at c.parents) f (at (of c.stores k).outs) (at after) (at (booked_in (books c) k)))
         same-need (good-after.stock k).books)
         in
         let e = used-after in
@@ -175,42 +175,42 @@ module _ {place : ℕ} {c : Contents} (may : MayRun place c) where
 
   -- the ready set: the task itself is no longer ready, and all others are ready as they were
   ready-after :
-      changed (isReadyAt c.size (at c.parents) (executionOf c) st) place false
-      ≡ isReadyAt c.size (at c.parents) (executionOf c) after
+      changed (is_ready_at c.size (at c.parents) (execution_of c) st) place false
+      ≡ is_ready_at c.size (at c.parents) (execution_of c) after
   unfolding ready
   ready-after =
       let p = may.kept.cached.placed in
-      let not-ready : ready c.size (at c.parents) after x ≡ false =
+      let not_ready : ready c.size (at c.parents) after x ≡ false =
       ap (λ (b : Bool). b && fed c.size (at c.parents) (at after) x)
       (ne_eqb (at after x) activated (λ q. let r = moved.there in omega arith))
       in
       sym
       (λ z.
-      changed (isReadyAt c.size (at c.parents) (executionOf c) st) (p.placed place place_in z) (not-ready z))
+      changed (is_ready_at c.size (at c.parents) (execution_of c) st) (p.placed place place_in z) (not_ready z))
       ∙ ready-changed p (at c.parents) st after x task
       (λ i _ d. ready-same c.size (at c.parents) st after i (λ k _. same_ended k) (at_other st x running i d))
 
   -- the whole of it, once the place is taken from the ready set
   module _ {d : Contents} (taken : Changed place false c d) where
     abbrev then : Contents
-    then = withRunning x d.ready d.filled c
+    then = with_running x d.ready d.filled c
 
     rows-after : rows_of c.size (set c.standings x running) ≡ after
     rows-after = rows-set c.size c.standings x running task.high
 
-    marks-after : Marks (isReadyAt c.size (at c.parents) (executionOf c) after) then
-    unfolding withRunning
+    marks-after : Marks (is_ready_at c.size (at c.parents) (execution_of c) after) then
+    unfolding with_running
     marks-after =
         rw ready-after at
         (marks-kept {c' = then} refl refl
-        (taken.marks (isReadyAt c.size (at c.parents) (executionOf c) st) may.kept.cached.marks may.ready))
+        (taken.marks (is_ready_at c.size (at c.parents) (execution_of c) st) may.kept.cached.marks may.ready))
 
     store_is : (k : Kind) → of then.stores k ≡ loaded x (of c.stores k)
-    unfolding withRunning
+    unfolding with_running
     store_is k = of-each (λ d. loaded x (of c.stores d)) k
 
     same_after : SamePlan c then
-    unfolding withRunning loaded withHoldings
+    unfolding with_running loaded with_holdings
     same_after =
         record {
           phase = refl;
@@ -232,8 +232,8 @@ module _ {place : ℕ} {c : Contents} (may : MayRun place c) where
 
     store-after :
         (k : Kind)
-        → StoreCached then.size (at then.parents) (at (books then).standings) (bookedIn (books then) k) (of then.stores k)
-    unfolding withRunning loaded withHoldings
+        → StoreCached then.size (at then.parents) (at (books then).standings) (booked_in (books then) k) (of then.stores k)
+    unfolding with_running loaded with_holdings
     store-after k =
         let old = may.kept.cached.stores k in
         rw (rows-after, store_is k)
@@ -243,22 +243,22 @@ module _ {place : ℕ} {c : Contents} (may : MayRun place c) where
               λ i t.
               old.figured i t
               ∙ sym
-              (partial-same c.size (at c.parents) (at st) (at after) (at (bookedIn (books c) k)) i
+              (partial-same c.size (at c.parents) (at st) (at after) (at (booked_in (books c) k)) i
               (λ j _. same-others waiting (λ e. omega arith) (λ e. omega arith) j));
           totals = old.totals;
           uses = sym (used-after k);
-          booked-zero = old.booked-zero;
-          figures-zero = old.figures-zero;
+          booked_zero = old.booked_zero;
+          figures_zero = old.figures_zero;
         })
 
     kept-after : Kept then
-    unfolding withRunning loaded withHoldings count start
+    unfolding with_running loaded with_holdings count start
     kept-after =
         let inv = may.kept.invariant in
         let old = may.kept.cached in
         record {
           invariant =
-              subst (λ (e : Kind → Terms). DayInvariant c.size (at c.parents) e (activationOf c) (books then))
+              subst (λ (e : Kind → Terms). DayInvariant c.size (at c.parents) e (activation_of c) (books then))
               (sym (terms-same same_after))
               (record {
                 small = inv.small;
@@ -281,8 +281,8 @@ module _ {place : ℕ} {c : Contents} (may : MayRun place c) where
                     rw rows-after
                     (record {
                       within = old.reached.within;
-                      before-next = λ e h w. old.reached.before-next e h (was-waiting (at (activationOf c) e) w);
-                      from_next = λ e h l. still-waiting (at (activationOf c) e) (old.reached.from_next e h l);
+                      before_next = λ e h w. old.reached.before_next e h (was-waiting (at (activation_of c) e) w);
+                      from_next = λ e h l. still-waiting (at (activation_of c) e) (old.reached.from_next e h l);
                     });
                 runs =
                     rw rows-after
@@ -293,14 +293,14 @@ module _ {place : ℕ} {c : Contents} (may : MayRun place c) where
                     (old.ends
                     ∙ count-cong (λ i. eqb (at st i) finished) (λ i. eqb (at after i) finished) c.size (λ i _. sym (same_ended i)));
                 placed = old.placed;
-                standings-zero = zero-set c.size c.standings x running task.high old.standings-zero;
-                unended-zero = old.unended-zero;
+                standings_zero = zero-set c.size c.standings x running task.high old.standings_zero;
+                unended_zero = old.unended_zero;
                 stores = store-after;
               };
         }
 
-    pub ran : {t : ℕ} {c' : Contents} → t ≡ x → c' ≡ withRunning t d.ready d.filled c → OneStarted place c c' t
-    unfolding withRunning loaded withHoldings
+    pub ran : {t : ℕ} {c' : Contents} → t ≡ x → c' ≡ with_running t d.ready d.filled c → OneStarted place c c' t
+    unfolding with_running loaded with_holdings
     ran {t} e same =
         rw (same, e)
         (record {
@@ -312,7 +312,7 @@ module _ {place : ℕ} {c : Contents} (may : MayRun place c) where
         })
 
   -- as many run as there are tasks, at most
-  pub active-small : c.active ≤ maxTasks
+  pub active-small : c.active ≤ max_tasks
   unfolding count
   active-small =
       let e = may.kept.cached.runs in
@@ -321,38 +321,38 @@ module _ {place : ℕ} {c : Contents} (may : MayRun place c) where
       omega arith
 
 -- the word of the head that says how many run
-abbrev activeWord : ℕ
-activeWord = 13
+abbrev active_word : ℕ
+active_word = 13
 
 -- the writes: the standing of task t, the number of those that run, and what is in use
 module _ (w₁ : List ℕ) {place t a : ℕ} {c : Contents} {w₂ w₃ : List ℕ} (long : c.extent ≡ words) (in_rows : t < rows)
     (runs : a ≡ c.active) (taken : Changed place false c (contents w₁)) (first : w₂ ≡ set w₁ (row * t + standing) running)
-    (second : w₃ ≡ set w₂ (row * rows + activeWord) (a + 1)) where
+    (second : w₃ ≡ set w₂ (row * rows + active_word) (a + 1)) where
   before-load :
       contents w₃
-      ≡ with_head activeWord (c.active + 1) (withCell standing t running (withReady (contents w₁).ready (contents w₁).filled c))
-  unfolding contents withReady
+      ≡ with_head active_word (c.active + 1) (with_cell standing t running (with_ready (contents w₁).ready (contents w₁).filled c))
+  unfolding contents with_ready
   before-load =
       let long₁ : length w₁ ≡ words = ap (λ (k : Contents). k.extent) taken.same ∙ long in
       let long₂ : length w₂ ≡ words = ap length first ∙ length-set w₁ (row * t + standing) running ∙ long₁ in
       ap contents second
-      ∙ contents-head w₂ long₂ activeWord (a + 1) (omega arith)
-      ∙ ap (λ (v : ℕ). with_head activeWord (v + 1) (contents w₂)) runs
-      ∙ ap (with_head activeWord (c.active + 1))
+      ∙ contents-head w₂ long₂ active_word (a + 1) (omega arith)
+      ∙ ap (λ (v : ℕ). with_head active_word (v + 1) (contents w₂)) runs
+      ∙ ap (with_head active_word (c.active + 1))
       (ap contents first
       ∙ contents-cell w₁ long₁ standing t running (omega arith) in_rows
-      ∙ ap (withCell standing t running) taken.same)
+      ∙ ap (with_cell standing t running) taken.same)
 
   pub may_load :
       c.stores.chilled.used + (at c.stores.chilled.works t + at c.stores.chilled.outs t) < 2 ^ 32
       → AtTask chilled t (contents w₃)
       × ((contents w₃).stores.chilled.used + (at (contents w₃).stores.chilled.works t + at (contents w₃).stores.chilled.outs t) < 2 ^ 32)
-  unfolding with_head storeWithHead withCell storeWithCell withReady
-  may_load fits = rw before-load (record { long = long; offset = refl; inside = omega arith; task-in = in_rows }, fits)
+  unfolding with_head store_with_head with_cell store_with_cell with_ready
+  may_load fits = rw before-load (record { long = long; offset = refl; inside = omega arith; task_in = in_rows }, fits)
 
   pub after-load :
       {c' : Contents}
-      → c' ≡ withStore Kind.chilled (loaded t (contents w₃).stores.chilled) (contents w₃)
-      → c' ≡ withRunning t (contents w₁).ready (contents w₁).filled c
-  unfolding withRunning withStore loaded withHoldings with_head storeWithHead withCell storeWithCell withReady
-  after-load third = third ∙ ap (λ (k : Contents). withStore Kind.chilled (loaded t k.stores.chilled) k) before-load
+      → c' ≡ with_store Kind.chilled (loaded t (contents w₃).stores.chilled) (contents w₃)
+      → c' ≡ with_running t (contents w₁).ready (contents w₁).filled c
+  unfolding with_running with_store loaded with_holdings with_head store_with_head with_cell store_with_cell with_ready
+  after-load third = third ∙ ap (λ (k : Contents). with_store Kind.chilled (loaded t k.stores.chilled) k) before-load

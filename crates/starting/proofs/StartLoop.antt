@@ -6,18 +6,18 @@ use native.Mathlib.Omega.{arith}
 use lib.ListN.{length, take, set, length-append, length-drop}
 use lib.Seq.{append_snoc}
 use Rattle.numbers.specs.Lists.{at, first}
-use Rattle.numbers.specs.Limits.{maxProcessors, leastStarts}
+use Rattle.numbers.specs.Limits.{max_processors, least_starts}
 use Rattle.books.specs.Standing.{running}
 use Rattle.books.specs.Booking.{Books, ready, starts, start}
 use Rattle.rules.specs.Answer.{front}
 use Rattle.books.proofs.Branches.{starts_none, starts-one}
 use Rattle.words.specs.Contents.{Contents}
 use Rattle.words.specs.Marks.{Marked, FirstMarked}
-use Rattle.store.specs.Rows.{books, executionOf}
+use Rattle.store.specs.Rows.{books, execution_of}
 use Rattle.store.specs.Kept.{Kept, SamePlan}
 use Rattle.store.proofs.Same.{same_refl, same-trans}
 use Rattle.store.proofs.Ready.{placed-task}
-use Rattle.starting.specs.Started.{MayRun, OneStarted, MayStart, startedOf, Started}
+use Rattle.starting.specs.Started.{MayRun, OneStarted, MayStart, started_of, Started}
 use Rattle.starting.proofs.Running.{place_in}
 use Rattle.starting.proofs.Choosing.{none-ready, place-ready, chosen-first}
 
@@ -62,7 +62,7 @@ pub record StartLoop (c₀ : Contents) (list₀ : List ℕ) (c : Contents) (list
   pub kept : Kept c
   pub same : SamePlan c₀ c
   pub books : books c ≡ record { standings = start done (books c₀).standings; booked = (books c₀).booked }
-  pub whole : startedOf c₀ ≡ done ++ startedOf c
+  pub whole : started_of c₀ ≡ done ++ started_of c
   pub counted : count ≡ length done
   pub listed : list ≡ front done list₀
   pub runs : active ≡ c.active
@@ -93,7 +93,7 @@ module _ {c₀ : Contents} {list₀ : List ℕ} (m : MayStart c₀ list₀) wher
     pub marked : Marked c
     marked = record { test = _; marks = g.kept.cached.marks }
 
-    few : count ≤ leastStarts
+    few : count ≤ least_starts
     few =
         let s = g.so-many in
         let b = g.busy in
@@ -110,9 +110,9 @@ module _ {c₀ : Contents} {list₀ : List ℕ} (m : MayStart c₀ list₀) wher
         rw g.listed (simp (length-append, length-drop) (omega arith))
 
     -- where nobody starts any more, all are started
-    ended : startedOf c ≡ [] → Started c₀ c list₀ list count
+    ended : started_of c ≡ [] → Started c₀ c list₀ list count
     ended rest =
-        let all : startedOf c₀ ≡ g.done = g.whole ∙ ap (λ (l : List ℕ). g.done ++ l) rest ∙ append-nil g.done in
+        let all : started_of c₀ ≡ g.done = g.whole ∙ ap (λ (l : List ℕ). g.done ++ l) rest ∙ append-nil g.done in
         record {
           kept = g.kept;
           same = g.same;
@@ -127,14 +127,14 @@ module _ {c₀ : Contents} {list₀ : List ℕ} (m : MayStart c₀ list₀) wher
         let p = g.same.processors in
         let a = g.runs in
         ended
-        (starts-full c.size (at c.parents) (executionOf c) (c.processors - c.active) (books c).standings (omega arith))
+        (starts-full c.size (at c.parents) (execution_of c) (c.processors - c.active) (books c).standings (omega arith))
 
     module _ {place : ℕ} (found : FirstMarked c.size c place) where
       -- nobody is ready
       pub nobody-ready : place ≡ c.size → Started c₀ c list₀ list count
       nobody-ready past =
           ended
-          (starts-nobody c.size (at c.parents) (executionOf c) (c.processors - c.active) (books c).standings
+          (starts-nobody c.size (at c.parents) (execution_of c) (c.processors - c.active) (books c).standings
           (none-ready g.kept found past))
 
       module _ (inside : place ≡ c.size → ⊥) where
@@ -143,7 +143,7 @@ module _ {c₀ : Contents} {list₀ : List ℕ} (m : MayStart c₀ list₀) wher
         may-run = record { kept = g.kept; ready = place-ready g.kept found inside }
 
         module _ (free : active < c₀.processors) where
-          pub count_small : count < maxProcessors
+          pub count_small : count < max_processors
           count_small = let s = g.so-many in let l = m.few in omega arith
 
           pub room : count < length list
@@ -151,7 +151,7 @@ module _ {c₀ : Contents} {list₀ : List ℕ} (m : MayStart c₀ list₀) wher
 
           module _ {c' : Contents} {task : ℕ} (ran : OneStarted place c c' task) where
             -- those that start from c on: the task, and those that start from then on
-            rest : startedOf c ≡ task ∷ startedOf c'
+            rest : started_of c ≡ task ∷ started_of c'
             rest =
                 let t = placed-task g.kept.cached.placed place (place_in may-run) in
                 let e = ran.chosen in
@@ -159,9 +159,9 @@ module _ {c₀ : Contents} {list₀ : List ℕ} (m : MayStart c₀ list₀) wher
                 let a = g.runs in
                 let s = ran.same in
                 let one_fewer : c.processors - c.active ≡ suc (c.processors - (c.active + 1)) = omega arith in
-                let later : ℕ → List ℕ → List ℕ = starts c.size (at c.parents) (executionOf c) in
+                let later : ℕ → List ℕ → List ℕ = starts c.size (at c.parents) (execution_of c) in
                 ap (λ (f : ℕ). later f (books c).standings) one_fewer
-                ∙ starts_first c.size (at c.parents) (executionOf c) (c.processors - (c.active + 1)) (books c).standings task
+                ∙ starts_first c.size (at c.parents) (execution_of c) (c.processors - (c.active + 1)) (books c).standings task
                 (chosen-first g.kept found inside ∙ sym e) (omega (arith, t.low))
                 ∙ ap (λ (l : List ℕ). task ∷ l)
                 (sym
@@ -188,7 +188,7 @@ module _ {c₀ : Contents} {list₀ : List ℕ} (m : MayStart c₀ list₀) wher
                       ∙ ap (λ (v : List ℕ). record { standings = v; booked = (books c₀).booked })
                       (sym (start-more g.done (books c₀).standings task));
                   whole =
-                      g.whole ∙ ap (λ (v : List ℕ). g.done ++ v) rest ∙ sym (append_snoc g.done task (startedOf c'));
+                      g.whole ∙ ap (λ (v : List ℕ). g.done ++ v) rest ∙ sym (append_snoc g.done task (started_of c'));
                   counted = omega arith;
                   listed =
                       rw (g.listed, g.counted) (sym (front-more g.done list₀ task (omega arith)));

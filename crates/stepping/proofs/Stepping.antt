@@ -8,9 +8,9 @@ use lib.ListN.{length, take, drop, length-append, length-drop, drop_of_length-le
 use lib.Seq.{take_all, take_at, drop_at, drop-drop}
 use Rattle.rules.specs.State.{State}
 use Rattle.rules.specs.Answer.{Asking}
-use Rattle.texts.specs.Text.{longestLine}
+use Rattle.texts.specs.Text.{longest_line}
 use Rattle.texts.specs.Printer as rules
-use Rattle.texts.specs.Printer.{goesOn, Turn, idle, turn, behind, turns, moved, step}
+use Rattle.texts.specs.Printer.{going_on, Turn, idle, turn, behind, turns, moved, step}
 use Rattle.texts.proofs.Stepped.{turn-kept, no_room, last_turn, next-turn}
 use Rattle.texts.proofs.Printed.{going}
 use Rattle.answer.specs.Meaning.{plan_of}
@@ -92,7 +92,7 @@ module _ (part list₀ output₀ w₀ : List ℕ) (x₀ : Position) where
   -- the turns that are left from a position on
   abbrev from : ℕ → ℕ → State → List ℕ → rules.Position → Turn
   from more room s list y =
-      turns more room s (record { stream = part; place = y.place; list = list }) y.offset y.isLast
+      turns more room s (record { stream = part; place = y.place; list = list }) y.offset y.is_last
 
   -- some turns are behind, and the step is what they and those that are left come to
   pub record StepLoop (w : List ℕ) (x : Position) (list output : List ℕ) (written : ℕ) : Type 0 where
@@ -103,7 +103,7 @@ module _ (part list₀ output₀ w₀ : List ℕ) (x₀ : Position) where
     pub enough : length part < x.place + more
     pub within : x.place ≤ length part
     pub position : position_of x ≡ moved used (position_of x₀)
-    pub counted : x.offset + (length part - x.place) ≤ rules.maxOffset
+    pub counted : x.offset + (length part - x.place) ≤ rules.max_offset
     pub printed : output ≡ text ++ drop (length text) output₀
     pub told : written ≡ length text
     pub room : length text ≤ length output₀
@@ -113,7 +113,7 @@ module _ (part list₀ output₀ w₀ : List ℕ) (x₀ : Position) where
   -- before the first turn
   pub begun : ValidPlan w₀
       → x₀.place ≤ length part
-      → x₀.offset + (length part - x₀.place) ≤ rules.maxOffset
+      → x₀.offset + (length part - x₀.place) ≤ rules.max_offset
       → StepLoop w₀ x₀ list₀ output₀ 0
   unfolding step
   begun valid within counted =
@@ -165,11 +165,11 @@ module _ (part list₀ output₀ w₀ : List ℕ) (x₀ : Position) where
         })
 
     -- there is no room for another line
-    pub filled-up : length output - written < longestLine
-        → Step x₀ goal output₀ (record { position = x; written = written; verdict = goesOn }) w list output
+    pub filled-up : length output - written < longest_line
+        → Step x₀ goal output₀ (record { position = x; written = written; verdict = going_on }) w list output
     unfolding idle
     filled-up few =
-        let full : length output₀ - length h.text < longestLine = omega (arith, size, h.told) in
+        let full : length output₀ - length h.text < longest_line = omega (arith, size, h.told) in
         let none = append-nil h.text in
         closing (no_room (plan_of w) _ _ _ h.more _ full) refl refl refl (moved_none (position_of x)) (rw none h.printed)
         (rw none h.told) h.valid
@@ -180,7 +180,7 @@ module _ (part list₀ output₀ w₀ : List ℕ) (x₀ : Position) where
     abbrev next : Turn
     next = turn (plan_of w) asked x.offset x.is_last
 
-    module _ (left : longestLine ≤ length output - written) {r : Turned} {w' list' piece : List ℕ}
+    module _ (left : longest_line ≤ length output - written) {r : Turned} {w' list' piece : List ℕ}
         (taken : Taken w next (take (length output - written) (drop written output)) r w' list' piece) where
       pub used-here : x.place + r.used ≤ length part
       used-here = used-within w asked x.offset x.is_last taken h.within
@@ -193,7 +193,7 @@ module _ (part list₀ output₀ w₀ : List ℕ) (x₀ : Position) where
           go zero e = absurd (omega arith)
           go (suc m) e = (m, refl)
 
-      room-here : longestLine ≤ length output₀ - length h.text
+      room-here : longest_line ≤ length output₀ - length h.text
       room-here = omega (arith, size, h.told)
 
       -- what the buffer holds after it, and how much
@@ -234,7 +234,7 @@ module _ (part list₀ output₀ w₀ : List ℕ) (x₀ : Position) where
 
       module _ {x' : Position} (position : position_of x' ≡ moved r.used (position_of x)) where
         -- it was the last
-        pub ended : (r.verdict ≡ goesOn → ⊥)
+        pub ended : (r.verdict ≡ going_on → ⊥)
             → Step x₀ goal output₀
             (record { position = x'; written = written + r.written; verdict = r.verdict }) w' list' output'
         ended stays =
@@ -272,7 +272,7 @@ module _ (part list₀ output₀ w₀ : List ℕ) (x₀ : Position) where
             ∙ ap (from m (length output₀ - length (h.text ++ next.text)) (plan_of w') list') at
 
         -- a byte is used
-        pub some : r.verdict ≡ goesOn → x.place < x'.place
+        pub some : r.verdict ≡ going_on → x.place < x'.place
         some goes =
             omega (
               arith,
@@ -282,7 +282,7 @@ module _ (part list₀ output₀ w₀ : List ℕ) (x₀ : Position) where
             )
 
         -- the turns go on
-        pub onward : r.verdict ≡ goesOn → StepLoop w' x' list' output' (written + r.written)
+        pub onward : r.verdict ≡ going_on → StepLoop w' x' list' output' (written + r.written)
         onward goes =
             let m = one_more in
             record {

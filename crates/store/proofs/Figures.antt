@@ -16,7 +16,7 @@ use Rattle.numbers.proofs.Sums.{sum-cong, sum-le, only-le, only-and, only-cong, 
 use Rattle.tree.proofs.Children.{children-le, children-cong, children-change, children-zero, figure-children}
 use Rattle.tree.proofs.Tree.{up-self, up_step, up-rank, up-nobody, parent-task, not-above-itself, figure-change}
 use Rattle.books.proofs.Shape.{Moved}
-use Rattle.store.specs.Cached.{partialFigure, partialFigureWith}
+use Rattle.store.specs.Cached.{partial_figure, partial_figure_with}
 
 -- what a child that does not wait counts for
 abbrev pub counts : (ℕ → ℕ) → ℕ → ℕ → ℕ
@@ -25,8 +25,8 @@ counts st c x = only (not (eqb (st c) waiting)) x
 -- as a sum over the children
 pub partial-is :
     (n : ℕ) (par st b : ℕ → ℕ) (i : ℕ)
-    → partialFigure n par st b i ≡ b i + children n par (λ c. counts st c (figure n par b c)) i
-unfolding partialFigure children
+    → partial_figure n par st b i ≡ b i + children n par (λ c. counts st c (figure n par b c)) i
+unfolding partial_figure children
 partial-is n par st b i =
     ap (λ (v : ℕ). b i + v)
     (sum-cong (λ c. only (eqb (par c) i && not (eqb (st c) waiting)) (figure n par b c))
@@ -35,8 +35,8 @@ partial-is n par st b i =
 
 pub partial-with-is :
     (n : ℕ) (par st b : ℕ → ℕ) (x r i : ℕ)
-    → partialFigureWith n par st b x r i ≡ b i + children n par (λ c. counts st c (figure n par b c + only (up n par c x) r)) i
-unfolding partialFigureWith children
+    → partial_figure_with n par st b x r i ≡ b i + children n par (λ c. counts st c (figure n par b c + only (up n par c x) r)) i
+unfolding partial_figure_with children
 partial-with-is n par st b x r i =
     ap (λ (v : ℕ). b i + v)
     (sum-cong
@@ -46,7 +46,7 @@ partial-with-is n par st b x r i =
 
 -- nothing in the air
 pub partial-with-nothing :
-    (n : ℕ) (par st b : ℕ → ℕ) (x i : ℕ) → partialFigureWith n par st b x 0 i ≡ partialFigure n par st b i
+    (n : ℕ) (par st b : ℕ → ℕ) (x i : ℕ) → partial_figure_with n par st b x 0 i ≡ partial_figure n par st b i
 partial-with-nothing n par st b x i =
     partial-with-is n par st b x 0 i
     ∙ ap (λ (v : ℕ). b i + v)
@@ -60,7 +60,7 @@ module _ (n : ℕ) (par rank : ℕ → ℕ) (tree : Tree n par rank) where
       (st b : ℕ → ℕ) (i : ℕ)
       → Task n i
       → ((c : ℕ) → Task n c → par c ≡ i → st c ≡ waiting → ⊥)
-      → partialFigure n par st b i ≡ figure n par b i
+      → partial_figure n par st b i ≡ figure n par b i
   partial-figure st b i t busy =
       partial-is n par st b i
       ∙ ap (λ (v : ℕ). b i + v)
@@ -98,8 +98,8 @@ module _ (n : ℕ) (par rank : ℕ → ℕ) (tree : Tree n par rank) where
       → b' x ≡ b x + m
       → ((k : ℕ) → Task n k → (k ≡ x → ⊥) → b' k ≡ b k)
       → Task n i
-      → partialFigure n par st' b' i
-      ≡ partialFigure n par st b i + only (eqb x i) m + only (eqb (par x) i) (figure n par b x + m)
+      → partial_figure n par st' b' i
+      ≡ partial_figure n par st b i + only (eqb x i) m + only (eqb (par x) i) (figure n par b x + m)
   partial-booked st st' b b' x m i shape t w moved granted others u =
       let old = partial-is n par st b i in
       let new = partial-is n par st' b' i in
@@ -154,8 +154,8 @@ module _ (n : ℕ) (par rank : ℕ → ℕ) (tree : Tree n par rank) where
       → ((k : ℕ) → Task n k → (k ≡ par x → ⊥) → b' k ≡ b k)
       → g ≤ r
       → Task n a
-      → partialFigureWith n par st b' (par x) (r - g) a + only (eqb (par x) a) r
-      ≡ partialFigureWith n par st b x r a + only (eqb (par x) a) g
+      → partial_figure_with n par st b' (par x) (r - g) a + only (eqb (par x) a) r
+      ≡ partial_figure_with n par st b x r a + only (eqb (par x) a) g
   partial-offered st b b' x r g a t busy u given others h v =
       let i : ℕ = par x in
       let old = partial-with-is n par st b x r a in
@@ -209,7 +209,7 @@ module _ (n : ℕ) (par rank : ℕ → ℕ) (tree : Tree n par rank) where
       → Task n x
       → par x ≡ 0
       → Task n a
-      → partialFigureWith n par st b x r a ≡ partialFigure n par st b a
+      → partial_figure_with n par st b x r a ≡ partial_figure n par st b a
   partial-past-root st b x r a t z u =
       partial-with-is n par st b x r a
       ∙ ap (λ (v : ℕ). b a + v)
@@ -234,7 +234,7 @@ module _ (n : ℕ) (par rank : ℕ → ℕ) (tree : Tree n par rank) where
       → Task n (par x)
       → st (par x) ≡ waiting
       → Task n a
-      → partialFigure n par st b a + only (eqb (par x) a) r ≡ partialFigureWith n par st b x r a
+      → partial_figure n par st b a + only (eqb (par x) a) r ≡ partial_figure_with n par st b x r a
   partial-at-waiting st b x r a shape t busy u w v =
       let old = partial-with-is n par st b x r a in
       let new = partial-is n par st b a in
@@ -269,7 +269,7 @@ module _ (n : ℕ) (par rank : ℕ → ℕ) (tree : Tree n par rank) where
 
   -- nobody counts itself among its children
   pub partial-with-own :
-      (st b : ℕ → ℕ) (i r : ℕ) → Task n i → partialFigureWith n par st b i r i ≡ partialFigure n par st b i
+      (st b : ℕ → ℕ) (i r : ℕ) → Task n i → partial_figure_with n par st b i r i ≡ partial_figure n par st b i
   partial-with-own st b i r t =
       partial-with-is n par st b i r i
       ∙ ap (λ (v : ℕ). b i + v)
@@ -284,7 +284,7 @@ module _ (n : ℕ) (par rank : ℕ → ℕ) (tree : Tree n par rank) where
       ∙ sym (partial-is n par st b i)
 
   -- no more than the subtree figure
-  pub partial-le-figure : (st b : ℕ → ℕ) (i : ℕ) → Task n i → partialFigure n par st b i ≤ figure n par b i
+  pub partial-le-figure : (st b : ℕ → ℕ) (i : ℕ) → Task n i → partial_figure n par st b i ≤ figure n par b i
   partial-le-figure st b i t =
       let h = partial-is n par st b i in
       let f = figure-children n par rank tree b i t in
@@ -348,7 +348,7 @@ module _ (n : ℕ) (par rank : ℕ → ℕ) (tree : Tree n par rank) where
 
     -- everybody else holds what it held
     pub partial-taken :
-        (a : ℕ) → Task n a → (a ≡ j → ⊥) → partialFigureWith n par st' b' j r a ≡ partialFigure n par st b a
+        (a : ℕ) → Task n a → (a ≡ j → ⊥) → partial_figure_with n par st' b' j r a ≡ partial_figure n par st b a
     partial-taken a t d =
         let new = partial-with-is n par st' b' j r a in
         let old = partial-is n par st b a in
@@ -376,7 +376,7 @@ module _ (n : ℕ) (par rank : ℕ → ℕ) (tree : Tree n par rank) where
         omega arith
 
     -- and j holds nothing
-    pub partial-taken-there : partialFigureWith n par st' b' j r j ≡ 0
+    pub partial-taken-there : partial_figure_with n par st' b' j r j ≡ 0
     partial-taken-there =
         let own = partial-with-own st' b' j r task in
         let new = partial-is n par st' b' j in
@@ -426,8 +426,8 @@ figure-le-total n par b i = sum-le (λ k. only (up n par i k) (b k)) b n (λ k _
 pub partial-same :
     (n : ℕ) (par st st' b : ℕ → ℕ) (i : ℕ)
     → ((c : ℕ) → Task n c → eqb (st' c) waiting ≡ eqb (st c) waiting)
-    → partialFigure n par st' b i ≡ partialFigure n par st b i
-unfolding partialFigure
+    → partial_figure n par st' b i ≡ partial_figure n par st b i
+unfolding partial_figure
 partial-same n par st st' b i same =
     ap (λ (v : ℕ). b i + v)
     (sum-cong (λ c. only (eqb (par c) i && not (eqb (st' c) waiting)) (figure n par b c))

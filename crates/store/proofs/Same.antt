@@ -2,7 +2,7 @@
 use mathlib.Core.Path.{◌≡◌, refl, fun_ext, ◌∙◌}
 use Rattle.numbers.specs.Lists.{at}
 use Rattle.words.specs.Contents.{Contents}
-use Rattle.store.specs.Rows.{termsIn}
+use Rattle.store.specs.Rows.{terms_in}
 use Rattle.store.specs.Kept.{SamePlan}
 
 pub same_refl : (c : Contents) → SamePlan c c
@@ -46,5 +46,5 @@ same-trans a b =
     }
 
 -- what booking finds of the stores is the same
-pub terms-same : {c c' : Contents} → SamePlan c c' → termsIn c' ≡ termsIn c
+pub terms-same : {c c' : Contents} → SamePlan c c' → terms_in c' ≡ terms_in c
 terms-same s = fun_ext (λ k z. record { bound = s.bound k z; need = at (s.needs k z); out = at (s.outs k z) })

@@ -12,21 +12,21 @@ use native.Mathlib.Omega.{arith}
 use borrow.Author.Tests.{eq-eqb, ne_eqb}
 use Rattle.numbers.proofs.Sums.{sum-cong, sum-change, only-and, only_zero}
 use Rattle.books.proofs.Shape.{Moved}
-use Rattle.store.specs.Cached.{unendedChildren}
+use Rattle.store.specs.Cached.{unended_children}
 
 -- the children that have not ended are the same where the same tasks have ended
 pub unended-same :
     (n : ℕ) (par st st' : ℕ → ℕ) (i : ℕ)
     → ((c : ℕ) → Task n c → eqb (st' c) finished ≡ eqb (st c) finished)
-    → unendedChildren n par st' i ≡ unendedChildren n par st i
-unfolding unendedChildren count_to
+    → unended_children n par st' i ≡ unended_children n par st i
+unfolding unended_children count_to
 unended-same n par st st' i same =
     sum-cong (λ c. only (eqb (par c) i && not (eqb (st' c) finished)) 1) (λ c. only (eqb (par c) i && not (eqb (st c) finished)) 1) n
     (λ c t. ap (λ (b : Bool). only (eqb (par c) i && not b) 1) (same c t))
 
 -- a task is fed where no child has yet to end
-pub fed-is : (n : ℕ) (par st : ℕ → ℕ) (i : ℕ) → fed n par st i ≡ eqb (unendedChildren n par st i) 0
-unfolding fed unendedChildren
+pub fed-is : (n : ℕ) (par st : ℕ → ℕ) (i : ℕ) → fed n par st i ≡ eqb (unended_children n par st i) 0
+unfolding fed unended_children
 fed-is n par st i = λ _. fed n par st i
 
 -- so that another task is ready as it was, if its own standing is as it was
@@ -48,8 +48,8 @@ pub unended-one :
     → Task n j
     → (st j ≡ finished → ⊥)
     → Moved n st st' j finished
-    → unendedChildren n par st i ≡ unendedChildren n par st' i + only (eqb (par j) i) 1
-unfolding unendedChildren count_to
+    → unended_children n par st i ≡ unended_children n par st' i + only (eqb (par j) i) 1
+unfolding unended_children count_to
 unended-one n par st st' j i t d moved =
     sum-change (λ c. only (eqb (par c) i && not (eqb (st' c) finished)) 1) (λ c. only (eqb (par c) i && not (eqb (st c) finished)) 1) n j
     (only (eqb (par j) i) 1) t

@@ -12,14 +12,14 @@ use Rattle.numbers.specs.Lists.{at}
 use Rattle.books.proofs.EachStore.{of-each}
 use Rattle.words.specs.Layout.{row, rows, words, offset, kind_at}
 use Rattle.words.specs.Views.{column}
-use Rattle.words.specs.Contents.{StoreContents, Contents, headWord, storeContents, contents, storeWithCell, withCell, storeWithHead, with_head}
+use Rattle.words.specs.Contents.{StoreContents, Contents, head_word, store_contents, contents, store_with_cell, with_cell, store_with_head, with_head}
 use Rattle.words.proofs.Views.{column-at}
 use Rattle.words.proofs.Contents.{offset-in, contents-cell, contents-head}
-use Rattle.store.specs.Store.{storeAt, withStore, withHoldings, grown, AtTask, Grown}
+use Rattle.store.specs.Store.{store_at, with_store, with_holdings, grown, AtTask, Grown}
 
 -- the plan c whose store of kind k holds other totals, booked trays and figures
 abbrev pub holding : Kind → (total used : ℕ) (booked figures : List ℕ) → Contents → Contents
-holding k total used booked figures c = withStore k (withHoldings total used booked figures (of c.stores k)) c
+holding k total used booked figures c = with_store k (with_holdings total used booked figures (of c.stores k)) c
 
 -- the words hold the plan c, but for what its store of kind k holds, and are all there
 pub record Held (w : List ℕ) (c : Contents) (k : Kind) (t u : ℕ) (b f : List ℕ) : Type 0 where
@@ -29,7 +29,7 @@ pub record Held (w : List ℕ) (c : Contents) (k : Kind) (t u : ℕ) (b f : List
 -- what a store holds itself
 own : (k : Kind) (c : Contents)
     → c ≡ holding k (of c.stores k).total (of c.stores k).used (of c.stores k).booked (of c.stores k).figures c
-unfolding withStore withHoldings
+unfolding with_store with_holdings
 own Kind.chilled c = refl
 
 pub holds :
@@ -43,34 +43,34 @@ holds w k long = record { same = own k (contents w); long = long }
 -- the store that is there then
 there :
     (k : Kind) (t u : ℕ) (b f : List ℕ) (c : Contents)
-    → of (holding k t u b f c).stores k ≡ withHoldings t u b f (of c.stores k)
-unfolding withStore
+    → of (holding k t u b f c).stores k ≡ with_holdings t u b f (of c.stores k)
+unfolding with_store
 there Kind.chilled t u b f c = refl
 
 -- what a write to a word of a row of the store makes of it
 booked-cell :
     (k : Kind) (t u : ℕ) (b f : List ℕ) (c : Contents) (i y : ℕ)
-    → withCell (offset k + 3) i y (holding k t u b f c) ≡ holding k t u (set b i y) f c
-unfolding withCell storeWithCell withStore withHoldings
+    → with_cell (offset k + 3) i y (holding k t u b f c) ≡ holding k t u (set b i y) f c
+unfolding with_cell store_with_cell with_store with_holdings
 booked-cell Kind.chilled t u b f c i y = refl
 
 figure-cell :
     (k : Kind) (t u : ℕ) (b f : List ℕ) (c : Contents) (i y : ℕ)
-    → withCell (offset k + 4) i y (holding k t u b f c) ≡ holding k t u b (set f i y) c
-unfolding withCell storeWithCell withStore withHoldings
+    → with_cell (offset k + 4) i y (holding k t u b f c) ≡ holding k t u b (set f i y) c
+unfolding with_cell store_with_cell with_store with_holdings
 figure-cell Kind.chilled t u b f c i y = refl
 
 -- and of the head
 total_head :
     (k : Kind) (t u : ℕ) (b f : List ℕ) (c : Contents) (y : ℕ)
     → with_head (offset k + 1) y (holding k t u b f c) ≡ holding k y u b f c
-unfolding with_head storeWithHead withStore withHoldings
+unfolding with_head store_with_head with_store with_holdings
 total_head Kind.chilled t u b f c y = refl
 
 used-head :
     (k : Kind) (t u : ℕ) (b f : List ℕ) (c : Contents) (y : ℕ)
     → with_head (offset k + 2) y (holding k t u b f c) ≡ holding k t y b f c
-unfolding with_head storeWithHead withStore withHoldings
+unfolding with_head store_with_head with_store with_holdings
 used-head Kind.chilled t u b f c y = refl
 
 -- what is read of task i
@@ -85,15 +85,15 @@ pub record RowRead (w : List ℕ) (c : Contents) (k : Kind) (b f : List ℕ) (st
 module _ {w : List ℕ} {c : Contents} {k : Kind} {t u : ℕ} {b f : List ℕ} (held : Held w c k t u b f) {store : ℕ}
     (here : store ≡ offset k) where
   -- the store in the words
-  store_is : storeContents (offset k) w ≡ withHoldings t u b f (of c.stores k)
+  store_is : store_contents (offset k) w ≡ with_holdings t u b f (of c.stores k)
   unfolding contents
   store_is =
-      sym (of-each (λ d. storeContents (offset d) w) k)
+      sym (of-each (λ d. store_contents (offset d) w) k)
       ∙ ap (λ (d : Contents). of d.stores k) held.same
       ∙ there k t u b f c
 
   pub row_read : (i : ℕ) → i < rows → RowRead w c k b f store i
-  unfolding contents storeContents withHoldings withStore
+  unfolding contents store_contents with_holdings with_store
   row_read i h =
       record {
         parent = column-at 0 w i h ∙ ap (λ (d : Contents). at d.parents i) held.same;
@@ -114,7 +114,7 @@ pub record HeadRead (w : List ℕ) (k : Kind) (store : ℕ) : Type 0 where
   pub used : at w (row * rows + (store + 2)) ≡ (of (contents w).stores k).used
 
 pub head_read : (w : List ℕ) (k : Kind) (store : ℕ) → store ≡ offset k → HeadRead w k store
-unfolding contents storeContents
+unfolding contents store_contents
 head_read w k store here =
     record {
       bound = ap (at w) (omega arith) ∙ ap (λ (s : StoreContents). s.bound) lies;
@@ -122,19 +122,19 @@ head_read w k store here =
       used = word 2 ∙ ap (λ (s : StoreContents). s.used) lies;
     }
   where
-    lies : storeContents (offset k) w ≡ of (contents w).stores k
-    lies = sym (of-each (λ d. storeContents (offset d) w) k)
+    lies : store_contents (offset k) w ≡ of (contents w).stores k
+    lies = sym (of-each (λ d. store_contents (offset d) w) k)
 
-    word : (j : ℕ) → at w (row * rows + (store + j)) ≡ headWord (offset k + j) w
+    word : (j : ℕ) → at w (row * rows + (store + j)) ≡ head_word (offset k + j) w
     word j = ap (at w) (omega arith)
 
 -- the same of the store at an offset, as it lies in the words
 abbrev pub RowAt : (w : List ℕ) (store i : ℕ) → Type 0
 RowAt w store i =
-    RowRead w (contents w) (kind_at store) (storeAt store (contents w)).booked (storeAt store (contents w)).figures store i
+    RowRead w (contents w) (kind_at store) (store_at store (contents w)).booked (store_at store (contents w)).figures store i
 
 pub row_at : (w : List ℕ) {store i : ℕ} → AtTask store i (contents w) → RowAt w store i
-row_at w {store} {i} h = row_read (holds w (kind_at store) h.long) h.offset i h.task-in
+row_at w {store} {i} h = row_read (holds w (kind_at store) h.long) h.offset i h.task_in
 
 abbrev pub HeadAt : (w : List ℕ) (store : ℕ) → Type 0
 HeadAt w store = HeadRead w (kind_at store) store
@@ -151,13 +151,13 @@ module _ {w w' : List ℕ} {c : Contents} {k : Kind} {t u : ℕ} {b f : List ℕ
       → j < 5
       → i < rows
       → w' ≡ set w (row * i + (store + j)) x
-      → contents w' ≡ withCell (offset k + j) i y (holding k t u b f c)
-  cell-written j i column-in h e =
+      → contents w' ≡ with_cell (offset k + j) i y (holding k t u b f c)
+  cell-written j i column_in h e =
       let inside = offset-in k in
       ap contents e
       ∙ ap (λ (s : ℕ). contents (set w (row * i + (s + j)) x)) here
       ∙ contents-cell w held.long (offset k + j) i x (omega arith) h
-      ∙ (λ z. withCell (offset k + j) i (value z) (held.same z))
+      ∙ (λ z. with_cell (offset k + j) i (value z) (held.same z))
 
   same_length : (q : ℕ) → w' ≡ set w q x → length w' ≡ words
   same_length q e = ap length e ∙ length-set w q x ∙ held.long
@@ -167,7 +167,7 @@ module _ {w w' : List ℕ} {c : Contents} {k : Kind} {t u : ℕ} {b f : List ℕ
       → j < 5
       → w' ≡ set w (row * rows + (store + j)) x
       → contents w' ≡ with_head (offset k + j) y (holding k t u b f c)
-  head-written j column-in e =
+  head-written j column_in e =
       let inside = offset-in k in
       ap contents e
       ∙ ap (λ (q : ℕ). contents (set w q x)) (omega arith)
@@ -188,18 +188,18 @@ module _ {w w' : List ℕ} {c : Contents} {k : Kind} {t u : ℕ} {b f : List ℕ
         long = same_length (row * rows + (store + 2)) e;
       }
 
-  module _ (i : ℕ) (task-in : i < rows) where
+  module _ (i : ℕ) (task_in : i < rows) where
     pub booked-written : w' ≡ set w (row * i + (store + 3)) x → Held w' c k t u (set b i y) f
     booked-written e =
         record {
-          same = cell-written 3 i (omega arith) task-in e ∙ booked-cell k t u b f c i y;
+          same = cell-written 3 i (omega arith) task_in e ∙ booked-cell k t u b f c i y;
           long = same_length (row * i + (store + 3)) e;
         }
 
     pub figure-written : w' ≡ set w (row * i + (store + 4)) x → Held w' c k t u b (set f i y)
     figure-written e =
         record {
-          same = cell-written 4 i (omega arith) task-in e ∙ figure-cell k t u b f c i y;
+          same = cell-written 4 i (omega arith) task_in e ∙ figure-cell k t u b f c i y;
           long = same_length (row * i + (store + 4)) e;
         }
 

@@ -2,26 +2,26 @@
 use Rattle.std.specs.Prelude.{◌≡◌, List, ℕ, ◌^◌, ◌≤◌, ◌<◌}
 use Rattle.books.specs.Kind.{Kind, of}
 use Rattle.numbers.specs.Lists.{at}
-use Rattle.numbers.specs.Limits.{maxTasks}
+use Rattle.numbers.specs.Limits.{max_tasks}
 use Rattle.books.specs.Booking.{Terms, Books}
-use Rattle.tree.specs.Tree.{Valid, rankIn}
+use Rattle.tree.specs.Tree.{Valid, rank_in}
 use Rattle.books.specs.Invariant.{Roomy, Good}
 use Rattle.words.specs.Contents.{Contents}
-use Rattle.store.specs.Rows.{books, termsIn, activationOf}
+use Rattle.store.specs.Rows.{books, terms_in, activation_of}
 use Rattle.store.specs.Cached.{Cached}
 
 -- a plan whose activation order is valid and whose books keep what holds of a day
 pub record DayInvariant (n : ℕ) (par : ℕ → ℕ) (terms : Kind → Terms) (order : List ℕ) (b : Books) : Type 0 where
-  pub small : n ≤ maxTasks
+  pub small : n ≤ max_tasks
   pub bounded : (k : Kind) → (terms k).bound < 2 ^ 32
   pub valid : Valid n par order
   pub parents : (i : ℕ) → par i ≤ n
   pub roomy : (k : Kind) → Roomy n par (terms k).need (terms k).out
-  pub good : Good n par (rankIn order) terms b
+  pub good : Good n par (rank_in order) terms b
 
 pub record Kept (c : Contents) : Type 0 where
   pub invariant :
-      DayInvariant c.size (at c.parents) (termsIn c) (activationOf c) (books c)
+      DayInvariant c.size (at c.parents) (terms_in c) (activation_of c) (books c)
   pub cached : Cached c
 
 -- what sharing out, booking ahead and starting leave of a plan

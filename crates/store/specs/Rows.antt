@@ -15,15 +15,15 @@ abbrev pub ZeroPast : ℕ → List ℕ → Type 0
 ZeroPast n l = (a : ℕ) → n < a → at l a ≡ 0
 
 -- the standings and the booked trays of the tasks
-abbrev pub booksIn : ℕ → List ℕ → (Kind → List ℕ) → Books
-booksIn n standings booked = record { standings = rows_of n standings; booked = each (λ k. rows_of n (booked k)) }
+abbrev pub books_in : ℕ → List ℕ → (Kind → List ℕ) → Books
+books_in n standings booked = record { standings = rows_of n standings; booked = each (λ k. rows_of n (booked k)) }
 
 abbrev pub books : Contents → Books
-books c = booksIn c.size c.standings (λ k. (of c.stores k).booked)
+books c = books_in c.size c.standings (λ k. (of c.stores k).booked)
 
 -- a store as booking finds it
-abbrev pub termsIn : Contents → Kind → Terms
-termsIn c k =
+abbrev pub terms_in : Contents → Kind → Terms
+terms_in c k =
     record {
       bound = (of c.stores k).bound;
       need = at (of c.stores k).needs;
@@ -31,8 +31,8 @@ termsIn c k =
     }
 
 -- the tasks in a store
-abbrev pub tasksOf : Contents → Kind → Tasks
-tasksOf c k =
+abbrev pub tasks_of : Contents → Kind → Tasks
+tasks_of c k =
     record {
       size = c.size;
       parent = at c.parents;
@@ -41,8 +41,8 @@ tasksOf c k =
     }
 
 -- the orders, once they are given
-abbrev pub activationOf : Contents → List ℕ
-activationOf c = take c.size c.activation
+abbrev pub activation_of : Contents → List ℕ
+activation_of c = take c.size c.activation
 
-abbrev pub executionOf : Contents → List ℕ
-executionOf c = take c.size c.execution
+abbrev pub execution_of : Contents → List ℕ
+execution_of c = take c.size c.execution

@@ -18,7 +18,7 @@ fn less(from: u32, taken: u32) -> u32
 // "its need less (its own booked trays plus the subtree figures of its children), never below 0"
 pub fn missing(plan: &[u32; Plan::WORDS], store: usize, task: usize) -> u32
     requires { stores.AtTask store task (contents plan.now) }
-    ensures { result ≡ at (stores.storeAt store (contents plan.now)).needs task - at (stores.storeAt store (contents plan.now)).figures task }
+    ensures { result ≡ at (stores.store_at store (contents plan.now)).needs task - at (stores.store_at store (contents plan.now)).figures task }
 {
     less(
         cell(plan, task, store + Plan::NEED),
@@ -28,8 +28,8 @@ pub fn missing(plan: &[u32; Plan::WORDS], store: usize, task: usize) -> u32
 
 // "If B + missing is at most M": what is booked is within the bound, so that the difference says it.
 pub fn has_room(plan: &[u32; Plan::WORDS], store: usize, units: u32) -> bool
-    requires { stores.AtStore store × ((stores.storeAt store (contents plan.now)).total ≤ (stores.storeAt store (contents plan.now)).bound) }
-    ensures { result ≡ leb ((stores.storeAt store (contents plan.now)).total + units) (stores.storeAt store (contents plan.now)).bound }
+    requires { stores.AtStore store × ((stores.store_at store (contents plan.now)).total ≤ (stores.store_at store (contents plan.now)).bound) }
+    ensures { result ≡ leb ((stores.store_at store (contents plan.now)).total + units) (stores.store_at store (contents plan.now)).bound }
 {
     let bound = cell(plan, Plan::HEAD, store + Plan::BOUND);
     let total = cell(plan, Plan::HEAD, store + Plan::TOTAL);
@@ -38,8 +38,8 @@ pub fn has_room(plan: &[u32; Plan::WORDS], store: usize, units: u32) -> bool
 
 // "the number of trays that step lacks": what B + missing has above M.
 pub fn shortage(plan: &[u32; Plan::WORDS], store: usize, units: u32) -> u32
-    requires { stores.AtStore store × ((stores.storeAt store (contents plan.now)).total ≤ (stores.storeAt store (contents plan.now)).bound) }
-    ensures { result ≡ (stores.storeAt store (contents plan.now)).total + units - (stores.storeAt store (contents plan.now)).bound }
+    requires { stores.AtStore store × ((stores.store_at store (contents plan.now)).total ≤ (stores.store_at store (contents plan.now)).bound) }
+    ensures { result ≡ (stores.store_at store (contents plan.now)).total + units - (stores.store_at store (contents plan.now)).bound }
 {
     let bound = cell(plan, Plan::HEAD, store + Plan::BOUND);
     let total = cell(plan, Plan::HEAD, store + Plan::TOTAL);
@@ -60,7 +60,7 @@ fn grow(plan: &mut [u32; Plan::WORDS], task: usize, column: usize, more: u32)
 // "it gets them": what a task misses, with its figure and its parent's.
 pub fn grant(plan: &mut [u32; Plan::WORDS], store: usize, task: usize, units: u32)
     requires { stores.MayGrant store task units (contents plan.old) }
-    ensures { contents plan.new ≡ stores.withStoreAt store (stores.granted (at (contents plan.old).parents task) task units) (contents plan.old) }
+    ensures { contents plan.new ≡ stores.with_store_at store (stores.granted (at (contents plan.old).parents task) task units) (contents plan.old) }
 {
     let parent = cell(plan, task, Plan::PARENT) as usize;
     let total = cell(plan, Plan::HEAD, store + Plan::TOTAL);
@@ -74,8 +74,8 @@ pub fn grant(plan: &mut [u32; Plan::WORDS], store: usize, task: usize, units: u3
 
 // What a task brings into use as it starts.
 pub fn load(plan: &mut [u32; Plan::WORDS], store: usize, task: usize)
-    requires { stores.AtTask store task (contents plan.old) × ((stores.storeAt store (contents plan.old)).used + (at (stores.storeAt store (contents plan.old)).works task + at (stores.storeAt store (contents plan.old)).outs task) < 2 ^ 32) }
-    ensures { contents plan.new ≡ stores.withStoreAt store (stores.loaded task) (contents plan.old) }
+    requires { stores.AtTask store task (contents plan.old) × ((stores.store_at store (contents plan.old)).used + (at (stores.store_at store (contents plan.old)).works task + at (stores.store_at store (contents plan.old)).outs task) < 2 ^ 32) }
+    ensures { contents plan.new ≡ stores.with_store_at store (stores.loaded task) (contents plan.old) }
 {
     let work = cell(plan, task, store + Plan::WORK);
     let out = cell(plan, task, store + Plan::OUT);
@@ -86,8 +86,8 @@ pub fn load(plan: &mut [u32; Plan::WORDS], store: usize, task: usize)
 // "Each step i on the way is one offer": what is left of R behind it.
 pub fn pass(plan: &mut [u32; Plan::WORDS], store: usize, task: usize, left: u32) -> u32
     requires { stores.MayPass store task left (contents plan.old) }
-    ensures { (contents plan.new ≡ stores.withStoreAt store (stores.passed task left) (contents plan.old))
-        × (result ≡ left - stores.gift task left (stores.storeAt store (contents plan.old))) }
+    ensures { (contents plan.new ≡ stores.with_store_at store (stores.passed task left) (contents plan.old))
+        × (result ≡ left - stores.gift task left (stores.store_at store (contents plan.old))) }
 {
     let figure = cell(plan, task, store + Plan::FIGURE) - left;
     let gift = less(cell(plan, task, store + Plan::NEED), figure);
@@ -99,8 +99,8 @@ pub fn pass(plan: &mut [u32; Plan::WORDS], store: usize, task: usize, left: u32)
 
 // What is left of R at a waiting task is in no figure from there on.
 pub fn rest(plan: &mut [u32; Plan::WORDS], store: usize, task: usize, left: u32)
-    requires { stores.AtTask store task (contents plan.old) × (left ≤ at (stores.storeAt store (contents plan.old)).figures task) }
-    ensures { contents plan.new ≡ stores.withStoreAt store (stores.rested task left) (contents plan.old) }
+    requires { stores.AtTask store task (contents plan.old) × (left ≤ at (stores.store_at store (contents plan.old)).figures task) }
+    ensures { contents plan.new ≡ stores.with_store_at store (stores.rested task left) (contents plan.old) }
 {
     let figure = cell(plan, task, store + Plan::FIGURE);
     set_cell(plan, task, store + Plan::FIGURE, figure - left);
@@ -110,8 +110,8 @@ pub fn rest(plan: &mut [u32; Plan::WORDS], store: usize, task: usize, left: u32)
 // parent is given j's out, and R falls by it": what is left of R.
 pub fn release(plan: &mut [u32; Plan::WORDS], store: usize, task: usize) -> u32
     requires { stores.MayRelease store task (contents plan.old) }
-    ensures { (contents plan.new ≡ stores.withStoreAt store (stores.released (at (contents plan.old).parents task) task) (contents plan.old))
-        × (result ≡ at (stores.storeAt store (contents plan.old)).booked task - at (stores.storeAt store (contents plan.old)).outs task) }
+    ensures { (contents plan.new ≡ stores.with_store_at store (stores.released (at (contents plan.old).parents task) task) (contents plan.old))
+        × (result ≡ at (stores.store_at store (contents plan.old)).booked task - at (stores.store_at store (contents plan.old)).outs task) }
 {
     let parent = cell(plan, task, Plan::PARENT) as usize;
     let held = cell(plan, task, store + Plan::BOOKED);
@@ -129,7 +129,7 @@ pub fn release(plan: &mut [u32; Plan::WORDS], store: usize, task: usize) -> u32
 // is all that is booked, and all that is in use.
 pub fn hold_alone(plan: &mut [u32; Plan::WORDS], store: usize, task: usize, units: u32)
     requires { stores.AtTask store task (contents plan.old) }
-    ensures { contents plan.new ≡ stores.withStoreAt store (stores.heldAlone task units) (contents plan.old) }
+    ensures { contents plan.new ≡ stores.with_store_at store (stores.held_alone task units) (contents plan.old) }
 {
     set_cell(plan, task, store + Plan::BOOKED, units);
     set_cell(plan, Plan::HEAD, store + Plan::TOTAL, units);
@@ -138,8 +138,8 @@ pub fn hold_alone(plan: &mut [u32; Plan::WORDS], store: usize, task: usize, unit
 
 // "What is left of R is free."
 pub fn free(plan: &mut [u32; Plan::WORDS], store: usize, left: u32)
-    requires { stores.AtStore store × ((contents plan.old).extent ≡ words) × (left ≤ (stores.storeAt store (contents plan.old)).total) }
-    ensures { contents plan.new ≡ stores.withStoreAt store (stores.freed left) (contents plan.old) }
+    requires { stores.AtStore store × ((contents plan.old).extent ≡ words) × (left ≤ (stores.store_at store (contents plan.old)).total) }
+    ensures { contents plan.new ≡ stores.with_store_at store (stores.freed left) (contents plan.old) }
 {
     let total = cell(plan, Plan::HEAD, store + Plan::TOTAL);
     set_cell(plan, Plan::HEAD, store + Plan::TOTAL, total - left);

@@ -10,16 +10,16 @@ use lib.Dec.{eqb}
 use lib.ListN.{length, take}
 use lib.Seq.{take-suc, take_all, length-take-le}
 use Rattle.books.specs.Kind.{Kind, chilled, of, each}
-use Rattle.numbers.specs.Limits.{maxTasks, maxProcessors, maxCount, maxBound}
+use Rattle.numbers.specs.Limits.{max_tasks, max_processors, max_count, max_bound}
 use Rattle.numbers.specs.Sums.{Task}
 use Rattle.numbers.specs.Lists.{at}
 use Rattle.rules.specs.Phase
 use Rattle.rules.specs.State.{State, store_of}
-use Rattle.format.specs.Command.{activation, execution, forms, find, byte_of, operandsOf, widthsOf}
-use Rattle.rules.specs.Grounds.{in_turn, inLimits, ownGround, ground}
-use Rattle.rules.specs.Obey.{opened, withTask, withOrders, obey}
+use Rattle.format.specs.Command.{activation, execution, forms, find, byte_of, operands_of, widths_of}
+use Rattle.rules.specs.Grounds.{in_turn, in_limits, own_ground, ground_for}
+use Rattle.rules.specs.Obey.{opened, with_task, with_orders, obey}
 use Rattle.rules.specs.Reachable.{Reachable}
-use Rattle.streams.specs.Instance.{Instance, instanceOf, unbegun, openingOf, task_of, tasksTo, commands}
+use Rattle.streams.specs.Instance.{Instance, instance_of, unbegun, opening_of, task_of, tasks_to, commands}
 use Rattle.streams.specs.Write.{is_whole}
 use Rattle.numbers.proofs.Tests.{clash, le-or-lt, and-true}
 use Rattle.tree.proofs.Orders.{task-within}
@@ -32,12 +32,12 @@ use Rattle.streams.proofs.Leading.{Leads, stays, obeyed-first, ◌then◌, Order
 
 -- every number is in its limits, every column whole, and both orders complete
 pub record Proper (m : Instance) : Type 0 where
-  tasks : Task maxTasks m.size
-  staffed : Task maxProcessors m.processors
-  bounded : (k : Kind) → of m.bounds k ≤ maxBound
+  tasks : Task max_tasks m.size
+  staffed : Task max_processors m.processors
+  bounded : (k : Kind) → of m.bounds k ≤ max_bound
   parents : Column (suc m.size) m.size m.parents
-  works : (k : Kind) → Column (suc m.size) maxCount (of m.works k)
-  outs : (k : Kind) → Column (suc m.size) maxCount (of m.outs k)
+  works : (k : Kind) → Column (suc m.size) max_count (of m.works k)
+  outs : (k : Kind) → Column (suc m.size) max_count (of m.outs k)
   pub activation : Order m.size m.activation
   pub execution : Order m.size m.execution
 
@@ -86,14 +86,14 @@ module _ (m : Instance) (g : Proper m) where
       rw (ne_eqb 0 m.size (λ e. omega arith), column-first g.parents, column-first (g.works chilled), column-first (g.outs chilled))
 
   -- one task more
-  task-ground : (k : ℕ) → k < m.size → ground (partial m k) (task_of m (suc k)) ≡ 0
-  unfolding in_turn inLimits ownGround
+  task-ground : (k : ℕ) → k < m.size → ground_for (partial m k) (task_of m (suc k)) ≡ 0
+  unfolding in_turn in_limits own_ground
   task-ground k more =
       ground-own (partial m k) (task_of m (suc k)) (rw (ne_eqb k m.size (λ e. omega arith)) refl)
       (rw (le-leb _ _ (g.parents.limited (suc k)), le-leb _ _ ((g.works chilled).limited (suc k)), le-leb _ _ ((g.outs chilled).limited (suc k))))
 
   task-obeyed : (k : ℕ) → k < m.size → (obey (partial m k) (task_of m (suc k))).state ≡ partial m (suc k)
-  unfolding obey withTask
+  unfolding obey with_task
   task-obeyed k more =
       let long = g.parents.long in
       rw (
@@ -103,8 +103,8 @@ module _ (m : Instance) (g : Proper m) where
         column-more k more (g.outs chilled),
       )
 
-  tasks-lead : (k : ℕ) → k ≤ m.size → Leads (partial m 0) (tasksTo m k) (partial m k)
-  unfolding tasksTo widthsOf find forms byte_of operandsOf
+  tasks-lead : (k : ℕ) → k ≤ m.size → Leads (partial m 0) (tasks_to m k) (partial m k)
+  unfolding tasks_to widths_of find forms byte_of operands_of
   tasks-lead zero h = stays (partial m 0)
   tasks-lead (suc k) h =
       let most = g.tasks.high in
@@ -117,42 +117,42 @@ module _ (m : Instance) (g : Proper m) where
       (rw (task-obeyed k (omega arith)) (stays (partial m (suc k))))
 
   -- the last of them leaves the plan in orders
-  all-tasks : partial m m.size ≡ withOrders (unbegun m) [] []
-  unfolding withOrders unbegun
+  all-tasks : partial m m.size ≡ with_orders (unbegun m) [] []
+  unfolding with_orders unbegun
   all-tasks = rw (eq-eqb m.size m.size refl, column-whole g.parents, column-whole (g.works chilled), column-whole (g.outs chilled))
 
   -- the two orders of a plan in orders
   activation-leads :
-      Leads (withOrders (unbegun m) [] []) (map activation m.activation) (withOrders (unbegun m) m.activation [])
-  unfolding withOrders unbegun
+      Leads (with_orders (unbegun m) [] []) (map activation m.activation) (with_orders (unbegun m) m.activation [])
+  unfolding with_orders unbegun
   activation-leads = activations-lead (unbegun m) m.activation [] refl g.tasks.high g.activation
 
   execution-leads :
-      Leads (withOrders (unbegun m) m.activation []) (map execution m.execution) (unbegun m)
-  unfolding withOrders unbegun
+      Leads (with_orders (unbegun m) m.activation []) (map execution m.execution) (unbegun m)
+  unfolding with_orders unbegun
   execution-leads = executions-lead (unbegun m) m.activation m.execution refl g.tasks.high g.execution
 
   -- all of them, from any plan that PLAN may drop
   opening-leads :
       (s : State)
-      → Phase.holdsTrays s.phase ≡ false
-      → Leads s (openingOf m ∷ []) (partial m 0)
-  unfolding in_turn inLimits ownGround obey widthsOf find forms byte_of operandsOf
+      → Phase.holds_trays s.phase ≡ false
+      → Leads s (opening_of m ∷ []) (partial m 0)
+  unfolding in_turn in_limits own_ground obey widths_of find forms byte_of operands_of
   opening-leads s idle =
       let tasks = g.tasks.high in
       let staffed = g.staffed.high in
       let bounded = g.bounded chilled in
-      obeyed-first (openingOf m) (omega arith, (omega arith, (omega arith, tt)))
-      (ground-own s (openingOf m) (rw idle)
-      (rw (task-within maxTasks m.size g.tasks, task-within maxProcessors m.processors g.staffed)
-      (le-leb m.bounds.chilled maxBound bounded)))
+      obeyed-first (opening_of m) (omega arith, (omega arith, (omega arith, tt)))
+      (ground-own s (opening_of m) (rw idle)
+      (rw (task-within max_tasks m.size g.tasks, task-within max_processors m.processors g.staffed)
+      (le-leb m.bounds.chilled max_bound bounded)))
       (rw opens (stays (partial m 0)))
 
-  pub commands-lead : (s : State) → Phase.holdsTrays s.phase ≡ false → Leads s (commands m) (unbegun m)
+  pub commands-lead : (s : State) → Phase.holds_trays s.phase ≡ false → Leads s (commands m) (unbegun m)
   unfolding commands
   commands-lead s idle =
       opening-leads s idle
-      then subst (Leads (partial m 0) (tasksTo m m.size)) all-tasks (tasks-lead m.size (omega arith))
+      then subst (Leads (partial m 0) (tasks_to m m.size)) all-tasks (tasks-lead m.size (omega arith))
       then activation-leads
       then execution-leads
 
@@ -184,7 +184,7 @@ whole-given s reached whole =
     (λ (late : Phase.steps < s.phase). omega arith)
     (le-or-lt s.phase Phase.steps)
 
-pub proper : (s : State) → Reachable s → is_whole s ≡ true → Proper (instanceOf s)
+pub proper : (s : State) → Reachable s → is_whole s ≡ true → Proper (instance_of s)
 proper s reached whole =
     let f = (lives reached).formed in
     let c = complete s whole in
@@ -192,7 +192,7 @@ proper s reached whole =
     record {
       tasks = record { low = (staged reached).some c.opened; high = f.sized };
       staffed = record { low = f.staffed c.opened; high = f.limited };
-      bounded = λ k. subst (λ (m : ℕ). m ≤ maxBound) (sym (of-each (λ k. (store_of s k).bound) k)) (f.stores k).bounded;
+      bounded = λ k. subst (λ (m : ℕ). m ≤ max_bound) (sym (of-each (λ k. (store_of s k).bound) k)) (f.stores k).bounded;
       parents = given-column long refl f.given.parents;
       works = λ k. given-column long (of-each (λ k. (store_of s k).works) k) (f.stores k).works;
       outs = λ k. given-column long (of-each (λ k. (store_of s k).outs) k) (f.stores k).outs;

@@ -8,13 +8,13 @@ use native.Mathlib.Omega.{arith}
 use lib.Dec.{leb}
 use borrow.Author.Tests.{eqb-true}
 use Rattle.books.specs.Kind.{Each, each}
-use Rattle.numbers.specs.Limits.{maxTasks, maxProcessors, maxBound}
+use Rattle.numbers.specs.Limits.{max_tasks, max_processors, max_bound}
 use Rattle.rules.specs.Phase
 use Rattle.rules.specs.State.{State, none}
 use Rattle.format.specs.Command.{Command, plan, task, activation, execution, begin, done, fetch, places}
-use Rattle.rules.specs.Grounds.{in_turn, inLimits}
+use Rattle.rules.specs.Grounds.{in_turn, in_limits}
 use Rattle.numbers.specs.Sums.{within}
-use Rattle.rules.specs.Obey.{opened, withTask, withOrders, completed, booksOf, withBooks, withBound, unloaded, proceed, obey}
+use Rattle.rules.specs.Obey.{opened, with_task, with_orders, completed, books_of, with_books, with_bound, unloaded, proceed, obey}
 use Rattle.rules.specs.Reachable.{Reachable}
 use Rattle.numbers.proofs.Tests.{and-true}
 use Rattle.tree.proofs.Orders.{within-task}
@@ -25,7 +25,7 @@ use Rattle.rules.proofs.Reaching.{by-commands}
 pub record Staged (s : State) : Type 0 where
   pub some : (s.phase ≡ Phase.empty → ⊥) → 1 ≤ s.size
   pub no-orders : s.phase ≤ Phase.steps → (s.activation ≡ []) × (s.execution ≡ [])
-  pub no-books : s.phase ≤ Phase.orders → (s.standings ≡ []) × ((booksOf s).booked ≡ each (λ _. []))
+  pub no-books : s.phase ≤ Phase.orders → (s.standings ≡ []) × ((books_of s).booked ≡ each (λ _. []))
 
 none-staged : Staged none
 none-staged =
@@ -33,8 +33,8 @@ none-staged =
 
 -- 03, 04 and BEGIN change an order of a plan in orders
 entry-staged :
-    (s : State) (act exec : List ℕ) → s.phase ≡ Phase.orders → Staged s → Staged (withOrders s act exec)
-unfolding withOrders
+    (s : State) (act exec : List ℕ) → s.phase ≡ Phase.orders → Staged s → Staged (with_orders s act exec)
+unfolding with_orders
 entry-staged s act exec now h =
     record { some = h.some; no-orders = λ early. absurd (omega arith); no-books = h.no-books }
 
@@ -44,8 +44,8 @@ day-staged :
     → Phase.orders ≤ s.phase
     → Phase.running ≤ phase
     → Staged s
-    → Staged (withBooks s phase st b)
-unfolding withBooks
+    → Staged (with_books s phase st b)
+unfolding with_books
 day-staged s phase st b before after h =
     record {
       some = λ _. h.some (λ e. omega arith);
@@ -54,15 +54,15 @@ day-staged s phase st b before after h =
     }
 
 -- other places leave it
-bound-staged : (s : State) (bound : ℕ) → Staged s → Staged (withBound s bound)
-unfolding withBound
+bound-staged : (s : State) (bound : ℕ) → Staged s → Staged (with_bound s bound)
+unfolding with_bound
 bound-staged s bound h = record { some = h.some; no-orders = h.no-orders; no-books = h.no-books }
 
 obey-staged : (s : State) (c : Command) → Accepted s c → Staged s → Staged (obey s c).state
-unfolding obey opened withTask withOrders completed unloaded withBound in_turn inLimits proceed
+unfolding obey opened with_task with_orders completed unloaded with_bound in_turn in_limits proceed
 obey-staged s (plan n p bound) a h =
-    let limits = and-true (within n maxTasks && within p maxProcessors) (leb bound maxBound) a.limits in
-    let tasks = within-task maxTasks n (and-true (within n maxTasks) (within p maxProcessors) limits.0).0 in
+    let limits = and-true (within n max_tasks && within p max_processors) (leb bound max_bound) a.limits in
+    let tasks = within-task max_tasks n (and-true (within n max_tasks) (within p max_processors) limits.0).0 in
     record { some = λ _. tasks.low; no-orders = λ _. (refl, refl); no-books = λ _. (refl, refl) }
 obey-staged s (task parent work out) a h =
     let now = eqb-true s.phase Phase.steps a.turn in
@@ -86,7 +86,7 @@ obey-staged s fetch a h =
     day-staged s _ _ _ (omega arith) (omega arith) h
 obey-staged s (places bound) a h =
     let now = eqb-true s.phase Phase.running a.turn in
-    day-staged (withBound s bound) _ _ _ (omega arith) (omega arith) (bound-staged s bound h)
+    day-staged (with_bound s bound) _ _ _ (omega arith) (omega arith) (bound-staged s bound h)
 
 pub staged : {s : State} → Reachable s → Staged s
 staged = by-commands Staged none-staged obey-staged

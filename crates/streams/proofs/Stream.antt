@@ -9,15 +9,15 @@ use native.Mathlib.Omega.{arith}
 use borrow.Author.Tests.{eqb-true, eqb-false, eq-eqb, ne_eqb, le-leb, lt-leb, le-ltb}
 use lib.Dec.{eqb, leb}
 use lib.ListN.{length, take, replicate, length-append}
-use Rattle.numbers.specs.Limits.{leastStarts}
+use Rattle.numbers.specs.Limits.{least_starts}
 use Rattle.rules.specs.State.{State, none}
 use Rattle.format.specs.Command.{Command, bytes, read, decode}
-use Rattle.rules.specs.Grounds.{ground}
+use Rattle.rules.specs.Grounds.{ground_for}
 use Rattle.rules.specs.Obey.{obey}
 use Rattle.rules.specs.Answer.{Asking, Answered, accept, command}
 use Rattle.rules.specs.Day.{after, accepted}
 use Rattle.rules.specs.Reachable.{Reachable}
-use Rattle.streams.specs.Stream.{Run, asking, stopped, prepend, readIn, run_from, run, askingsFrom, askings, obeyAll, acceptsAll, RunHolds, StreamHolds}
+use Rattle.streams.specs.Stream.{Run, asking, stopped, prepend, read_in, run_from, run, askings_from, askings, obey_all, accepts_all, RunHolds, StreamHolds}
 use Rattle.numbers.proofs.Tests.{le-or-lt, and_both, and-true}
 use Rattle.format.proofs.Bytes.{read-by, fits, decode-bytes-at}
 use Rattle.rules.proofs.Judging.{judge-accepted, ground-own}
@@ -28,17 +28,17 @@ use Rattle.rules.proofs.Reaching.{is_read, reachable}
 pub granted-answer :
     (s : State) (a : Asking) (c : Command) (used : ℕ)
     → decode a.stream a.place ≡ read c used
-    → ground s c ≡ 0
-    → leastStarts ≤ length a.list
+    → ground_for s c ≡ 0
+    → least_starts ≤ length a.list
     → command s a ≡ accept (obey s c) used a.list
 unfolding command
 granted-answer s a c used e g long =
-    rw e (is_read s c used a.list (le-ltb (length a.list) leastStarts long) ∙ judge-accepted s c used a.list g)
+    rw e (is_read s c used a.list (le-ltb (length a.list) least_starts long) ∙ judge-accepted s c used a.list g)
 
 -- such a command at a place of a stream
 record Granted (s : State) (stream : List ℕ) (place : ℕ) (c : Command) (used : ℕ) : Type 0 where
   reads : decode stream place ≡ read c used
-  no-ground : ground s c ≡ 0
+  no-ground : ground_for s c ≡ 0
 
 module _ {s : State} {stream : List ℕ} {place : ℕ} {c : Command} {used : ℕ} (g : Granted s stream place c used) where
   -- it uses a byte at least, and none past the end
@@ -51,7 +51,7 @@ module _ {s : State} {stream : List ℕ} {place : ℕ} {c : Command} {used : ℕ
   left : leb (length stream) place ≡ false
   left = lt-leb (length stream) place (omega (arith, within.0, within.1))
 
-  answered : command s (asking stream place) ≡ accept (obey s c) used (replicate leastStarts 0)
+  answered : command s (asking stream place) ≡ accept (obey s c) used (replicate least_starts 0)
   answered = granted-answer s (asking stream place) c used g.reads g.no-ground (omega arith)
 
   left-state : (command s (asking stream place)).state ≡ (obey s c).state
@@ -68,7 +68,7 @@ module _ (s : State) (stream : List ℕ) (place : ℕ) where
   went_on : (turns : ℕ) (c : Command) (used : ℕ)
       → Granted s stream place c used
       → run_from (suc turns) s stream place ≡ prepend (c ∷ []) (run_from turns (obey s c).state stream (place + used))
-  unfolding run_from readIn accept
+  unfolding run_from read_in accept
   went_on turns c used g = rw (left g, run_from) (rw (answered g, g.reads) (rw (answered g)))
 
   was-refused : (turns : ℕ)
@@ -83,24 +83,24 @@ module _ (s : State) (stream : List ℕ) (place : ℕ) where
   abbrev pub here : Answered
   here = command s (asking stream place)
 
-  pub asks_none : (turns : ℕ) → length stream ≤ place → askingsFrom turns s stream place ≡ []
-  unfolding askingsFrom
+  pub asks_none : (turns : ℕ) → length stream ≤ place → askings_from turns s stream place ≡ []
+  unfolding askings_from
   asks_none zero out = refl
-  asks_none (suc turns) out = rw (le-leb (length stream) place out, askingsFrom)
+  asks_none (suc turns) out = rw (le-leb (length stream) place out, askings_from)
 
   pub asks-on : (turns : ℕ)
       → place < length stream
       → here.answer.number ≡ 0
-      → askingsFrom (suc turns) s stream place ≡ asking stream place ∷ askingsFrom turns here.state stream (place + here.answer.used)
-  unfolding askingsFrom
-  asks-on turns more e = rw (lt-leb (length stream) place more, eq-eqb here.answer.number 0 e, askingsFrom)
+      → askings_from (suc turns) s stream place ≡ asking stream place ∷ askings_from turns here.state stream (place + here.answer.used)
+  unfolding askings_from
+  asks-on turns more e = rw (lt-leb (length stream) place more, eq-eqb here.answer.number 0 e, askings_from)
 
   pub asks-last : (turns : ℕ)
       → place < length stream
       → (here.answer.number ≡ 0 → ⊥)
-      → askingsFrom (suc turns) s stream place ≡ asking stream place ∷ []
-  unfolding askingsFrom
-  asks-last turns more some = rw (lt-leb (length stream) place more, ne_eqb here.answer.number 0 some, askingsFrom)
+      → askings_from (suc turns) s stream place ≡ asking stream place ∷ []
+  unfolding askings_from
+  asks-last turns more some = rw (lt-leb (length stream) place more, ne_eqb here.answer.number 0 some, askings_from)
 
   -- a refusal has a number
   has-number : Refused s (asking stream place) → here.answer.number ≡ 0 → ⊥
@@ -110,11 +110,11 @@ module _ (s : State) (stream : List ℕ) (place : ℕ) where
 -- where a command is obeyed
 asks-granted : (s : State) (stream : List ℕ) (place turns : ℕ) (c : Command) (used : ℕ)
     → Granted s stream place c used
-    → askingsFrom (suc turns) s stream place ≡ asking stream place ∷ askingsFrom turns (obey s c).state stream (place + used)
+    → askings_from (suc turns) s stream place ≡ asking stream place ∷ askings_from turns (obey s c).state stream (place + used)
 unfolding accept
 asks-granted s stream place turns c used g =
     asks-on s stream place turns (omega (arith, (within g).0, (within g).1)) (ap (λ (a : Answered). a.answer.number) (answered g))
-    ∙ ap (λ (a : Answered). asking stream place ∷ askingsFrom turns a.state stream (place + a.answer.used)) (answered g)
+    ∙ ap (λ (a : Answered). asking stream place ∷ askings_from turns a.state stream (place + a.answer.used)) (answered g)
 
 -- what comes of a stream from a place on, however many turns there are
 data Runs (stream : List ℕ) : State → ℕ → Run → Type 0 where
@@ -178,19 +178,19 @@ asked : {stream : List ℕ} {s : State} {place : ℕ} {r : Run}
     → Runs stream s place r
     → (turns : ℕ)
     → length stream ≤ place + turns
-    → r.state ≡ after s (askingsFrom turns s stream place)
+    → r.state ≡ after s (askings_from turns s stream place)
 unfolding stopped prepend after
 asked {stream} (ends s place out) turns h = rw (asks_none s stream place turns out)
 asked (obeys s place c used r g later) zero h = absurd (omega (arith, (within g).0, (within g).1))
 asked {stream} (obeys s place c used r g later) (suc turns) h =
     rw (asks-granted s stream place turns c used g)
     (asked later turns (omega (arith, (within g).0))
-    ∙ ap (λ (t : State). after t (askingsFrom turns (obey s c).state stream (place + used))) (sym (left-state g)))
+    ∙ ap (λ (t : State). after t (askings_from turns (obey s c).state stream (place + used))) (sym (left-state g)))
 asked (refuses s place more r) zero h = absurd (omega arith)
 asked {stream} (refuses s place more r) (suc turns) h = rw (asks-last s stream place turns more (has-number s stream place r)) (sym r.unchanged)
 
 holds : {stream : List ℕ} {s : State} {place : ℕ} {r : Run} → Runs stream s place r → place ≤ length stream → RunHolds s stream r
-unfolding stopped prepend acceptsAll obeyAll
+unfolding stopped prepend accepts_all obey_all
 holds (ends s place out) inside =
     record {
       whole = λ e. omega arith;
@@ -205,7 +205,7 @@ holds (obeys s place c used r g later) inside =
       whole = l.whole;
       within = l.within;
       refusal = l.refusal;
-      accepted = and_both (eqb (ground s c) 0) _ (eq-eqb (ground s c) 0 g.no-ground) l.accepted;
+      accepted = and_both (eqb (ground_for s c) 0) _ (eq-eqb (ground_for s c) 0 g.no-ground) l.accepted;
       obeyed = l.obeyed;
     }
 holds {stream} (refuses s place more r) inside =
@@ -246,14 +246,14 @@ prepend-more c later r = refl
 pub through : (cs : List Command) (turns : ℕ) (s : State) (before rest stream : List ℕ)
     → stream ≡ before ++ flat_map bytes cs ++ rest
     → FitAll cs
-    → acceptsAll s cs ≡ true
+    → accepts_all s cs ≡ true
     → run_from (length cs + turns) s stream (length before)
-    ≡ prepend cs (run_from turns (obeyAll s cs) stream (length before + length (flat_map bytes cs)))
-unfolding flat_map acceptsAll obeyAll
+    ≡ prepend cs (run_from turns (obey_all s cs) stream (length before + length (flat_map bytes cs)))
+unfolding flat_map accepts_all obey_all
 through [] turns s before rest stream e f h = rw (zero-add turns, add-zero (length before)) (sym (prepend-none _))
 through (c ∷ later) turns s before rest stream e f h =
     let here = length before in
-    let a = and-true (eqb (ground s c) 0) _ h in
+    let a = and-true (eqb (ground_for s c) 0) _ h in
     let split : stream ≡ before ++ bytes c ++ flat_map bytes later ++ rest
     = e ∙ ap (λ (l : List ℕ). l ++ rest) (sym (append_assoc before (bytes c) (flat_map bytes later))) in
     let g : Granted s stream here c (length (bytes c))
@@ -261,7 +261,7 @@ through (c ∷ later) turns s before rest stream e f h =
       reads =
           rw (split, append_assoc (before ++ bytes c) (flat_map bytes later) rest)
           (decode-bytes-at before c (flat_map bytes later ++ rest) f.0);
-      no-ground = eqb-true (ground s c) 0 a.0;
+      no-ground = eqb-true (ground_for s c) 0 a.0;
     } in
     let next =
     rw (length-append before (bytes c))
@@ -272,14 +272,14 @@ through (c ∷ later) turns s before rest stream e f h =
     ∙ went_on s stream here (length later + turns) c (length (bytes c)) g
     ∙ ap (prepend (c ∷ [])) next
     ∙ prepend-more c later _
-    ∙ ap (λ (n : ℕ). prepend (c ∷ later) (run_from turns (obeyAll (obey s c).state later) stream n)) end
+    ∙ ap (λ (n : ℕ). prepend (c ∷ later) (run_from turns (obey_all (obey s c).state later) stream n)) end
 
 -- the bytes of commands that are accepted in turn are accepted whole, and the plan has obeyed them
 pub written : (cs : List Command)
     → FitAll cs
-    → acceptsAll none cs ≡ true
+    → accepts_all none cs ≡ true
     → run (flat_map bytes cs)
-    ≡ record { number = 0; place = length (flat_map bytes cs); commands = cs; state = obeyAll none cs }
+    ≡ record { number = 0; place = length (flat_map bytes cs); commands = cs; state = obey_all none cs }
 unfolding run stopped prepend
 written cs f h =
     let stream = flat_map bytes cs in
@@ -287,5 +287,5 @@ written cs f h =
     = through cs (length stream) none [] [] stream (sym (append-nil stream)) f h in
     enough (length stream) (length cs + length stream) none stream 0 (omega arith) (omega arith)
     ∙ whole
-    ∙ ap (prepend cs) (ended (obeyAll none cs) stream (0 + length stream) (length stream) (omega arith))
+    ∙ ap (prepend cs) (ended (obey_all none cs) stream (0 + length stream) (length stream) (omega arith))
     ∙ rw (zero-add (length stream), append-nil cs)

@@ -11,13 +11,13 @@ use lib.Seq.{take-append_seam, drop-append_seam}
 use Rattle.books.specs.Kind.{each}
 use Rattle.rules.specs.Phase
 use Rattle.rules.specs.State.{State, none}
-use Rattle.format.specs.Command.{Command, activation, execution, forms, find, byte_of, operandsOf, widthsOf, room, bytes}
-use Rattle.rules.specs.Obey.{withBooks}
+use Rattle.format.specs.Command.{Command, activation, execution, forms, find, byte_of, operands_of, widths_of, room, bytes}
+use Rattle.rules.specs.Obey.{with_books}
 use Rattle.rules.specs.Answer.{front}
 use Rattle.rules.specs.Reachable.{Reachable}
 use Rattle.streams.specs.Stream.{Run, run}
-use Rattle.streams.specs.Instance.{Instance, instanceOf, unbegun, openingOf, task_of, tasksTo, commands, written}
-use Rattle.streams.specs.Write.{Wrote, untouched, atFront, is_whole, writtenLength, write}
+use Rattle.streams.specs.Instance.{Instance, instance_of, unbegun, opening_of, task_of, tasks_to, commands, written}
+use Rattle.streams.specs.Write.{Wrote, untouched, at_front, is_whole, written_length, write}
 use Rattle.streams.specs.WriteHolds.{WrittenHolds, WriteHolds, EveryWriteHolds}
 use Rattle.numbers.proofs.Tests.{decide, clash, le-or-lt}
 use Rattle.tree.proofs.Concatenated.{flatMap-append}
@@ -36,16 +36,16 @@ unfolding flat_map
 bytes_one c = append-nil (bytes c)
 
 -- how long they are
-bytes-long : (c : Command) → length (bytes c) ≡ 1 + room (widthsOf c)
+bytes-long : (c : Command) → length (bytes c) ≡ 1 + room (widths_of c)
 unfolding bytes
-bytes-long c = omega (arith, length-littles (widthsOf c) (operandsOf c))
+bytes-long c = omega (arith, length-littles (widths_of c) (operands_of c))
 
-tasks-long : (m : Instance) (k : ℕ) → length (flat_map bytes (tasksTo m k)) ≡ 7 * k
-unfolding tasksTo flat_map widthsOf find forms byte_of room
+tasks-long : (m : Instance) (k : ℕ) → length (flat_map bytes (tasks_to m k)) ≡ 7 * k
+unfolding tasks_to flat_map widths_of find forms byte_of room
 tasks-long m zero = refl
 tasks-long m (suc k) =
     let last = task_of m (suc k) in
-    rw (bytes-append (tasksTo m k) (last ∷ []), bytes_one last, length-append (flat_map bytes (tasksTo m k)) (bytes last))
+    rw (bytes-append (tasks_to m k) (last ∷ []), bytes_one last, length-append (flat_map bytes (tasks_to m k)) (bytes last))
     (omega (arith, tasks-long m k, bytes-long last))
 
 order-long : (next : ℕ → Command) (width : ℕ) → ((i : ℕ) → length (bytes (next i)) ≡ width) → (l : List ℕ)
@@ -59,22 +59,22 @@ order-long next width each (i ∷ l) =
 pub written-parts :
     (m : Instance)
     → written m
-    ≡ bytes (openingOf m)
-    ++ flat_map bytes (tasksTo m m.size)
+    ≡ bytes (opening_of m)
+    ++ flat_map bytes (tasks_to m m.size)
     ++ flat_map bytes (map activation m.activation)
     ++ flat_map bytes (map execution m.execution)
 unfolding written commands
 written-parts m = rw (bytes-append, bytes-append, bytes-append, bytes_one)
 
-written-long : (m : Instance) → Proper m → length (written m) ≡ writtenLength m
-unfolding writtenLength widthsOf find forms byte_of room
+written-long : (m : Instance) → Proper m → length (written m) ≡ written_length m
+unfolding written_length widths_of find forms byte_of room
 written-long m g =
     let act = g.activation.whole in
     let exec = g.execution.whole in
     rw (written-parts m, length-append, length-append, length-append)
     (omega (
       arith,
-      bytes-long (openingOf m),
+      bytes-long (opening_of m),
       tasks-long m m.size,
       order-long activation 3 (λ i. bytes-long (activation i)) m.activation,
       order-long execution 3 (λ i. bytes-long (execution i)) m.execution,
@@ -85,7 +85,7 @@ written_read :
     (m : Instance)
     → Proper m
     → run (written m) ≡ record { number = 0; place = length (written m); commands = commands m; state = unbegun m }
-unfolding written Phase.holdsTrays
+unfolding written Phase.holds_trays
 written_read m g =
     let leads = commands-lead m g none refl in
     rw (← leads.obeyed) (streams.written (commands m) leads.fitting leads.accepted)
@@ -94,24 +94,24 @@ written_read m g =
 written-alike : (m m' : Instance) → Proper m → Proper m' → written m ≡ written m' → m ≡ m'
 unfolding unbegun
 written-alike m m' g g' e =
-    ap (λ (r : Run). instanceOf r.state) (sym (written_read m g) ∙ ap run e ∙ written_read m' g')
+    ap (λ (r : Run). instance_of r.state) (sym (written_read m g) ∙ ap run e ∙ written_read m' g')
 
 -- before BEGIN nothing is there but what was given
-same-plan : (s : State) → Reachable s → s.phase ≡ Phase.orders → unbegun (instanceOf s) ≡ s
-unfolding unbegun withBooks
+same-plan : (s : State) → Reachable s → s.phase ≡ Phase.orders → unbegun (instance_of s) ≡ s
+unfolding unbegun with_books
 same-plan s reached now =
     let books = (staged reached).no-books (omega arith) in
-    ap (λ (phase : ℕ). withBooks s phase [] (each (λ _. []))) (sym now)
-    ∙ ap₂ (withBooks s s.phase) (sym books.0) (sym books.1)
+    ap (λ (phase : ℕ). with_books s phase [] (each (λ _. []))) (sym now)
+    ∙ ap₂ (with_books s s.phase) (sym books.0) (sym books.1)
 
 plan-holds : (s : State) → Reachable s → is_whole s ≡ true → WrittenHolds s
 plan-holds s reached whole =
     let g = proper s reached whole in
     record {
-      sized = written-long (instanceOf s) g;
-      restored = written_read (instanceOf s) g;
+      sized = written-long (instance_of s) g;
+      restored = written_read (instance_of s) g;
       same = same-plan s reached;
-      alike = λ s' reached' whole'. written-alike (instanceOf s) (instanceOf s') g (proper s' reached' whole');
+      alike = λ s' reached' whole'. written-alike (instance_of s) (instance_of s') g (proper s' reached' whole');
     }
 
 -- one equation a branch: an order is not complete, the list is too short, or the plan is written
@@ -120,22 +120,22 @@ module _ (s : State) (list : List ℕ) where
   unfolding write
   write-early early = rw early
 
-  pub write-short : is_whole s ≡ true → length list < writtenLength (instanceOf s) → write s list ≡ untouched 11 list
+  pub write-short : is_whole s ≡ true → length list < written_length (instance_of s) → write s list ≡ untouched 11 list
   unfolding write
-  write-short whole short = rw (whole, lt-ltb (length list) (writtenLength (instanceOf s)) short)
+  write-short whole short = rw (whole, lt-ltb (length list) (written_length (instance_of s)) short)
 
   pub write-whole :
-      is_whole s ≡ true → writtenLength (instanceOf s) ≤ length list → write s list ≡ atFront (written (instanceOf s)) list
+      is_whole s ≡ true → written_length (instance_of s) ≤ length list → write s list ≡ at_front (written (instance_of s)) list
   unfolding write
-  write-whole whole room = rw (whole, le-ltb (length list) (writtenLength (instanceOf s)) room)
+  write-whole whole room = rw (whole, le-ltb (length list) (written_length (instance_of s)) room)
 
 -- a refusal, and a list with its front written
 refusal-holds :
     (s : State) (list : List ℕ) (k : ℕ)
     → (k ≡ 0 → ⊥)
     → (is_whole s ≡ false → k ≡ 3)
-    → (is_whole s ≡ true → length list < writtenLength (instanceOf s) → k ≡ 11)
-    → (is_whole s ≡ true → writtenLength (instanceOf s) ≤ length list → ⊥)
+    → (is_whole s ≡ true → length list < written_length (instance_of s) → k ≡ 11)
+    → (is_whole s ≡ true → written_length (instance_of s) ≤ length list → ⊥)
     → WriteHolds s list (untouched k list)
 unfolding untouched
 refusal-holds s list k some early short granted =
@@ -153,12 +153,12 @@ refusal-holds s list k some early short granted =
 front-holds :
     (s : State) (list : List ℕ)
     → is_whole s ≡ true
-    → writtenLength (instanceOf s) ≤ length list
-    → length (written (instanceOf s)) ≡ writtenLength (instanceOf s)
-    → WriteHolds s list (atFront (written (instanceOf s)) list)
-unfolding atFront front
+    → written_length (instance_of s) ≤ length list
+    → length (written (instance_of s)) ≡ written_length (instance_of s)
+    → WriteHolds s list (at_front (written (instance_of s)) list)
+unfolding at_front front
 front-holds s list whole room long =
-    let entries = written (instanceOf s) in
+    let entries = written (instance_of s) in
     record {
       early = λ early. absurd (clash whole early);
       short = λ _ short. absurd (omega arith);
@@ -174,12 +174,12 @@ front-holds s list whole room long =
 by-case :
     {A : Type 0} (s : State) (list : List ℕ)
     → (is_whole s ≡ false → A)
-    → (is_whole s ≡ true → length list < writtenLength (instanceOf s) → A)
-    → (is_whole s ≡ true → writtenLength (instanceOf s) ≤ length list → A)
+    → (is_whole s ≡ true → length list < written_length (instance_of s) → A)
+    → (is_whole s ≡ true → written_length (instance_of s) ≤ length list → A)
     → A
 by-case s list early short granted =
     ⊎_elim
-    (λ (whole : is_whole s ≡ true). ⊎_elim (granted whole) (short whole) (le-or-lt (writtenLength (instanceOf s)) (length list)))
+    (λ (whole : is_whole s ≡ true). ⊎_elim (granted whole) (short whole) (le-or-lt (written_length (instance_of s)) (length list)))
     early
     (decide (is_whole s))
 

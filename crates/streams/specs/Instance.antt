@@ -22,8 +22,8 @@ pub record Instance : Type 0 where
   pub execution : List ℕ
 
 -- what is given of a plan as it stands
-abbrev pub instanceOf : State → Instance
-instanceOf s =
+abbrev pub instance_of : State → Instance
+instance_of s =
     record {
       size = s.size;
       processors = s.processors;
@@ -51,21 +51,21 @@ unbegun m =
     }
 
 -- PLAN, STEP for task i, and STEP for each of the tasks 1 to k, in order
-abbrev pub openingOf : Instance → Command
-openingOf m = plan m.size m.processors m.bounds.chilled
+abbrev pub opening_of : Instance → Command
+opening_of m = plan m.size m.processors m.bounds.chilled
 
 abbrev pub task_of : Instance → ℕ → Command
 task_of m i = task (at m.parents i) (at m.works.chilled i) (at m.outs.chilled i)
 
-unfoldable pub tasksTo : Instance → ℕ → List Command
-tasksTo m zero = []
-tasksTo m (suc k) = tasksTo m k ++ (task_of m (suc k) ∷ [])
+unfoldable pub tasks_to : Instance → ℕ → List Command
+tasks_to m zero = []
+tasks_to m (suc k) = tasks_to m k ++ (task_of m (suc k) ∷ [])
 
 -- "PLAN, the steps, the activation order, the execution order, without BEGIN"
 unfoldable pub commands : Instance → List Command
 commands m =
-    (openingOf m ∷ [])
-    ++ tasksTo m m.size
+    (opening_of m ∷ [])
+    ++ tasks_to m m.size
     ++ map activation m.activation
     ++ map execution m.execution
 

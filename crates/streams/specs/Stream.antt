@@ -1,10 +1,10 @@
 -- A stream of commands, given to an empty plan one after another, each with a start list of 64 entries, up to the first that is
 -- refused. The stream's end between commands refuses nothing.
 use Rattle.std.specs.Prelude.{◌≡◌, Bool, true, false, ◌&&◌, List, [], ◌∷◌, ◌++◌, ℕ, zero, suc, ◌+◌, ◌≤◌, ◌<◌, eqb, leb, length, replicate}
-use Rattle.numbers.specs.Limits.{leastStarts}
+use Rattle.numbers.specs.Limits.{least_starts}
 use Rattle.rules.specs.State.{State, none}
 use Rattle.format.specs.Command.{Command, Decoded, refused, read, decode}
-use Rattle.rules.specs.Grounds.{ground}
+use Rattle.rules.specs.Grounds.{ground_for}
 use Rattle.rules.specs.Obey.{obey}
 use Rattle.rules.specs.Answer.{Asking, command}
 use Rattle.rules.specs.Day.{after}
@@ -22,7 +22,7 @@ pub record Run : Type 0 where
 
 -- the command at a place, asked with a start list of 64 entries
 abbrev pub asking : List ℕ → ℕ → Asking
-asking stream place = record { stream = stream; place = place; list = replicate leastStarts 0 }
+asking stream place = record { stream = stream; place = place; list = replicate least_starts 0 }
 
 -- no command is accepted any more
 unfoldable pub stopped : ℕ → State → ℕ → Run
@@ -33,9 +33,9 @@ unfoldable pub prepend : List Command → Run → Run
 prepend earlier r = record { number = r.number; place = r.place; commands = earlier ++ r.commands; state = r.state }
 
 -- the command that was read
-unfoldable pub readIn : Decoded → List Command
-readIn (refused k) = []
-readIn (read c used) = c ∷ []
+unfoldable pub read_in : Decoded → List Command
+read_in (refused k) = []
+read_in (read c used) = c ∷ []
 
 -- what comes of a stream from a place on, turn after turn. A command uses a byte at least, so that as many turns as the stream has
 -- bytes are enough
@@ -47,7 +47,7 @@ run_from (suc turns) s stream place =
       | false ↦
           let a = command s (asking stream place) in
           elim (eqb a.answer.number 0) [
-            | true ↦ prepend (readIn (decode stream place)) (run_from turns a.state stream (place + a.answer.used))
+            | true ↦ prepend (read_in (decode stream place)) (run_from turns a.state stream (place + a.answer.used))
             | false ↦ stopped a.answer.number s place
           ]
     ]
@@ -57,32 +57,32 @@ unfoldable pub run : List ℕ → Run
 run stream = run_from (length stream) none stream 0
 
 -- the askings of such a run, the one that is refused included
-unfoldable pub askingsFrom : ℕ → State → List ℕ → ℕ → List Asking
-askingsFrom zero s stream place = []
-askingsFrom (suc turns) s stream place =
+unfoldable pub askings_from : ℕ → State → List ℕ → ℕ → List Asking
+askings_from zero s stream place = []
+askings_from (suc turns) s stream place =
     elim (leb (length stream) place) [
       | true ↦ []
       | false ↦
           let a = command s (asking stream place) in
           asking stream place
           ∷ elim (eqb a.answer.number 0) [
-            | true ↦ askingsFrom turns a.state stream (place + a.answer.used)
+            | true ↦ askings_from turns a.state stream (place + a.answer.used)
             | false ↦ []
           ]
     ]
 
 unfoldable pub askings : List ℕ → List Asking
-askings stream = askingsFrom (length stream) none stream 0
+askings stream = askings_from (length stream) none stream 0
 
 -- the plan after commands that are obeyed one after another
-unfoldable pub obeyAll : State → List Command → State
-obeyAll s [] = s
-obeyAll s (c ∷ later) = obeyAll (obey s c).state later
+unfoldable pub obey_all : State → List Command → State
+obey_all s [] = s
+obey_all s (c ∷ later) = obey_all (obey s c).state later
 
 -- no ground refuses any of them in its turn
-unfoldable pub acceptsAll : State → List Command → Bool
-acceptsAll s [] = true
-acceptsAll s (c ∷ later) = eqb (ground s c) 0 && acceptsAll (obey s c).state later
+unfoldable pub accepts_all : State → List Command → Bool
+accepts_all s [] = true
+accepts_all s (c ∷ later) = eqb (ground_for s c) 0 && accepts_all (obey s c).state later
 
 -- what is promised of a run over a stream that finds the plan s
 pub record RunHolds (s : State) (stream : List ℕ) (r : Run) : Type 0 where
@@ -94,8 +94,8 @@ pub record RunHolds (s : State) (stream : List ℕ) (r : Run) : Type 0 where
       (r.number ≡ 0 → ⊥)
       → (r.place < length stream) × ((command r.state (asking stream r.place)).answer.number ≡ r.number)
   -- the plan is what the commands accepted make of it
-  pub accepted : acceptsAll s r.commands ≡ true
-  pub obeyed : r.state ≡ obeyAll s r.commands
+  pub accepted : accepts_all s r.commands ≡ true
+  pub obeyed : r.state ≡ obey_all s r.commands
 
 -- of every stream, given to an empty plan; its plan is also what the list of its askings gives
 pub record StreamHolds (stream : List ℕ) : Type 0 where

@@ -4,7 +4,7 @@ use Rattle.std.specs.Prelude.{Bool, not, cond, ◌&&◌, List, ℕ, ◌+◌, ◌
 use Rattle.rules.specs.Phase
 use Rattle.rules.specs.State.{State}
 use Rattle.rules.specs.Answer.{front}
-use Rattle.streams.specs.Instance.{Instance, instanceOf, written}
+use Rattle.streams.specs.Instance.{Instance, instance_of, written}
 
 -- what is answered by a tool that writes into a lent list
 pub record Wrote : Type 0 where
@@ -20,8 +20,8 @@ unfoldable pub untouched : ℕ → List ℕ → Wrote
 untouched k list = record { number = k; count = 0; list = list }
 
 -- "It answers how many bytes it wrote, and bytes past them are untouched."
-unfoldable pub atFront : List ℕ → List ℕ → Wrote
-atFront entries list = record { number = 0; count = length entries; list = front entries list }
+unfoldable pub at_front : List ℕ → List ℕ → Wrote
+at_front entries list = record { number = 0; count = length entries; list = front entries list }
 
 -- "both orders are complete", of a plan that was opened
 unfoldable pub is_whole : State → Bool
@@ -31,11 +31,11 @@ is_whole s =
     && eqb (length s.execution) s.size
 
 -- "8 + 13 times n bytes"
-unfoldable pub writtenLength : Instance → ℕ
-writtenLength m = 8 + 13 * m.size
+unfoldable pub written_length : Instance → ℕ
+written_length m = 8 + 13 * m.size
 
 -- "3 unless both orders are complete; then 11 if the list is shorter than 8 + 13 times n bytes"
 unfoldable pub write : State → List ℕ → Wrote
 write s list =
     cond (not (is_whole s)) (untouched 3 list)
-    (cond (ltb (length list) (writtenLength (instanceOf s))) (untouched 11 list) (atFront (written (instanceOf s)) list))
+    (cond (ltb (length list) (written_length (instance_of s))) (untouched 11 list) (at_front (written (instance_of s)) list))

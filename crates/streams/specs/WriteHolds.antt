@@ -4,43 +4,43 @@ use Rattle.rules.specs.Phase
 use Rattle.rules.specs.State.{State}
 use Rattle.rules.specs.Reachable.{Reachable}
 use Rattle.streams.specs.Stream.{run}
-use Rattle.streams.specs.Instance.{instanceOf, unbegun, commands, written}
-use Rattle.streams.specs.Write.{Wrote, is_whole, writtenLength, write}
+use Rattle.streams.specs.Instance.{instance_of, unbegun, commands, written}
+use Rattle.streams.specs.Write.{Wrote, is_whole, written_length, write}
 
 -- of a plan whose orders are complete
 pub record WrittenHolds (s : State) : Type 0 where
   -- "8 + 13 times n bytes"
-  pub sized : length (written (instanceOf s)) ≡ writtenLength (instanceOf s)
+  pub sized : length (written (instance_of s)) ≡ written_length (instance_of s)
   -- "reading a written plan into an empty one restores it": it is accepted whole, and all that was given of the plan is there again
   pub restored :
-      run (written (instanceOf s))
+      run (written (instance_of s))
       ≡ record {
         number = 0;
-        place = length (written (instanceOf s));
-        commands = commands (instanceOf s);
-        state = unbegun (instanceOf s);
+        place = length (written (instance_of s));
+        commands = commands (instance_of s);
+        state = unbegun (instance_of s);
       }
   -- before BEGIN that is the very plan
-  pub same : s.phase ≡ Phase.orders → unbegun (instanceOf s) ≡ s
+  pub same : s.phase ≡ Phase.orders → unbegun (instance_of s) ≡ s
   -- "Two are written alike only if they are the same"
   pub alike :
       (s' : State)
       → Reachable s'
       → is_whole s' ≡ true
-      → written (instanceOf s) ≡ written (instanceOf s')
-      → instanceOf s ≡ instanceOf s'
+      → written (instance_of s) ≡ written (instance_of s')
+      → instance_of s ≡ instance_of s'
 
 -- of what is answered where this list is lent
 pub record WriteHolds (s : State) (list : List ℕ) (w : Wrote) : Type 0 where
   -- "3 unless both orders are complete; then 11 if the list is shorter than 8 + 13 times n bytes"
   pub early : is_whole s ≡ false → w.number ≡ 3
-  pub short : is_whole s ≡ true → length list < writtenLength (instanceOf s) → w.number ≡ 11
-  pub granted : is_whole s ≡ true → writtenLength (instanceOf s) ≤ length list → w.number ≡ 0
+  pub short : is_whole s ≡ true → length list < written_length (instance_of s) → w.number ≡ 11
+  pub granted : is_whole s ≡ true → written_length (instance_of s) ≤ length list → w.number ≡ 0
   -- "either leaves the list untouched"
   pub refusal : (w.number ≡ 0 → ⊥) → (w.count ≡ 0) × (w.list ≡ list)
   -- "It answers how many bytes it wrote": they stand at the front
-  pub count : w.number ≡ 0 → w.count ≡ length (written (instanceOf s))
-  pub front : w.number ≡ 0 → take w.count w.list ≡ written (instanceOf s)
+  pub count : w.number ≡ 0 → w.count ≡ length (written (instance_of s))
+  pub front : w.number ≡ 0 → take w.count w.list ≡ written (instance_of s)
   -- "and bytes past them are untouched"
   pub past : drop w.count w.list ≡ drop w.count list
   pub long : length w.list ≡ length list

@@ -12,23 +12,23 @@ use Rattle.books.specs.Kind.{Kind, chilled, Each, of}
 use Rattle.numbers.specs.Lists.{at}
 use Rattle.tree.specs.Need.{need}
 use Rattle.books.specs.Standing.{running, finished}
-use Rattle.books.specs.Booking.{bookedIn}
+use Rattle.books.specs.Booking.{booked_in}
 use Rattle.rules.specs.Obey.{fresh}
-use Rattle.tree.specs.Tree.{rankIn}
+use Rattle.tree.specs.Tree.{rank_in}
 use Rattle.books.specs.Invariant.{Roomy}
 use Rattle.books.proofs.EachStore.{each_same}
 use Rattle.numbers.proofs.Sums.{count_none}
 use Rattle.rules.proofs.InDay.{fresh-good}
 use Rattle.words.specs.Layout.{rows, bits, blocks}
 use Rattle.words.specs.Contents.{Contents}
-use Rattle.store.specs.Rows.{rows_of, books, termsIn, activationOf, executionOf}
-use Rattle.store.specs.Cached.{isReadyAt, StoreCached}
+use Rattle.store.specs.Rows.{rows_of, books, terms_in, activation_of, execution_of}
+use Rattle.store.specs.Cached.{is_ready_at, StoreCached}
 use Rattle.store.specs.Kept.{Kept}
 use Rattle.store.proofs.Rows.{rows-length, rows_is}
 use Rattle.store.proofs.InStore.{by_kind}
-use Rattle.survey.specs.Prepare.{with_needs, withFigures, MayPrepare, Prepared}
+use Rattle.survey.specs.Prepare.{with_needs, with_figures, MayPrepare, Prepared}
 use Rattle.survey.proofs.Weighing.{Partly, WeighedTo, counts-are, needs-are}
-use Rattle.survey.proofs.Nothing.{digits-none, no-count, not-ready, all-unended, no-use, no-total, no-figure}
+use Rattle.survey.proofs.Nothing.{digits-none, no-count, not_ready, all-unended, no-use, no-total, no-figure}
 
 -- the rows of a column of zeros
 rows-zero : (n : ℕ) (l : List ℕ) → ((a : ℕ) → at l a ≡ 0) → (a : ℕ) → at (rows_of n l) a ≡ 0
@@ -72,10 +72,10 @@ module _ (c : Contents) (may : MayPrepare c) (long-standings : length c.standing
 
     -- the cold room is the one that is weighed
     abbrev then : Contents
-    then = withFigures needs unended c
+    then = with_figures needs unended c
 
-    store : (k : Kind) → StoreCached n (at c.parents) (at (books c).standings) (bookedIn (books then) k) (of then.stores k)
-    unfolding withFigures with_needs
+    store : (k : Kind) → StoreCached n (at c.parents) (at (books c).standings) (booked_in (books then) k) (of then.stores k)
+    unfolding with_figures with_needs
     store chilled =
         record {
           needed = needed;
@@ -88,12 +88,12 @@ module _ (c : Contents) (may : MayPrepare c) (long-standings : length c.standing
               may.rest.used chilled
               ∙ sym
               (no-use n (books c).standings waits (at c.parents) (at c.stores.chilled.works) (at c.stores.chilled.outs));
-          booked-zero = λ a _. may.rest.booked chilled a;
-          figures-zero = λ a _. may.rest.figures chilled a;
+          booked_zero = λ a _. may.rest.booked chilled a;
+          figures_zero = λ a _. may.rest.figures chilled a;
         }
 
-    kept : Kept (withFigures needs unended c)
-    unfolding withFigures with_needs
+    kept : Kept (with_figures needs unended c)
+    unfolding with_figures with_needs
     kept =
         record {
           invariant =
@@ -103,7 +103,7 @@ module _ (c : Contents) (may : MayPrepare c) (long-standings : length c.standing
                 valid = may.valid;
                 parents = may.parents;
                 roomy = by_kind _ roomy;
-                good = rw fresh-is (fresh-good n (at c.parents) (rankIn (activationOf c)) (termsIn (withFigures needs unended c)));
+                good = rw fresh-is (fresh-good n (at c.parents) (rank_in (activation_of c)) (terms_in (with_figures needs unended c)));
               };
           cached =
               record {
@@ -118,8 +118,8 @@ module _ (c : Contents) (may : MayPrepare c) (long-standings : length c.standing
                           λ q _.
                           may.rest.ready q
                           ∙ sym
-                          (digits-none (λ k. isReadyAt n (at c.parents) (executionOf c) (books c).standings (bits * q + k)) bits
-                          (λ k. not-ready n (books c).standings waits (at c.parents) (executionOf c) (bits * q + k)));
+                          (digits-none (λ k. is_ready_at n (at c.parents) (execution_of c) (books c).standings (bits * q + k)) bits
+                          (λ k. not_ready n (books c).standings waits (at c.parents) (execution_of c) (bits * q + k)));
                       filled =
                           may.rest.filled
                           ∙ sym
@@ -130,14 +130,14 @@ module _ (c : Contents) (may : MayPrepare c) (long-standings : length c.standing
                     (let first = may.rest.next in
                     record {
                       within = omega arith;
-                      before-next = λ e h. absurd (omega arith);
-                      from_next = λ e _ _. waits (at (activationOf c) e);
+                      before_next = λ e h. absurd (omega arith);
+                      from_next = λ e _ _. waits (at (activation_of c) e);
                     });
                 runs = may.rest.active ∙ sym (no-count n (books c).standings waits running (λ q. omega arith));
                 ends = may.rest.ended ∙ sym (no-count n (books c).standings waits finished (λ q. omega arith));
                 placed = may.placed;
-                standings-zero = λ a _. may.rest.standings a;
-                unended-zero =
+                standings_zero = λ a _. may.rest.standings a;
+                unended_zero =
                     λ a past.
                     counts-are c may n needs unended partly (omega arith) a
                     ∙ count_none (λ k. eqb (at c.parents k) a) n
@@ -148,7 +148,7 @@ module _ (c : Contents) (may : MayPrepare c) (long-standings : length c.standing
 
   -- all tasks are weighed
   pub prepared : (k : ℕ) (c' : Contents) → WeighedTo c k c' → n ≤ k → Prepared c c'
-  unfolding withFigures with_needs
+  unfolding with_figures with_needs
   prepared k c' to end =
       let partly : Partly c n to.needs to.unended
       = let last : k ≡ n = omega (arith, to.partly.within) in rw last at to.partly in

@@ -8,7 +8,7 @@ use lib.Dec.{eqb}
 use lib.ListN.{length, set, replicate, length-set, length-replicate, get_or-replicate}
 use Rattle.numbers.specs.Sums.{only, sum_to}
 use Rattle.numbers.specs.Lists.{at}
-use Rattle.numbers.specs.Limits.{maxTasks}
+use Rattle.numbers.specs.Limits.{max_tasks}
 use Rattle.tree.specs.Tree.{children}
 use Rattle.numbers.proofs.Sums.{only-le}
 use Rattle.words.specs.Layout.{rows}
@@ -24,7 +24,7 @@ children-more k par out i = rw (add-one k)
 
 -- the outs of the first k of n tasks are with their parents
 pub record Feeding (n : ℕ) (par out : ℕ → ℕ) (k : ℕ) (fed : List ℕ) : Type 0 where
-  pub small : n ≤ maxTasks
+  pub small : n ≤ max_tasks
   pub passed : k ≤ n
   pub size : length fed ≡ rows
   pub sums : (i : ℕ) → i ≤ n → at fed i ≡ children k par out i
@@ -32,7 +32,7 @@ pub record Feeding (n : ℕ) (par out : ℕ → ℕ) (k : ℕ) (fed : List ℕ) 
   pub fits : (i : ℕ) → i ≤ n → at fed i ≤ k * 2 ^ 32
 
 pub fed-none :
-    (n : ℕ) (par out : ℕ → ℕ) (fed : List ℕ) → n ≤ maxTasks → fed ≡ replicate rows 0 → Feeding n par out 0 fed
+    (n : ℕ) (par out : ℕ → ℕ) (fed : List ℕ) → n ≤ max_tasks → fed ≡ replicate rows 0 → Feeding n par out 0 fed
 unfolding children sum_to
 fed-none n par out fed small empty =
     let none : (i : ℕ) → i ≤ n → at fed i ≡ 0 =

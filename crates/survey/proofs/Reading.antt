@@ -4,8 +4,8 @@ use mathlib.Core.List.{List}
 use Prim.Native.Nat.{ℕ, ◌+◌, ◌*◌, ◌<◌}
 use native.Mathlib.Numerals.{unary_clauses}
 use Rattle.numbers.specs.Lists.{at}
-use Rattle.words.specs.Layout.{row, rows, entries, activationBase}
-use Rattle.words.specs.Contents.{contents, storeContents}
+use Rattle.words.specs.Layout.{row, rows, entries, activation_base}
+use Rattle.words.specs.Contents.{contents, store_contents}
 use Rattle.words.proofs.Views.{column-at, part_at}
 
 module _ (w : List ℕ) (i : ℕ) (h : i < rows) where
@@ -17,14 +17,14 @@ module _ (w : List ℕ) (i : ℕ) (h : i < rows) where
   unfolding contents
   rank-at = column-at 1 w i h
 
-  pub work-at : (store : ℕ) → at w (row * i + (store + 0)) ≡ at (storeContents store w).works i
-  unfolding storeContents
+  pub work-at : (store : ℕ) → at w (row * i + (store + 0)) ≡ at (store_contents store w).works i
+  unfolding store_contents
   work-at store = simp unary_clauses (column-at store w i h)
 
-  pub out_at : (store : ℕ) → at w (row * i + (store + 1)) ≡ at (storeContents store w).outs i
-  unfolding storeContents
+  pub out_at : (store : ℕ) → at w (row * i + (store + 1)) ≡ at (store_contents store w).outs i
+  unfolding store_contents
   out_at store = column-at (store + 1) w i h
 
-pub activation-at : (w : List ℕ) (e : ℕ) → e < entries → at w (activationBase + e) ≡ at (contents w).activation e
+pub activation-at : (w : List ℕ) (e : ℕ) → e < entries → at w (activation_base + e) ≡ at (contents w).activation e
 unfolding contents
-activation-at w e h = part_at activationBase entries w e h
+activation-at w e h = part_at activation_base entries w e h

@@ -12,11 +12,11 @@ use lib.ListN.{length, get_or, take, drop, drop_of_length-le}
 use lib.Seq.{take-suc, take-take, split_at, drop-cons, get_or-take, length-take-le}
 use Rattle.numbers.specs.Sums.{Task, within}
 use Rattle.tree.specs.Tree.{children, Valid}
-use Rattle.tree.specs.Peak.{Peaked, peaked, noPeak}
+use Rattle.tree.specs.Peak.{Peaked, peaked, no_peak}
 use Rattle.numbers.proofs.Tests.{le-or-lt}
 use Rattle.tree.proofs.Orders.{within-task, mem-at, every-mem}
 use Rattle.tree.proofs.Turns.{Turn, valid-turn}
-use Rattle.tree.proofs.Peaks.{level, level-first, level-snoc, kept, turn_level, running, runningTask, runningPeak, peaked-running}
+use Rattle.tree.proofs.Peaks.{level, level-first, level-snoc, kept, turn_level, running, running_task, running_peak, peaked-running}
 use Rattle.survey.specs.Level.{higher}
 
 -- the two cases of the higher sum
@@ -54,19 +54,19 @@ module _ (best : Peaked) (s x : ℕ) where
 pub record RunSoFar (n : ℕ) (par work out : ℕ → ℕ) (l : List ℕ) (k height : ℕ) (best : Peaked) : Type 0 where
   pub passed : k ≤ n
   pub level-is : height ≡ level n par out (take k l)
-  pub best-is : higher best (runningPeak n par work out height (drop k (take n l))) ≡ runningPeak n par work out 0 (take n l)
+  pub best-is : higher best (running_peak n par work out height (drop k (take n l))) ≡ running_peak n par work out 0 (take n l)
   pub fits : height ≤ k * 2 ^ 32
 
 -- no sum is below 0, and where all are 0 the first is the earliest
 from_first :
     (n : ℕ) (par work out : ℕ → ℕ) (x : ℕ) (later : List ℕ)
-    → higher (record { trays = 0; task = x }) (runningPeak n par work out 0 (x ∷ later)) ≡ runningPeak n par work out 0 (x ∷ later)
-unfolding running runningTask
+    → higher (record { trays = 0; task = x }) (running_peak n par work out 0 (x ∷ later)) ≡ running_peak n par work out 0 (x ∷ later)
+unfolding running running_task
 from_first n par work out x later =
     ⊎_elim
     (λ (none : running n par work out 0 (x ∷ later) ≤ 0).
     (let trays : 0 ≡ running n par work out 0 (x ∷ later) = omega arith in
-    let task : x ≡ runningTask n par work out 0 (x ∷ later)
+    let task : x ≡ running_task n par work out 0 (x ∷ later)
     = rw (le-ltb (0 + work x + out x) (running n par work out (0 + kept par out x - children n par out x) later) (omega arith)) in
     higher-kept _ _ none ∙ (λ z. record { trays = trays z; task = task z })))
     (λ (some : 0 < running n par work out 0 (x ∷ later)). higher-above _ _ some) (le-or-lt (running n par work out 0 (x ∷ later)) 0)
@@ -119,7 +119,7 @@ module _ (n : ℕ) (par : ℕ → ℕ) (l : List ℕ) (v : Valid n par (take n l
           → trays ≡ height + work x + out x
           → more ≡ higher best (record { trays = trays; task = x })
           → RunSoFar n par work out l (k + 1) (height + left - taken) more
-      unfolding running runningTask
+      unfolding running running_task
       ran-next x left taken trays more at-k leaves narrow takes held higher-of =
           let turn : Turn n par (take k l) x = rw at-k at ran-turn in
           let after : level n par out (take (k + 1) l) ≡ level n par out (x ∷ take k l)
@@ -127,7 +127,7 @@ module _ (n : ℕ) (par : ℕ → ℕ) (l : List ℕ) (v : Valid n par (take n l
           let later : drop k (take n l) ≡ x ∷ drop (k + 1) (take n l)
           = rw (add-one k, ← at-k, ← get_or-take n l k 0 h)
           (drop-cons (take n l) k 0 (omega (arith, length-take-le n l long))) in
-          let rest : higher best (runningPeak n par work out height (x ∷ drop (k + 1) (take n l))) ≡ runningPeak n par work out 0 (take n l)
+          let rest : higher best (running_peak n par work out height (x ∷ drop (k + 1) (take n l))) ≡ running_peak n par work out 0 (take n l)
           = rw later at r.best-is in
           let fits = r.fits in
           record {
@@ -136,7 +136,7 @@ module _ (n : ℕ) (par : ℕ → ℕ) (l : List ℕ) (v : Valid n par (take n l
             best-is =
                 rw (leaves, takes, higher-of, held)
                 (higher-later best (height + work x + out x) x
-                (runningPeak n par work out (height + kept par out x - children n par out x) (drop (k + 1) (take n l)))
+                (running_peak n par work out (height + kept par out x - children n par out x) (drop (k + 1) (take n l)))
                 ∙ rest);
             fits = omega arith;
           }
@@ -151,8 +151,8 @@ module _ (n : ℕ) (par : ℕ → ℕ) (l : List ℕ) (v : Valid n par (take n l
       → RunSoFar n par work out l k height best
       → n ≤ k
       → best ≡ peaked n par work out (take n l)
-  unfolding running runningTask
+  unfolding running running_task
   ran-all work out k height best r h =
       let done : drop k (take n l) ≡ [] = drop_of_length-le (take n l) {i = k} (omega (arith, v.whole)) in
-      let last : higher best noPeak ≡ runningPeak n par work out 0 (take n l) = rw done at r.best-is in
-      sym (higher-kept best noPeak (omega arith)) ∙ last ∙ sym (peaked-running n par work out (take n l) v)
+      let last : higher best no_peak ≡ running_peak n par work out 0 (take n l) = rw done at r.best-is in
+      sym (higher-kept best no_peak (omega arith)) ∙ last ∙ sym (peaked-running n par work out (take n l) v)

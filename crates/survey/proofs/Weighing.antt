@@ -18,8 +18,8 @@ use Rattle.numbers.proofs.Tests.{same_or_not, le-or-lt}
 use Rattle.words.specs.Layout.{rows}
 use Rattle.words.specs.Contents.{Contents}
 use Rattle.store.proofs.Entries.{set_more}
-use Rattle.numbers.specs.Limits.{maxCount}
-use Rattle.survey.specs.Prepare.{with_needs, withFigures, plus, weighed, MayWeigh, MayPrepare}
+use Rattle.numbers.specs.Limits.{max_count}
+use Rattle.survey.specs.Prepare.{with_needs, with_figures, plus, weighed, MayWeigh, MayPrepare}
 
 -- a sum with its last term apart
 sum-last : (f : ℕ → ℕ) (k : ℕ) → sum_to f (k + 1) ≡ sum_to f k + f (k + 1)
@@ -41,7 +41,7 @@ pub record Partly (c : Contents) (k : ℕ) (needs unended : List ℕ) : Type 0 w
 pub record WeighedTo (c : Contents) (k : ℕ) (c' : Contents) : Type 0 where
   pub needs : List ℕ
   pub unended : List ℕ
-  pub same : c' ≡ withFigures needs unended c
+  pub same : c' ≡ with_figures needs unended c
   pub partly : Partly c k needs unended
 
 module _ (c : Contents) (may : MayPrepare c) where
@@ -56,7 +56,7 @@ module _ (c : Contents) (may : MayPrepare c) where
 
   -- nothing is weighed
   pub weighed-none : length c.stores.chilled.needs ≡ rows → length c.unended ≡ rows → WeighedTo c 0 c
-  unfolding withFigures with_needs sum_to count_to
+  unfolding with_figures with_needs sum_to count_to
   weighed-none long-needs long-unended =
       record {
         needs = c.stores.chilled.needs;
@@ -72,11 +72,11 @@ module _ (c : Contents) (may : MayPrepare c) where
       }
 
   module _ (k : ℕ) (needs unended : List ℕ) (partly : Partly c k needs unended) where
-    needs-most : (i : ℕ) → at needs i ≤ 3 * maxCount * k
+    needs-most : (i : ℕ) → at needs i ≤ 3 * max_count * k
     needs-most i =
         let here = partly.needed i in
         let most =
-        sum-most (adds par work out i) k (3 * maxCount)
+        sum-most (adds par work out i) k (3 * max_count)
         (λ j t.
         let work-light = may.works.light j in
         let out-light = may.outs.light j in
@@ -96,8 +96,8 @@ module _ (c : Contents) (may : MayPrepare c) where
           set_more needs (k + 1) (work (k + 1) + out (k + 1)) i (omega arith)
 
       -- the stores of task k + 1 are in bounds
-      may-weigh : MayWeigh (k + 1) (withFigures needs unended c)
-      unfolding withFigures with_needs
+      may-weigh : MayWeigh (k + 1) (with_figures needs unended c)
+      unfolding with_figures with_needs
       may-weigh =
           let small = may.small in
           let parent = may.parents (k + 1) in
@@ -113,9 +113,9 @@ module _ (c : Contents) (may : MayPrepare c) where
             long = may.long;
             here = omega arith;
             parent_in = omega arith;
-            own-fits = omega arith;
-            parent-fits = omega arith;
-            children-fit = omega arith;
+            own_fits = omega arith;
+            parent_fits = omega arith;
+            children_fit = omega arith;
           }
 
       -- and leave it weighed
@@ -156,7 +156,7 @@ module _ (c : Contents) (may : MayPrepare c) where
       → k < c.size
       → c'' ≡ weighed (k + 1) c'
       → WeighedTo c (k + 1) c''
-  unfolding weighed withFigures with_needs
+  unfolding weighed with_figures with_needs
   weighed-next k c' c'' to rest e =
       record {
         needs = plus (plus to.needs (k + 1) (work (k + 1) + out (k + 1))) (par (k + 1)) (out (k + 1));

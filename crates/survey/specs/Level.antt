@@ -5,25 +5,25 @@ use Rattle.numbers.specs.Lists.{at}
 use Rattle.tree.specs.Tree.{children, Valid}
 use Rattle.tree.specs.Peak as rules
 use Rattle.words.specs.Layout.{row, rows}
-use Rattle.words.specs.Contents.{contents, storeContents}
+use Rattle.words.specs.Contents.{contents, store_contents}
 use Rattle.survey.specs.declared.level.Peaked.{Peaked}
 use Rattle.survey.specs.Checks.{Parented}
 
 -- a store has five columns, which are in the row
-abbrev pub storeColumns : ℕ
-storeColumns = 5
+abbrev pub store_columns : ℕ
+store_columns = 5
 
 abbrev pub InRow : ℕ → Type 0
-InRow store = store + storeColumns ≤ row
+InRow store = store + store_columns ≤ row
 
 -- a row of a task or of nobody
 pub record AtRow (store i : ℕ) : Type 0 where
   pub offset : InRow store
-  pub task-in : i < rows
+  pub task_in : i < rows
 
 -- what the parent of a task that has run keeps of it: its out, where there is a parent
-abbrev pub keptOut : ℕ → ℕ → ℕ
-keptOut parent out = only (not (eqb parent 0)) out
+abbrev pub kept_out : ℕ → ℕ → ℕ
+kept_out parent out = only (not (eqb parent 0)) out
 
 -- a sum with its task, as the rules have it
 abbrev pub meant : Peaked → rules.Peaked
@@ -53,4 +53,4 @@ pub record MayPeak (n store : ℕ) (w : List ℕ) : Type 0 where
 -- the same, with the outs of the children
 pub record MayRun (n store : ℕ) (w fed : List ℕ) : Type 0 where
   pub order : MayPeak n store w
-  pub sums : Fed n (at (contents w).parents) (at (storeContents store w).outs) fed
+  pub sums : Fed n (at (contents w).parents) (at (store_contents store w).outs) fed

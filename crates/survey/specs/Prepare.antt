@@ -3,12 +3,12 @@ use Rattle.std.specs.Prelude.{◌≡◌, List, ℕ, ◌+◌, ◌*◌, ◌^◌, �
 use Rattle.books.specs.Kind.{chilled, put}
 use Rattle.numbers.specs.Sums.{count_to}
 use Rattle.numbers.specs.Lists.{at}
-use Rattle.numbers.specs.Limits.{maxTasks, maxCount}
+use Rattle.numbers.specs.Limits.{max_tasks, max_count}
 use Rattle.rules.specs.Obey.{fresh}
 use Rattle.tree.specs.Tree.{Valid}
 use Rattle.words.specs.Layout.{row, rows, words}
 use Rattle.words.specs.Contents.{StoreContents, Contents}
-use Rattle.store.specs.Rows.{ZeroPast, books, activationOf, executionOf}
+use Rattle.store.specs.Rows.{ZeroPast, books, activation_of, execution_of}
 use Rattle.store.specs.Cached.{Placed}
 use Rattle.store.specs.Kept.{Kept}
 use Rattle.store.specs.AtRest.{AtRest}
@@ -28,8 +28,8 @@ with_needs needs s =
     }
 
 -- the plan with other needs and other numbers of children
-unfoldable pub withFigures : List ℕ → List ℕ → Contents → Contents
-withFigures needs unended c =
+unfoldable pub with_figures : List ℕ → List ℕ → Contents → Contents
+with_figures needs unended c =
     record {
       extent = c.extent;
       phase = c.phase;
@@ -55,8 +55,8 @@ withFigures needs unended c =
 
 -- a word of a row that may grow
 pub record MayAdd (line column more : ℕ) (w : List ℕ) : Type 0 where
-  pub line-in : line < rows
-  pub column-in : column < row
+  pub line_in : line < rows
+  pub column_in : column < row
   pub fits : at w (row * line + column) + more < 2 ^ 32
 
 -- a column whose entry i has grown
@@ -64,39 +64,39 @@ abbrev pub plus : List ℕ → ℕ → ℕ → List ℕ
 plus l i more = set l i (at l i + more)
 
 -- task i adds its work and its out to its own need
-abbrev pub ownNeed : Contents → ℕ → List ℕ
-ownNeed c i = plus c.stores.chilled.needs i (at c.stores.chilled.works i + at c.stores.chilled.outs i)
+abbrev pub own_need : Contents → ℕ → List ℕ
+own_need c i = plus c.stores.chilled.needs i (at c.stores.chilled.works i + at c.stores.chilled.outs i)
 
 -- and its out and itself to the need and the children of its parent
 unfoldable pub weighed : ℕ → Contents → Contents
 weighed i c =
-    withFigures (plus (ownNeed c i) (at c.parents i) (at c.stores.chilled.outs i)) (plus c.unended (at c.parents i) 1) c
+    with_figures (plus (own_need c i) (at c.parents i) (at c.stores.chilled.outs i)) (plus c.unended (at c.parents i) 1) c
 
 -- that all this fits
 pub record MayWeigh (i : ℕ) (c : Contents) : Type 0 where
   pub long : c.extent ≡ words
   pub here : i < rows
   pub parent_in : at c.parents i < rows
-  pub own-fits : at c.stores.chilled.needs i + (at c.stores.chilled.works i + at c.stores.chilled.outs i) < 2 ^ 32
-  pub parent-fits : at (ownNeed c i) (at c.parents i) + at c.stores.chilled.outs i < 2 ^ 32
-  pub children-fit : at c.unended (at c.parents i) + 1 < 2 ^ 32
+  pub own_fits : at c.stores.chilled.needs i + (at c.stores.chilled.works i + at c.stores.chilled.outs i) < 2 ^ 32
+  pub parent_fits : at (own_need c i) (at c.parents i) + at c.stores.chilled.outs i < 2 ^ 32
+  pub children_fit : at c.unended (at c.parents i) + 1 < 2 ^ 32
 
 -- a column of counts, with nothing for nobody and nothing past the tasks
 pub record Counts (n : ℕ) (l : List ℕ) : Type 0 where
-  pub light : (i : ℕ) → at l i ≤ maxCount
+  pub light : (i : ℕ) → at l i ≤ max_count
   pub nobody : at l 0 ≡ 0
   pub past : ZeroPast n l
 
 -- a plan against which there is no ground, before its day
 pub record MayPrepare (c : Contents) : Type 0 where
   pub long : c.extent ≡ words
-  pub small : c.size ≤ maxTasks
+  pub small : c.size ≤ max_tasks
   pub bounded : c.stores.chilled.bound < 2 ^ 32
   pub parents : (i : ℕ) → at c.parents i ≤ c.size
   pub works : Counts c.size c.stores.chilled.works
   pub outs : Counts c.size c.stores.chilled.outs
-  pub valid : Valid c.size (at c.parents) (activationOf c)
-  pub placed : Placed c.size (executionOf c) (at c.places)
+  pub valid : Valid c.size (at c.parents) (activation_of c)
+  pub placed : Placed c.size (execution_of c) (at c.places)
   pub rest : AtRest c
 
 -- all is kept of a day on which nothing has happened, and nothing changes but the needs and the numbers of children
@@ -105,4 +105,4 @@ pub record Prepared (c c' : Contents) : Type 0 where
   pub books : books c' ≡ fresh c.size
   pub idle : c'.active ≡ 0
   pub children : (i : ℕ) → at c'.unended i ≡ count_to (λ k. eqb (at c.parents k) i) c.size
-  pub same : c' ≡ withFigures c'.stores.chilled.needs c'.unended c
+  pub same : c' ≡ with_figures c'.stores.chilled.needs c'.unended c

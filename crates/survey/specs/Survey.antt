@@ -7,7 +7,7 @@ use Rattle.tree.specs.Peak
 use Rattle.tree.specs.Tasks
 use Rattle.rules.specs.Grounds.{demand}
 use Rattle.words.specs.Contents.{Contents}
-use Rattle.store.specs.Rows.{tasksOf, activationOf}
+use Rattle.store.specs.Rows.{tasks_of, activation_of}
 use Rattle.store.specs.Cached.{Placed}
 use Rattle.survey.specs.Checks.{Parented}
 
@@ -22,16 +22,16 @@ abbrev pub Ordered : Contents → Type 0
 Ordered c = RankedIn c.size c
 
 -- 7 "the steps with parent 0 are not exactly one"; 8 "some step does not stand before its parent in the activation order"
-unfoldable pub orderGround : (n : ℕ) (par : ℕ → ℕ) → List ℕ → ℕ
-orderGround n par order = demand (eqb (roots n par) 1) 7 (demand (ordered par order) 8 0)
+unfoldable pub order_ground : (n : ℕ) (par : ℕ → ℕ) → List ℕ → ℕ
+order_ground n par order = demand (eqb (roots n par) 1) 7 (demand (ordered par order) 8 0)
 
 -- the ground against the activation order of a plan
-abbrev pub groundOf : Contents → ℕ
-groundOf c = orderGround c.size (at c.parents) (activationOf c)
+abbrev pub ground_of : Contents → ℕ
+ground_of c = order_ground c.size (at c.parents) (activation_of c)
 
 -- its peak with its task, where there is no ground
-abbrev pub peakedOf : Contents → Peak.Peaked
-peakedOf c =
-    cond (eqb (groundOf c) 0)
-    (Tasks.peaked (tasksOf c chilled) (activationOf c))
-    Peak.noPeak
+abbrev pub peaked_of : Contents → Peak.Peaked
+peaked_of c =
+    cond (eqb (ground_of c) 0)
+    (Tasks.peaked (tasks_of c chilled) (activation_of c))
+    Peak.no_peak

@@ -3,8 +3,8 @@
 ghost use Rattle.std.specs.Prelude.{◌≡◌, ◌+◌, ◌^◌, ◌<◌, take};
 ghost use Rattle.numbers.specs.Lists.{at};
 ghost use Rattle.tree.specs.Peak;
-ghost use Rattle.words.specs.Contents.{contents, storeContents};
-ghost use Rattle.survey.specs.Level.{AtRow, keptOut, MayFeed, Fed, MayRun, MayPeak, meant, higher};
+ghost use Rattle.words.specs.Contents.{contents, store_contents};
+ghost use Rattle.survey.specs.Level.{AtRow, kept_out, MayFeed, Fed, MayRun, MayPeak, meant, higher};
 
 use cells::{cell, entry};
 use words::plan::Plan;
@@ -22,7 +22,7 @@ pub(crate) struct Peaked {
 // Adds the out of each task to the entry of its parent.
 fn feed(plan: &[u32; Plan::WORDS], store: usize, n: usize, fed: &mut [u64; ROWS])
     requires { MayFeed n store plan.now fed.old }
-    ensures { Fed n (at (contents plan.now).parents) (at (storeContents store plan.now).outs) fed.new }
+    ensures { Fed n (at (contents plan.now).parents) (at (store_contents store plan.now).outs) fed.new }
 {
     let mut i = 0;
     while i < n {
@@ -46,7 +46,7 @@ fn highest_of(best: Peaked, trays: u64, task: u16) -> Peaked
 // What the store holds while a task runs: its work and its out, and what was there.
 fn sum(plan: &[u32; Plan::WORDS], store: usize, task: usize, level: u64) -> u64
     requires { AtRow store task × (level < 2 ^ 63) }
-    ensures { result ≡ level + at (storeContents store plan.now).works task + at (storeContents store plan.now).outs task }
+    ensures { result ≡ level + at (store_contents store plan.now).works task + at (store_contents store plan.now).outs task }
 {
     let work = cell(plan, task, store + Plan::WORK) as u64;
     let out = cell(plan, task, store + Plan::OUT) as u64;
@@ -56,7 +56,7 @@ fn sum(plan: &[u32; Plan::WORDS], store: usize, task: usize, level: u64) -> u64
 // What a task leaves in the store: its out, but nothing where it is the root.
 fn kept_out(plan: &[u32; Plan::WORDS], store: usize, task: usize) -> u64
     requires { AtRow store task }
-    ensures { (result ≡ keptOut (at (contents plan.now).parents task) (at (storeContents store plan.now).outs task))
+    ensures { (result ≡ kept_out (at (contents plan.now).parents task) (at (store_contents store plan.now).outs task))
         × (result < 2 ^ 32) }
 {
     let out = cell(plan, task, store + Plan::OUT) as u64;
@@ -70,8 +70,8 @@ fn kept_out(plan: &[u32; Plan::WORDS], store: usize, task: usize) -> u64
 // The largest sum along the order and its task, with the outs of the children of each task at hand.
 fn highest(plan: &[u32; Plan::WORDS], store: usize, n: usize, fed: &[u64; ROWS]) -> Peaked
     requires { MayRun n store plan.now fed.now }
-    ensures { meant result ≡ Peak.peaked n (at (contents plan.now).parents) (at (storeContents store plan.now).works)
-        (at (storeContents store plan.now).outs) (take n (contents plan.now).activation) }
+    ensures { meant result ≡ Peak.peaked n (at (contents plan.now).parents) (at (store_contents store plan.now).works)
+        (at (store_contents store plan.now).outs) (take n (contents plan.now).activation) }
 {
     // No sum is below 0, and where all are 0 the first is the earliest.
     let first = entry(plan, Plan::ACTIVATION, 0) as u16;
@@ -93,8 +93,8 @@ fn highest(plan: &[u32; Plan::WORDS], store: usize, n: usize, fed: &[u64; ROWS])
 // The peak of the activation order with its task, where it is valid.
 pub(crate) fn peak(plan: &[u32; Plan::WORDS], store: usize, n: usize) -> Peaked
     requires { MayPeak n store plan.now }
-    ensures { meant result ≡ Peak.peaked n (at (contents plan.now).parents) (at (storeContents store plan.now).works)
-        (at (storeContents store plan.now).outs) (take n (contents plan.now).activation) }
+    ensures { meant result ≡ Peak.peaked n (at (contents plan.now).parents) (at (store_contents store plan.now).works)
+        (at (store_contents store plan.now).outs) (take n (contents plan.now).activation) }
 {
     let mut fed = [0u64; ROWS];
     feed(plan, store, n, &mut fed);

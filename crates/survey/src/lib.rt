@@ -5,7 +5,7 @@ mod level;
 
 ghost use Rattle.std.specs.Prelude.{◌≡◌};
 ghost use Rattle.words.specs.Contents.{contents};
-ghost use Rattle.survey.specs.Survey.{Ordered, groundOf, peakedOf};
+ghost use Rattle.survey.specs.Survey.{Ordered, ground_of, peaked_of};
 
 use cells::cell;
 pub use checks::roots;
@@ -24,8 +24,8 @@ pub struct Surveyed {
 // none.
 pub fn survey(plan: &[u32; Plan::WORDS]) -> Surveyed
     requires { Ordered (contents plan.now) }
-    ensures { (result.number ≡ groundOf (contents plan.now))
-        × (record { trays = result.peak; task = result.by } ≡ peakedOf (contents plan.now)) }
+    ensures { (result.number ≡ ground_of (contents plan.now))
+        × (record { trays = result.peak; task = result.by } ≡ peaked_of (contents plan.now)) }
 {
     let n = cell(plan, Plan::HEAD, Plan::SIZE) as usize;
     let number = checks::ground(plan, n);

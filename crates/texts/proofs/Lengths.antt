@@ -1,13 +1,13 @@
--- How long the lines of the day printer can be: no longer than `longestLine` where the numbers have the widths of the byte format.
+-- How long the lines of the day printer can be: no longer than `longest_line` where the numbers have the widths of the byte format.
 use mathlib.Core.List.{List, [], ◌∷◌}
 use Prim.Native.Nat.{ℕ, zero, suc, ◌+◌, ◌*◌, ◌/◌, ◌^◌, ◌≤◌, ◌<◌}
 use native.Mathlib.Decide.{dec_lt}
 use native.Mathlib.Omega.{arith}
 use borrow.Author.Tests.{lt-ltb, le-ltb}
 use lib.ListN.{length, take, get_or, length-append}
-use Rattle.numbers.specs.Limits.{maxProcessors}
+use Rattle.numbers.specs.Limits.{max_processors}
 use Rattle.tree.specs.Peak.{Peaked}
-use Rattle.texts.specs.Text.{longestLine, ascii, digits, decimal, spaced, listed, figures, beginLine, doneLine, fetchLine, placesLine, refusedLine}
+use Rattle.texts.specs.Text.{longest_line, ascii, digits, decimal, spaced, listed, figures, begin_line, done_line, fetch_line, places_line, refused_line}
 
 -- a number below a power of ten has no more digits than that power
 digits-short : (k more x : ℕ) → x < 10 ^ suc k → length (digits more x) ≤ suc k
@@ -46,7 +46,7 @@ listed-short zero list wide = omega arith
 listed-short (suc n) [] wide = omega arith
 listed-short (suc n) (x ∷ list) wide = omega (arith, spaced-short (suc n) (x ∷ list) wide)
 
-module _ (total used full count : ℕ) (list : List ℕ) (few : count ≤ maxProcessors)
+module _ (total used full count : ℕ) (list : List ℕ) (few : count ≤ max_processors)
     (total-wide : Wide 32 total) (used-wide : Wide 32 used) (full-wide : Wide 32 full) (wide : (i : ℕ) → Wide 16 (get_or list i 0)) where
   figures-short : length (figures total used full (take count list)) ≤ 443
   unfolding figures ascii
@@ -60,13 +60,13 @@ module _ (total used full count : ℕ) (list : List ℕ) (few : count ≤ maxPro
         listed-short count list wide,
       ))
 
-  pub beginLine-short :
+  pub begin_line-short :
       (peak : Peaked)
       → Wide 64 peak.trays
       → Wide 16 peak.task
-      → length (beginLine peak total used full (take count list)) ≤ longestLine
-  unfolding beginLine ascii
-  beginLine-short peak h h' =
+      → length (begin_line peak total used full (take count list)) ≤ longest_line
+  unfolding begin_line ascii
+  begin_line-short peak h h' =
       simp length-append
       (omega (
         arith,
@@ -75,24 +75,24 @@ module _ (total used full count : ℕ) (list : List ℕ) (few : count ≤ maxPro
         figures-short,
       ))
 
-  pub doneLine-short : (j offers : ℕ)
+  pub done_line-short : (j offers : ℕ)
       → Wide 16 j
       → Wide 64 offers
-      → length (doneLine j offers total used full (take count list)) ≤ longestLine
-  unfolding doneLine ascii
-  doneLine-short j offers h h' =
+      → length (done_line j offers total used full (take count list)) ≤ longest_line
+  unfolding done_line ascii
+  done_line-short j offers h h' =
       simp length-append
       (omega (arith, decimal-short 4 j (omega arith), decimal-short 19 offers (omega arith), figures-short))
 
-  pub placesLine-short : (bound : ℕ) → Wide 32 bound → length (placesLine bound total used full (take count list)) ≤ longestLine
-  unfolding placesLine ascii
-  placesLine-short bound h = simp length-append (omega (arith, decimal-short 9 bound (omega arith), figures-short))
+  pub places_line-short : (bound : ℕ) → Wide 32 bound → length (places_line bound total used full (take count list)) ≤ longest_line
+  unfolding places_line ascii
+  places_line-short bound h = simp length-append (omega (arith, decimal-short 9 bound (omega arith), figures-short))
 
-pub refusedLine-short : (k offset : ℕ) → Wide 8 k → Wide 64 offset → length (refusedLine k offset) ≤ longestLine
-unfolding refusedLine ascii
-refusedLine-short k offset h h' =
+pub refused_line-short : (k offset : ℕ) → Wide 8 k → Wide 64 offset → length (refused_line k offset) ≤ longest_line
+unfolding refused_line ascii
+refused_line-short k offset h h' =
     simp length-append (omega (arith, decimal-short 2 k (omega arith), decimal-short 19 offset (omega arith)))
 
-pub fetchLine-short : (total : ℕ) → Wide 32 total → length (fetchLine total) ≤ longestLine
-unfolding fetchLine ascii
-fetchLine-short total h = simp length-append (omega (arith, decimal-short 9 total (omega arith)))
+pub fetch_line-short : (total : ℕ) → Wide 32 total → length (fetch_line total) ≤ longest_line
+unfolding fetch_line ascii
+fetch_line-short total h = simp length-append (omega (arith, decimal-short 9 total (omega arith)))

@@ -15,7 +15,7 @@ use Rattle.numbers.specs.Lists.{at}
 use Rattle.rules.specs.State.{State}
 use Rattle.format.specs.Command.{Command, Form, forms, find, room, Decoded, refused, read, whole, read_by, table, decode}
 use Rattle.rules.specs.Answer.{Asking, command}
-use Rattle.texts.specs.Printer.{waits, idle, isAwaited, turn}
+use Rattle.texts.specs.Printer.{waits, idle, is_awaited, turn}
 use Rattle.numbers.proofs.Tests.{fails, le-or-lt}
 use Rattle.format.proofs.Number.{numbers_more}
 use Rattle.format.proofs.Bytes.{past}
@@ -30,11 +30,11 @@ behind (x ∷ before) part place =
 
 -- what is no longer awaited is not changed by what comes after it
 abbrev Same : Decoded → Decoded → Type 0
-Same d d' = isAwaited false d ≡ false → d' ≡ d
+Same d d' = is_awaited false d ≡ false → d' ≡ d
 
 module _ (given after : List ℕ) where
   whole-more : (width : ℕ) (c c' : Command) → (width ≤ length given → c' ≡ c) → Same (whole given width c) (whole (given ++ after) width c')
-  unfolding isAwaited
+  unfolding is_awaited
   whole-more width c c' same = go (ltb (length given) width) (ltb-false (length given) width)
     where
       go : (t : Bool) → (t ≡ false → width ≤ length given) → Same (cond t (refused 1) (read c (1 + width))) (whole (given ++ after) width c')
@@ -55,8 +55,8 @@ module _ (given after : List ℕ) where
           whole-more (room f.widths) _ _ (λ l. ap f.means (numbers_more f.widths given after l))
 
 -- a command that is not awaited stands among the bytes that have come
-came : (part : List ℕ) (place : ℕ) → isAwaited false (decode part place) ≡ false → place < length part
-unfolding decode isAwaited
+came : (part : List ℕ) (place : ℕ) → is_awaited false (decode part place) ≡ false → place < length part
+unfolding decode is_awaited
 came part place e =
     ⊎_elim (λ out. absurd (true≢false (rw (le-leb (length part) place out) at e))) (λ within. within)
     (le-or-lt (length part) place)
@@ -94,14 +94,14 @@ module _ (s : State) (list before part after : List ℕ) (place offset : ℕ) wh
   abbrev there : Asking
   there = record { stream = before ++ (part ++ after); place = length before + place; list = list }
 
-  waited : (is_last : Bool) → isAwaited is_last (decode part place) ≡ true → (turn s here offset is_last).verdict ≡ waits
+  waited : (is_last : Bool) → is_awaited is_last (decode part place) ≡ true → (turn s here offset is_last).verdict ≡ waits
   unfolding turn idle
   waited is_last e = rw e
 
   -- what follows the part changes nothing
   nothing-new : (is_last : Bool)
       → (is_last ≡ true → after ≡ [])
-      → isAwaited is_last (decode part place) ≡ false
+      → is_awaited is_last (decode part place) ≡ false
       → (decode (part ++ after) place ≡ decode part place) × (leb (length (part ++ after)) place ≡ leb (length part) place)
   nothing-new true last e =
       let all : part ++ after ≡ part = ap (λ (l : List ℕ). part ++ l) (last refl) ∙ append-nil part in
@@ -116,9 +116,9 @@ module _ (s : State) (list before part after : List ℕ) (place offset : ℕ) wh
       → (is_last ≡ true → after ≡ [])
       → ((turn s here offset is_last).verdict ≡ waits → ⊥)
       → turn s here offset is_last ≡ turn s there offset true
-  unfolding turn command isAwaited
+  unfolding turn command is_awaited
   as-whole is_last last goes =
-      let e = fails (isAwaited is_last (decode part place)) (λ w. goes (waited is_last w)) in
+      let e = fails (is_awaited is_last (decode part place)) (λ w. goes (waited is_last w)) in
       let same = nothing-new is_last last e in
       let d = behind before (part ++ after) place ∙ same.0 in
       let t = within-behind before (part ++ after) place ∙ same.1 in

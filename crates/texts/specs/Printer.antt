@@ -2,15 +2,15 @@
 -- on a refusal `refused K at O` (number, byte offset of the command counted from 0), then stops"; "FETCH prints `fetch booked=0`", and
 -- 08 `places M=` with the new bound.
 use Rattle.std.specs.Prelude.{◌≡◌, Bool, true, false, cond, List, [], ◌∷◌, ◌++◌, ℕ, zero, suc, ◌+◌, ◌-◌, ◌≤◌, eqb, leb, ltb, length, replicate}
-use Rattle.numbers.specs.Limits.{leastStarts}
+use Rattle.numbers.specs.Limits.{least_starts}
 use Rattle.rules.specs.State.{State, none}
 use Rattle.format.specs.Command.{Decoded, refused, read, decode}
 use Rattle.rules.specs.Answer.{Answered, Asking, command}
-use Rattle.texts.specs.Text.{longestLine, acceptedLine, refusedLine}
+use Rattle.texts.specs.Text.{longest_line, accepted_line, refused_line}
 
 -- what a turn decides: to go on with the next command, to wait for more input, or to stop
-abbrev pub goesOn : ℕ
-goesOn = 0
+abbrev pub going_on : ℕ
+going_on = 0
 
 abbrev pub waits : ℕ
 waits = 1
@@ -32,13 +32,13 @@ idle verdict s list = record { verdict = verdict; used = 0; text = []; state = s
 
 -- "one line per accepted BEGIN or DONE", FETCH and 08, "and on a refusal `refused K at O`"
 unfoldable pub said : Decoded → ℕ → Answered → List ℕ
-said d offset a = cond (eqb a.answer.number 0) (acceptedLine d a) (refusedLine a.answer.number offset)
+said d offset a = cond (eqb a.answer.number 0) (accepted_line d a) (refused_line a.answer.number offset)
 
 -- "then stops"
 unfoldable pub answered : Decoded → ℕ → Answered → Turn
 answered d offset a =
     record {
-      verdict = cond (eqb a.answer.number 0) goesOn stops;
+      verdict = cond (eqb a.answer.number 0) going_on stops;
       used = a.answer.used;
       text = said d offset a;
       state = a.state;
@@ -46,16 +46,16 @@ answered d offset a =
     }
 
 -- "no byte is left, or operands are cut short": they may still come, unless the input has ended
-unfoldable pub isAwaited : Bool → Decoded → Bool
-isAwaited true d = false
-isAwaited false (refused k) = eqb k 1
-isAwaited false (read c used) = false
+unfoldable pub is_awaited : Bool → Decoded → Bool
+is_awaited true d = false
+is_awaited false (refused k) = eqb k 1
+is_awaited false (read c used) = false
 
 -- one turn over the part of the input that has come so far. The command at the place in it stands `offset` bytes from the start of the
--- input; `isLast` says that the input ends with this part. "It stops without a line where the input ends between commands."
+-- input; `is_last` says that the input ends with this part. "It stops without a line where the input ends between commands."
 unfoldable pub turn : State → Asking → ℕ → Bool → Turn
-turn s a offset isLast =
-    cond (isAwaited isLast (decode a.stream a.place)) (idle waits s a.list)
+turn s a offset is_last =
+    cond (is_awaited is_last (decode a.stream a.place)) (idle waits s a.list)
     (cond (leb (length a.stream) a.place) (idle stops s a.list)
     (answered (decode a.stream a.place) offset (command s a)))
 
@@ -72,37 +72,37 @@ behind used text t =
 
 -- turns over the part that has come, one after another, until one waits or stops, or there is no room left for the longest line
 unfoldable pub turns : ℕ → ℕ → State → Asking → ℕ → Bool → Turn
-turns zero room s a offset isLast = idle goesOn s a.list
-turns (suc more) room s a offset isLast =
-    elim (ltb room longestLine) [
-      | true ↦ idle goesOn s a.list
+turns zero room s a offset is_last = idle going_on s a.list
+turns (suc more) room s a offset is_last =
+    elim (ltb room longest_line) [
+      | true ↦ idle going_on s a.list
       | false ↦
-          let t = turn s a offset isLast in
-          elim (eqb t.verdict goesOn) [
+          let t = turn s a offset is_last in
+          elim (eqb t.verdict going_on) [
             | true ↦
                 behind t.used t.text
                 (turns more (room - length t.text) t.state
                 (record { stream = a.stream; place = a.place + t.used; list = t.list })
-                (offset + t.used) isLast)
+                (offset + t.used) is_last)
             | false ↦ t
           ]
     ]
 
 -- where the day printer stands in its input: `filled` bytes of it are at hand, the next command is at a place among them and `offset`
--- bytes from the start of the input; `isLast` says that the input ends with the bytes at hand
+-- bytes from the start of the input; `is_last` says that the input ends with the bytes at hand
 pub record Position : Type 0 where
   pub place : ℕ
   pub filled : ℕ
   pub offset : ℕ
-  pub isLast : Bool
+  pub is_last : Bool
 
 -- the largest offset: one of 64 bits
-abbrev pub maxOffset : ℕ
-maxOffset = 18446744073709551615
+abbrev pub max_offset : ℕ
+max_offset = 18446744073709551615
 
 -- nothing has come yet
 abbrev pub start : Position
-start = record { place = 0; filled = 0; offset = 0; isLast = false }
+start = record { place = 0; filled = 0; offset = 0; is_last = false }
 
 -- bytes at hand were used
 unfoldable pub moved : ℕ → Position → Position
@@ -111,12 +111,12 @@ moved used x =
       place = x.place + used;
       filled = x.filled;
       offset = x.offset + used;
-      isLast = x.isLast;
+      is_last = x.is_last;
     }
 
 -- the bytes that are left went to the front
 unfoldable pub fronted : Position → Position
-fronted x = record { place = 0; filled = x.filled - x.place; offset = x.offset; isLast = x.isLast }
+fronted x = record { place = 0; filled = x.filled - x.place; offset = x.offset; is_last = x.is_last }
 
 -- a read gave bytes behind them, none where the input has ended
 unfoldable pub fed : ℕ → Position → Position
@@ -125,34 +125,34 @@ fed count x =
       place = x.place;
       filled = x.filled + count;
       offset = x.offset;
-      isLast = eqb count 0;
+      is_last = eqb count 0;
     }
 
 -- the offsets of a buffer's bytes from here on can be counted. An input that is longer is not read to its end
-unfoldable pub isCounted : ℕ → Position → Bool
-isCounted size x = leb (x.offset + size) maxOffset
+unfoldable pub is_counted : ℕ → Position → Bool
+is_counted size x = leb (x.offset + size) max_offset
 
 -- one step of the day printer: all turns over the bytes at hand for which a buffer has room. A turn that goes on uses a byte, so that
 -- there are at most as many as bytes, and one more that waits or stops
 unfoldable pub step : State → List ℕ → List ℕ → ℕ → Position → Turn
 step s part list room x =
-    turns (suc (length part)) room s (record { stream = part; place = x.place; list = list }) x.offset x.isLast
+    turns (suc (length part)) room s (record { stream = part; place = x.place; list = list }) x.offset x.is_last
 
 -- all that is printed from a place of the whole input on, turn after turn. A command uses a byte at least, so that as many turns as
 -- the input has bytes are enough
-unfoldable pub printFrom : ℕ → State → List ℕ → ℕ → List ℕ
-printFrom zero s stream place = []
-printFrom (suc turns) s stream place =
-    let t = turn s (record { stream = stream; place = place; list = replicate leastStarts 0 }) place true in
+unfoldable pub print_from : ℕ → State → List ℕ → ℕ → List ℕ
+print_from zero s stream place = []
+print_from (suc turns) s stream place =
+    let t = turn s (record { stream = stream; place = place; list = replicate least_starts 0 }) place true in
     t.text
-    ++ elim (eqb t.verdict goesOn) [
-      | true ↦ printFrom turns t.state stream (place + t.used)
+    ++ elim (eqb t.verdict going_on) [
+      | true ↦ print_from turns t.state stream (place + t.used)
       | false ↦ []
     ]
 
 -- the day printer: standard input to standard output
 unfoldable pub print : List ℕ → List ℕ
-print stream = printFrom (length stream) none stream 0
+print stream = print_from (length stream) none stream 0
 
 -- what is printed of askings, each where it stands in the input
 unfoldable pub said_of : State → List Asking → List ℕ
@@ -169,38 +169,38 @@ pub record Part (stream : List ℕ) (place : ℕ) : Type 0 where
   pub cut : stream ≡ before ++ (part ++ after)
   pub start : ℕ
   pub stands : place ≡ length before + start
-  pub isLast : Bool
-  pub last : isLast ≡ true → after ≡ []
+  pub is_last : Bool
+  pub last : is_last ≡ true → after ≡ []
   pub list : List ℕ
-  pub room : leastStarts ≤ length list
+  pub room : least_starts ≤ length list
 
 abbrev pub over : {stream : List ℕ} {place : ℕ} → Part stream place → State → Turn
-over {place = place} p s = turn s (record { stream = p.part; place = p.start; list = p.list }) place p.isLast
+over {place = place} p s = turn s (record { stream = p.part; place = p.start; list = p.list }) place p.is_last
 
 -- what turns over parts of the stream print, however it is cut: where one waits, another part is taken
 pub data Prints (stream : List ℕ) : State → ℕ → List ℕ → Type 0 where
   goes_on : {s : State} {place : ℕ} {text : List ℕ} (p : Part stream place)
-      → (over p s).verdict ≡ goesOn
+      → (over p s).verdict ≡ going_on
       → Prints stream (over p s).state (place + (over p s).used) text
       → Prints stream s place ((over p s).text ++ text)
-  waits-for : {s : State} {place : ℕ} {text : List ℕ} (p : Part stream place)
+  waits_for : {s : State} {place : ℕ} {text : List ℕ} (p : Part stream place)
       → (over p s).verdict ≡ waits
       → Prints stream s place text
       → Prints stream s place text
   stops_at : {s : State} {place : ℕ} (p : Part stream place) → (over p s).verdict ≡ stops → Prints stream s place (over p s).text
 
 -- a step over a part, with a buffer of so many bytes
-abbrev pub stepOver : {stream : List ℕ} {place : ℕ} → Part stream place → State → ℕ → Turn
-stepOver {place = place} p s room =
+abbrev pub step_over : {stream : List ℕ} {place : ℕ} → Part stream place → State → ℕ → Turn
+step_over {place = place} p s room =
     step s p.part p.list room
-    (record { place = p.start; filled = length p.part; offset = place; isLast = p.isLast })
+    (record { place = p.start; filled = length p.part; offset = place; is_last = p.is_last })
 
 -- what steps over parts of the stream print, however it is cut and whatever the buffer: until one stops, another is taken
 pub data Steps (stream : List ℕ) : State → ℕ → List ℕ → Type 0 where
   steps_on : {s : State} {place : ℕ} {text : List ℕ} (p : Part stream place) (room : ℕ)
-      → ((stepOver p s room).verdict ≡ stops → ⊥)
-      → Steps stream (stepOver p s room).state (place + (stepOver p s room).used) text
-      → Steps stream s place ((stepOver p s room).text ++ text)
+      → ((step_over p s room).verdict ≡ stops → ⊥)
+      → Steps stream (step_over p s room).state (place + (step_over p s room).used) text
+      → Steps stream s place ((step_over p s room).text ++ text)
   last_step : {s : State} {place : ℕ} (p : Part stream place) (room : ℕ)
-      → (stepOver p s room).verdict ≡ stops
-      → Steps stream s place (stepOver p s room).text
+      → (step_over p s room).verdict ≡ stops
+      → Steps stream s place (step_over p s room).text

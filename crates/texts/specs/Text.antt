@@ -6,11 +6,11 @@ use Prim.Native.String.{String}
 use Rattle.tree.specs.Peak.{Peaked}
 use Rattle.format.specs.Command.{Command, plan, task, activation, execution, begin, done, fetch, places, Decoded, refused, read}
 use Rattle.rules.specs.Answer.{Answered}
-use Rattle.rules.specs.Question.{booked, inUse, fullness}
+use Rattle.rules.specs.Question.{booked, in_use, fullness}
 
 -- no line has more bytes than this
-abbrev pub longestLine : ℕ
-longestLine = 512
+abbrev pub longest_line : ℕ
+longest_line = 512
 
 -- the bytes of a text
 unfoldable pub ascii : String → List ℕ
@@ -49,29 +49,29 @@ figures total used full started =
     ++ ascii "\n"
 
 -- "After `begin` comes the peak; after `done` the step ended, then the offers." "The begin line gains `by=` after the peak": its step
-unfoldable pub beginLine : Peaked → ℕ → ℕ → ℕ → List ℕ → List ℕ
-beginLine peak total used full started =
+unfoldable pub begin_line : Peaked → ℕ → ℕ → ℕ → List ℕ → List ℕ
+begin_line peak total used full started =
     ascii "begin peak="
     ++ decimal peak.trays
     ++ ascii " by="
     ++ decimal peak.task
     ++ figures total used full started
 
-unfoldable pub doneLine : ℕ → ℕ → ℕ → ℕ → ℕ → List ℕ → List ℕ
-doneLine j offers total used full started =
+unfoldable pub done_line : ℕ → ℕ → ℕ → ℕ → ℕ → List ℕ → List ℕ
+done_line j offers total used full started =
     ascii "done " ++ decimal j ++ ascii " offers=" ++ decimal offers ++ figures total used full started
 
 -- "FETCH prints `fetch booked=0`"
-unfoldable pub fetchLine : ℕ → List ℕ
-fetchLine total = ascii "fetch booked=" ++ decimal total ++ ascii "\n"
+unfoldable pub fetch_line : ℕ → List ℕ
+fetch_line total = ascii "fetch booked=" ++ decimal total ++ ascii "\n"
 
 -- "Its line is `places M=` and the new bound, then booked to start as in a done line"
-unfoldable pub placesLine : ℕ → ℕ → ℕ → ℕ → List ℕ → List ℕ
-placesLine bound total used full started = ascii "places M=" ++ decimal bound ++ figures total used full started
+unfoldable pub places_line : ℕ → ℕ → ℕ → ℕ → List ℕ → List ℕ
+places_line bound total used full started = ascii "places M=" ++ decimal bound ++ figures total used full started
 
 -- "on a refusal `refused K at O` (number, byte offset of the command counted from 0)"
-unfoldable pub refusedLine : ℕ → ℕ → List ℕ
-refusedLine k offset = ascii "refused " ++ decimal k ++ ascii " at " ++ decimal offset ++ ascii "\n"
+unfoldable pub refused_line : ℕ → ℕ → List ℕ
+refused_line k offset = ascii "refused " ++ decimal k ++ ascii " at " ++ decimal offset ++ ascii "\n"
 
 -- the line of an accepted command, none for 01 to 04
 unfoldable pub line : Command → Answered → List ℕ
@@ -80,16 +80,16 @@ line (task parent work out) a = []
 line (activation i) a = []
 line (execution i) a = []
 line begin a =
-    beginLine a.answer.peaks.chilled (booked a.state) (inUse a.state) (fullness a.state)
+    begin_line a.answer.peaks.chilled (booked a.state) (in_use a.state) (fullness a.state)
     (take a.answer.starts a.list)
 line (done j) a =
-    doneLine j a.answer.offers (booked a.state) (inUse a.state) (fullness a.state)
+    done_line j a.answer.offers (booked a.state) (in_use a.state) (fullness a.state)
     (take a.answer.starts a.list)
-line fetch a = fetchLine (booked a.state)
+line fetch a = fetch_line (booked a.state)
 line (places bound) a =
-    placesLine bound (booked a.state) (inUse a.state) (fullness a.state) (take a.answer.starts a.list)
+    places_line bound (booked a.state) (in_use a.state) (fullness a.state) (take a.answer.starts a.list)
 
 -- the line of what was decoded and accepted
-unfoldable pub acceptedLine : Decoded → Answered → List ℕ
-acceptedLine (refused k) a = []
-acceptedLine (read c used) a = line c a
+unfoldable pub accepted_line : Decoded → Answered → List ℕ
+accepted_line (refused k) a = []
+accepted_line (read c used) a = line c a

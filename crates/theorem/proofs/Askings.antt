@@ -13,7 +13,7 @@ use Rattle.rules.specs.State.{State}
 use Rattle.format.specs.Command.{Command, plan, task, activation, execution, begin, done, fetch, places}
 use Rattle.numbers.specs.Sums.{within}
 use Rattle.books.specs.Booking.{Books}
-use Rattle.rules.specs.Obey.{withOrders, completed, withBound, ahead, begun, proceed, obey, free}
+use Rattle.rules.specs.Obey.{with_orders, completed, with_bound, ahead, begun, proceed, obey, free}
 use Rattle.rules.specs.Answer.{Asking, Answered, refuse, front, accept, command}
 use Rattle.theorem.specs.Theorem.{AskingHolds}
 use Rattle.numbers.proofs.Tests.{clash}
@@ -35,7 +35,7 @@ proceed-few s phase k peaks offers inside =
     omega arith
 
 obey-few : (s : State) (c : Command) → Formed s → length (obey s c).started ≤ s.processors
-unfolding obey completed withOrders withBound
+unfolding obey completed with_orders with_bound
 obey-few s (plan n p bound) h = omega arith
 obey-few s (task parent work out) h = omega arith
 obey-few s (activation i) h = omega arith
@@ -43,7 +43,7 @@ obey-few s (execution i) h = omega arith
 obey-few s begin h = proceed-few (completed s) _ _ _ _ (completed-formed s h).execution-inside
 obey-few s (done j) h = proceed-few s _ _ _ _ h.execution-inside
 obey-few s fetch h = omega arith
-obey-few s (places bound) h = proceed-few (withBound s bound) _ _ _ _ h.execution-inside
+obey-few s (places bound) h = proceed-few (with_bound s bound) _ _ _ _ h.execution-inside
 
 -- starts that fit leave a list as long as it was
 pub front_long : (l list : List ℕ) → length l ≤ length list → length (front l list) ≡ length list

@@ -10,12 +10,12 @@ use Rattle.numbers.specs.Sums.{count_to}
 use Rattle.numbers.specs.Lists.{at}
 use Rattle.tree.specs.Peak.{peak}
 use Rattle.books.specs.Standing.{activated, running, finished, count}
-use Rattle.rules.specs.State.{Store, State, needsIn, store_of}
-use Rattle.rules.specs.Grounds.{peakIn}
-use Rattle.books.specs.Booking.{total, missing, misses, allowsIn, allows, ready, fed}
-use Rattle.tree.specs.Tree.{rankIn}
+use Rattle.rules.specs.State.{Store, State, needs_in, store_of}
+use Rattle.rules.specs.Grounds.{peak_in}
+use Rattle.books.specs.Booking.{total, missing, misses, allows_in, allows, ready, fed}
+use Rattle.tree.specs.Tree.{rank_in}
 use Rattle.books.specs.Invariant.{Stocked}
-use Rattle.rules.specs.Obey.{booksOf, termsOf}
+use Rattle.rules.specs.Obey.{books_of, terms_of}
 use Rattle.books.proofs.EachStore.{of-each, each_all}
 use Rattle.numbers.proofs.Tests.{clash, same_or_not, and_both}
 use Rattle.numbers.proofs.Sums.{Task, counted, none-counted}
@@ -50,12 +50,12 @@ module _ (s : State) (planned : Planned s) (going : Going s) where
   -- where nobody runs, the first waiting task would fit in a store
   fits-there :
       (store : Store)
-      → Stocked s.size (at s.parents) (needsIn s store) (at store.outs) store.bound (at s.standings) store.booked
+      → Stocked s.size (at s.parents) (needs_in s store) (at store.outs) store.bound (at s.standings) store.booked
       → peak s.size (at s.parents) (at store.works) (at store.outs) s.activation ≤ store.bound
       → count s.size (at s.standings) running ≡ 0
       → (found : Found (at s.standings) s.activation)
       → total s.size (at store.booked)
-      + missing s.size (at s.parents) (needsIn s store) (at s.standings) (at store.booked) found.x
+      + missing s.size (at s.parents) (needs_in s store) (at s.standings) (at store.booked) found.x
       ≤ store.bound
   fits-there store stock bound none found =
       let fits =
@@ -67,10 +67,10 @@ module _ (s : State) (planned : Planned s) (going : Going s) where
 
   -- the first waiting task would fit, and it does not; so all have ended
   stuck_at : count s.size (at s.standings) running ≡ 0 → Found (at s.standings) s.activation → ⊥
-  unfolding allows allowsIn misses peakIn
+  unfolding allows allows_in misses peak_in
   stuck_at none found =
       clash
-      (each_all (allowsIn s.size (at s.parents) (termsOf s) (booksOf s) found.x)
+      (each_all (allows_in s.size (at s.parents) (terms_of s) (books_of s) found.x)
       (λ k.
       rw (of-each (λ d. (store_of s d).booked) k)
       (le-leb _ (store_of s k).bound
@@ -83,7 +83,7 @@ module _ (s : State) (planned : Planned s) (going : Going s) where
   nobody-runs none i t =
       ⊎_elim (λ found. absurd (stuck_at none found))
       (λ busy.
-      waits-or-ended s.size (at s.parents) (rankIn s.activation) (tree s planned) (at s.standings)
+      waits-or-ended s.size (at s.parents) (rank_in s.activation) (tree s planned) (at s.standings)
       going.settled.good.shape (stuck none) i t
       (busy i (stands s.size (at s.parents) s.activation planned.valid i t)))
       (first-waiting (at s.standings) s.activation)

@@ -16,11 +16,11 @@ use Rattle.books.specs.Standing
 use Rattle.books.specs.Standing.{waiting, activated, running, finished, count, counts}
 use Rattle.rules.specs.State.{State}
 use Rattle.format.specs.Command.{fetch, places}
-use Rattle.numbers.specs.Limits.{maxBound}
-use Rattle.rules.specs.Grounds.{in_turn, inLimits, peakOf, ownGround, ground}
+use Rattle.numbers.specs.Limits.{max_bound}
+use Rattle.rules.specs.Grounds.{in_turn, in_limits, peak_of, own_ground, ground_for}
 use Rattle.books.specs.Booking.{total}
 use Rattle.rules.specs.Question
-use Rattle.rules.specs.Day.{Event, starts, ends, isFetched, runs}
+use Rattle.rules.specs.Day.{Event, starts, ends, is_fetched, runs}
 use Rattle.theorem.specs.Theorem.{DayHolds}
 use Rattle.numbers.proofs.Tests.{clash, same_or_not}
 use Rattle.numbers.proofs.Sums.{Task, count-le, count_none, only-true, only-le}
@@ -64,14 +64,14 @@ module _ (s : State) (happened : List Event) (day : InDay s happened) where
   record Phased : Type 0 where
     going : ((i : ℕ) × Task s.size i × (runs happened i ≡ true)) ↔ (length (ends happened) < s.size)
     running : (s.phase ≡ Phase.running) ↔ (length (ends happened) < s.size)
-    ready : (s.phase ≡ Phase.ready) ↔ ((length (ends happened) ≡ s.size) × (isFetched happened ≡ false))
-    over : (s.phase ≡ Phase.over) ↔ (isFetched happened ≡ true)
+    ready : (s.phase ≡ Phase.ready) ↔ ((length (ends happened) ≡ s.size) × (is_fetched happened ≡ false))
+    over : (s.phase ≡ Phase.over) ↔ (is_fetched happened ≡ true)
     staffed : count s.size (at s.standings) Standing.running ≤ s.processors
     -- in each of them the four counts are answered
-    answers : (Phase.holdsTrays s.phase || eqb s.phase Phase.over) ≡ true
+    answers : (Phase.holds_trays s.phase || eqb s.phase Phase.over) ≡ true
 
   going-phased : Going s → Phased
-  unfolding Phase.holdsTrays
+  unfolding Phase.holds_trays
   going-phased g =
       let p = g.phased in
       let few : length (ends happened) < s.size =
@@ -80,7 +80,7 @@ module _ (s : State) (happened : List Event) (day : InDay s happened) where
       (same_or_not (length (ends happened)) s.size))
       in
       let some = somebody-runs s day.planned g in
-      let not-fetched : isFetched happened ≡ false = day.fetch ∙ ne_eqb s.phase Phase.over (λ q. omega arith) in
+      let not-fetched : is_fetched happened ≡ false = day.fetch ∙ ne_eqb s.phase Phase.over (λ q. omega arith) in
       record {
         going = ((λ _. few), (λ _. (some.0, some.1, runs-is s happened day some.0 some.1 ∙ some.2)));
         running = ((λ _. few), (λ _. p));
@@ -91,7 +91,7 @@ module _ (s : State) (happened : List Event) (day : InDay s happened) where
       }
 
   closed-phased : (gone : Bool) → Closed s gone → Phased
-  unfolding Phase.holdsTrays count
+  unfolding Phase.holds_trays count
   closed-phased gone c =
       let reports : length (ends happened) ≡ s.size =
       all-reported s.size (at s.standings) happened day.logged c.all
@@ -109,7 +109,7 @@ module _ (s : State) (happened : List Event) (day : InDay s happened) where
         answers = told gone c.phased;
       }
     where
-      loaded : (gone : Bool) → s.phase ≡ cond gone Phase.over Phase.ready → isFetched happened ≡ false → s.phase ≡ Phase.ready
+      loaded : (gone : Bool) → s.phase ≡ cond gone Phase.over Phase.ready → is_fetched happened ≡ false → s.phase ≡ Phase.ready
       loaded true p e = absurd (clash (day.fetch ∙ eq-eqb s.phase Phase.over p) e)
       loaded false p e = p
 
@@ -125,8 +125,8 @@ module _ (s : State) (happened : List Event) (day : InDay s happened) where
   phased (closed gone c) = closed-phased gone c
 
   -- FETCH is taken in ready, and only there
-  fetching : (ground s fetch ≡ 0) ↔ (s.phase ≡ Phase.ready)
-  unfolding ground in_turn inLimits ownGround
+  fetching : (ground_for s fetch ≡ 0) ↔ (s.phase ≡ Phase.ready)
+  unfolding ground_for in_turn in_limits own_ground
   fetching = (
     (λ e.
         eqb-true s.phase Phase.ready (demand-none (eqb s.phase Phase.ready) 3 0 (λ q. omega arith) e).0),
@@ -136,27 +136,27 @@ module _ (s : State) (happened : List Event) (day : InDay s happened) where
   -- 08 is taken in running, with a bound that is at least the peak and at least what is booked
   placing :
       (m : ℕ)
-      → (ground s (places m) ≡ 0)
-      ↔ ((s.phase ≡ Phase.running) × (m ≤ maxBound) × (peakOf s ≤ m) × (Question.booked s ≤ m))
-  unfolding in_turn inLimits ownGround Phase.holdsTrays Question.bookedIn
+      → (ground_for s (places m) ≡ 0)
+      ↔ ((s.phase ≡ Phase.running) × (m ≤ max_bound) × (peak_of s ≤ m) × (Question.booked s ≤ m))
+  unfolding in_turn in_limits own_ground Phase.holds_trays Question.booked_in
   placing m = (
     (λ e.
         let a : Accepted s (places m) = no-ground s (places m) e in
         let fits = grounds-fit s m a.own in
-        let low = only-le (Phase.holdsTrays s.phase) (total s.size (at s.stores.chilled.booked)) in
+        let low = only-le (Phase.holds_trays s.phase) (total s.size (at s.stores.chilled.booked)) in
         let most = fits.booked in (
           eqb-true s.phase Phase.running a.turn,
-          leb-true m maxBound a.limits,
+          leb-true m max_bound a.limits,
           fits.peak,
           omega arith,
         )),
     (λ h.
-        let held : Phase.holdsTrays s.phase ≡ true = rw h.0 refl in
-        let all = only-true (Phase.holdsTrays s.phase) (total s.size (at s.stores.chilled.booked)) held in
+        let held : Phase.holds_trays s.phase ≡ true = rw h.0 refl in
+        let all = only-true (Phase.holds_trays s.phase) (total s.size (at s.stores.chilled.booked)) held in
         let most = h.3 in
         let booked : total s.size (at s.stores.chilled.booked) ≤ m = omega arith in
-        ground-own s (places m) (eq-eqb s.phase Phase.running h.0) (le-leb m maxBound h.1)
-        ∙ rw (le-leb (peakOf s) m h.2, le-leb _ m booked) refl),
+        ground-own s (places m) (eq-eqb s.phase Phase.running h.0) (le-leb m max_bound h.1)
+        ∙ rw (le-leb (peak_of s) m h.2, le-leb _ m booked) refl),
   )
 
   -- once all have ended the four counts are these
@@ -172,7 +172,7 @@ module _ (s : State) (happened : List Event) (day : InDay s happened) where
       rw (none waiting (omega arith), none activated (omega arith), none running (omega arith), sym reported ∙ e) refl
 
   pub day-holds : DayHolds s happened
-  unfolding Question.inUseIn Question.bookedIn Question.standing Need.inUse counts
+  unfolding Question.in_use_in Question.booked_in Question.standing Need.in_use counts
   day-holds =
       let phases = phased day.course in
       let told : Question.standing s ≡ counts s.size (at s.standings) = rw phases.answers refl in
@@ -196,9 +196,9 @@ module _ (s : State) (happened : List Event) (day : InDay s happened) where
         running = phases.running;
         ready = phases.ready;
         over = phases.over;
-        countRunning = ap (λ (l : List ℕ). at l running) told ∙ sym runners;
-        countEnded = ap (λ (l : List ℕ). at l finished) told ∙ sym reported;
-        allEnded = λ e. told ∙ all-counted e;
+        count_running = ap (λ (l : List ℕ). at l running) told ∙ sym runners;
+        count_ended = ap (λ (l : List ℕ). at l finished) told ∙ sym reported;
+        all_ended = λ e. told ∙ all-counted e;
         staffed = (let same = runners in let few = phases.staffed in omega arith);
         stores = store-holds s happened day day.course;
       }

@@ -8,11 +8,11 @@ use lib.Dec.{eqb}
 use borrow.Author.Tests.{eqb-true}
 use Rattle.rules.specs.Phase
 use Rattle.rules.specs.State.{State, none}
-use Rattle.format.specs.Command.{Command, plan, task, activation, execution, begin, done, fetch, places, byte_of, operandsOf, read, decode}
+use Rattle.format.specs.Command.{Command, plan, task, activation, execution, begin, done, fetch, places, byte_of, operands_of, read, decode}
 use Rattle.rules.specs.Grounds.{in_turn}
-use Rattle.rules.specs.Obey.{completed, withBooks, withBound, unloaded, proceed, obey}
+use Rattle.rules.specs.Obey.{completed, with_books, with_bound, unloaded, proceed, obey}
 use Rattle.rules.specs.Answer.{Asking, command}
-use Rattle.rules.specs.Day.{Event, started, inForce, after, log, events, accepted, reported, isPlan, isBegin, opensDay, opensPlan, nextPlan}
+use Rattle.rules.specs.Day.{Event, started, in_force, after, log, events, accepted, reported, is_plan, is_begin, opens_day, opens_plan, next_plan}
 use Rattle.theorem.specs.Theorem.{EveryDay, EveryDayHolds, Theorem}
 use Rattle.numbers.proofs.Tests.{clash, and-true, or-false}
 use Rattle.rules.proofs.Formed.{Formed, Accepted, none-formed, obey-formed}
@@ -55,9 +55,9 @@ obeyed-in-day :
     (found s : State) (happened : List Event) (c : Command) (used : ℕ)
     → DayOf found s happened
     → Accepted s c
-    → isPlan (read c used) ≡ false
+    → is_plan (read c used) ≡ false
     → DayOf found (obey s c).state (happened ++ (reported (read c used) ++ map started (obey s c).started))
-unfolding in_turn byte_of operandsOf isPlan reported inForce obey unloaded proceed withBooks withBound
+unfolding in_turn byte_of operands_of is_plan reported in_force obey unloaded proceed with_books with_bound
 obeyed-in-day found s happened (plan n p bound) used day a e = absurd (clash refl e)
 obeyed-in-day found s happened (task parent work out) used day a e =
     absurd (out-of-turn s day.day.course Phase.steps a.turn (omega arith))
@@ -84,9 +84,9 @@ obeyed-in-day found s happened (places bound) used day a e =
 asked-in-day :
     (found s : State) (happened : List Event) (a : Asking)
     → DayOf found s happened
-    → opensPlan s a ≡ false
+    → opens_plan s a ≡ false
     → DayOf found (command s a).state (happened ++ events s a)
-unfolding accepted opensPlan
+unfolding accepted opens_plan
 asked-in-day found s happened a day e = go (step s a)
   where
     go : Step s a → DayOf found (command s a).state (happened ++ events s a)
@@ -94,8 +94,8 @@ asked-in-day found s happened a day e = go (step s a)
         subst₂ (λ (t : State) (l : List Event). DayOf found t l) (sym r.unchanged)
         (sym (ap (λ (l : List Event). happened ++ l) (nothing-happens s a r.not-accepted) ∙ append-nil happened)) day
     go (is-obeyed c used o) =
-        let other : isPlan (read c used) ≡ false =
-        ap isPlan (sym o.decoded) ∙ sym (ap (λ (t : Bool). t && isPlan (decode a.stream a.place)) o.is-accepted) ∙ e
+        let other : is_plan (read c used) ≡ false =
+        ap is_plan (sym o.decoded) ∙ sym (ap (λ (t : Bool). t && is_plan (decode a.stream a.place)) o.is-accepted) ∙ e
         in
         subst₂ (λ (t : State) (l : List Event). DayOf found t l) (sym o.after)
         (ap (λ (l : List Event). happened ++ l) (sym o.happens))
@@ -105,12 +105,12 @@ asked-in-day found s happened a day e = go (step s a)
 asked-all :
     (later : List Asking) (found s : State) (happened : List Event)
     → DayOf found s happened
-    → nextPlan s later ≡ false
+    → next_plan s later ≡ false
     → DayOf found (after s later) (happened ++ log s later)
-unfolding after log nextPlan
+unfolding after log next_plan
 asked-all [] found s happened day e = subst (λ (l : List Event). DayOf found s l) (sym (append-nil happened)) day
 asked-all (a ∷ later) found s happened day e =
-    let both = or-false (opensPlan s a) (nextPlan (command s a).state later) e in
+    let both = or-false (opens_plan s a) (next_plan (command s a).state later) e in
     subst (λ (l : List Event). DayOf found (after (command s a).state later) l)
     (append_assoc happened (events s a) (log (command s a).state later))
     (asked-all later found (command s a).state (happened ++ events s a) (asked-in-day found s happened a day both.0)
@@ -121,9 +121,9 @@ begun-by :
     (s : State) (c : Command) (used : ℕ)
     → Formed s
     → Accepted s c
-    → isBegin (read c used) ≡ true
+    → is_begin (read c used) ≡ true
     → DayOf s (obey s c).state (reported (read c used) ++ map started (obey s c).started)
-unfolding byte_of operandsOf isBegin reported obey proceed withBooks withBound
+unfolding byte_of operands_of is_begin reported obey proceed with_books with_bound
 begun-by s (plan n p bound) used h a e = absurd (clash e refl)
 begun-by s (task parent work out) used h a e = absurd (clash e refl)
 begun-by s (activation i) used h a e = absurd (clash e refl)
@@ -137,17 +137,17 @@ begun-by s (done j) used h a e = absurd (clash e refl)
 begun-by s fetch used h a e = absurd (clash e refl)
 begun-by s (places bound) used h a e = absurd (clash e refl)
 
-opened-day : (s : State) (a : Asking) → Formed s → opensDay s a ≡ true → DayOf s (command s a).state (events s a)
-unfolding accepted opensDay
+opened-day : (s : State) (a : Asking) → Formed s → opens_day s a ≡ true → DayOf s (command s a).state (events s a)
+unfolding accepted opens_day
 opened-day s a h e = go (step s a)
   where
     go : Step s a → DayOf s (command s a).state (events s a)
     go (is-refused r) =
-        absurd (clash (and-true (accepted s a) (isBegin (decode a.stream a.place)) e).0 r.not-accepted)
+        absurd (clash (and-true (accepted s a) (is_begin (decode a.stream a.place)) e).0 r.not-accepted)
     go (is-obeyed c used o) =
         subst₂ (λ (t : State) (l : List Event). DayOf s t l) (sym o.after) (sym o.happens)
         (begun-by s c used h o.granted
-        (ap isBegin (sym o.decoded) ∙ (and-true (accepted s a) (isBegin (decode a.stream a.place)) e).1))
+        (ap is_begin (sym o.decoded) ∙ (and-true (accepted s a) (is_begin (decode a.stream a.place)) e).1))
 
 -- a list of askings after another
 pub after-append : (l m : List Asking) (s : State) → after s (l ++ m) ≡ after (after s l) m
@@ -157,10 +157,10 @@ after-append (a ∷ l) m s = after-append l m (command s a).state
 
 -- every day is a day of the plan that BEGIN found
 every-day : EveryDay DayOf
-unfolding after log nextPlan
+unfolding after log next_plan
 every-day earlier opening later opens next =
     let formed : Formed (after none earlier) = after-formed earlier none none-formed in
-    let both = or-false (opensPlan (after none earlier) opening) (nextPlan (command (after none earlier) opening).state later) next in
+    let both = or-false (opens_plan (after none earlier) opening) (next_plan (command (after none earlier) opening).state later) next in
     subst (λ (t : State). DayOf (after none earlier) t (log (after none earlier) (opening ∷ later)))
     (sym (after-append earlier (opening ∷ later) none))
     (asked-all later (after none earlier) (command (after none earlier) opening).state (events (after none earlier) opening)

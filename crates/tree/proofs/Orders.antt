@@ -298,23 +298,23 @@ pub place-split :
 place-split x pre post e = omega (arith, place-second x pre (x ∷ post) e, place_here x x post refl)
 
 -- f over the entries of a list
-unfoldable pub sumOver : (ℕ → ℕ) → List ℕ → ℕ
-sumOver f [] = 0
-sumOver f (x ∷ l) = f x + sumOver f l
+unfoldable pub sum_over : (ℕ → ℕ) → List ℕ → ℕ
+sum_over f [] = 0
+sum_over f (x ∷ l) = f x + sum_over f l
 
 -- a sum along a list with no entry twice is the sum over the tasks in it
 pub sum-members :
     (f : ℕ → ℕ) (n : ℕ) (l : List ℕ)
     → every (λ i. within i n) l ≡ true
     → distinct l ≡ true
-    → sumOver f l ≡ sum_to (λ i. only (mem i l) (f i)) n
-unfolding sumOver every
+    → sum_over f l ≡ sum_to (λ i. only (mem i l) (f i)) n
+unfolding sum_over every
 sum-members f n [] inside once =
     sym (sum-zero (λ i. only (mem i []) (f i)) n (λ i t. only-false (mem i []) (f i) (mem-none i)))
 sum-members f n (x ∷ l) inside once =
     let both = and-true (within x n) (every (λ i. within i n) l) inside in
     let fresh = distinct_cons x l once in
-    let rest : sumOver f l ≡ sum_to (λ i. only (mem i l) (f i)) n = sum-members f n l both.1 fresh.later in
+    let rest : sum_over f l ≡ sum_to (λ i. only (mem i l) (f i)) n = sum-members f n l both.1 fresh.later in
     let here : only (mem x (x ∷ l)) (f x) ≡ only (mem x l) (f x) + f x
     = omega (arith, only-true (mem x (x ∷ l)) (f x) (mem-here x x l refl), only-false (mem x l) (f x) fresh.new) in
     let all : sum_to (λ i. only (mem i (x ∷ l)) (f i)) n ≡ sum_to (λ i. only (mem i l) (f i)) n + f x
@@ -323,8 +323,8 @@ sum-members f n (x ∷ l) inside once =
     omega arith
 
 -- a sum of ones counts
-sum-length : (l : List ℕ) → sumOver (λ _. 1) l ≡ length l
-unfolding sumOver
+sum-length : (l : List ℕ) → sum_over (λ _. 1) l ≡ length l
+unfolding sum_over
 sum-length [] = refl
 sum-length (x ∷ l) = omega (arith, sum-length l)
 
@@ -377,7 +377,7 @@ pub sum-along :
     → every (λ i. within i n) l ≡ true
     → distinct l ≡ true
     → length l ≡ n
-    → sumOver f l ≡ sum_to f n
+    → sum_over f l ≡ sum_to f n
 sum-along f n l inside once whole =
     sum-members f n l inside once
     ∙ sum-cong (λ i. only (mem i l) (f i)) f n (λ i t. only-true (mem i l) (f i) (all_in n l inside once whole i t))

@@ -10,10 +10,10 @@ use lib.Dec.{eqb, ltb}
 use borrow.Author.Tests.{eq-eqb, ne_eqb, lt-ltb, le-ltb}
 use Rattle.numbers.specs.Sums.{only}
 use Rattle.numbers.specs.Lists.{at, mem, place, largest}
-use Rattle.numbers.specs.Limits.{maxTasks, maxCount}
-use Rattle.tree.specs.Tree.{isChild, children, Valid}
+use Rattle.numbers.specs.Limits.{max_tasks, max_count}
+use Rattle.tree.specs.Tree.{is_child, children, Valid}
 use Rattle.tree.specs.Need.{need, resident}
-use Rattle.tree.specs.Peak.{sum_at, sums, peak, peakTask, Peaked, peaked}
+use Rattle.tree.specs.Peak.{sum_at, sums, peak, peak_task, Peaked, peaked}
 use Rattle.numbers.proofs.Tests.{same_or_not, le-or-lt}
 use Rattle.numbers.proofs.Sums.{Task, sum-cong, sum-add, sum-zero, sum-change, sum-most, only-le}
 use Rattle.tree.proofs.Orders.{mem-here, mem-later, mem-among, place_here, place-later}
@@ -175,38 +175,38 @@ peak-running n par work out order v = peak-alone n par work out order (left_spli
 -- no peak is above what all tasks of a plan can leave and need
 sums-most :
     (n : ℕ) (par work out : ℕ → ℕ)
-    → ((c : ℕ) → work c ≤ maxCount)
-    → ((c : ℕ) → out c ≤ maxCount)
+    → ((c : ℕ) → work c ≤ max_count)
+    → ((c : ℕ) → out c ≤ max_count)
     → (ended l : List ℕ)
-    → largest (sums n par work out ended l) ≤ 2 * maxCount * n + 2 * maxCount
+    → largest (sums n par work out ended l) ≤ 2 * max_count * n + 2 * max_count
 unfolding largest sums need children resident
 sums-most n par work out works outs ended [] = omega arith
 sums-most n par work out works outs ended (x ∷ l) =
     let later = sums-most n par work out works outs (x ∷ ended) l in
     let w = works x in
     let o = outs x in
-    let most : (t : ℕ → Bool) (c : ℕ) → only (t c) (out c) ≤ maxCount
+    let most : (t : ℕ → Bool) (c : ℕ) → only (t c) (out c) ≤ max_count
     = λ t c. let some = only-le (t c) (out c) in let light = outs c in omega arith in
-    let from = sum-most (λ c. only (isChild par x c) (out c)) n maxCount (λ c _. most (isChild par x) c) in
+    let from = sum-most (λ c. only (is_child par x c) (out c)) n max_count (λ c _. most (is_child par x) c) in
     let left : ℕ → Bool = λ c. mem c ended && not (eqb (par c) 0) && not (mem (par c) (x ∷ ended)) in
-    let there = sum-most (λ c. only (left c) (out c)) n maxCount (λ c _. most left c) in
+    let there = sum-most (λ c. only (left c) (out c)) n max_count (λ c _. most left c) in
     omega arith
 
 pub peak-most :
     (n : ℕ) (par work out : ℕ → ℕ) (l : List ℕ)
-    → n ≤ maxTasks
-    → ((c : ℕ) → work c ≤ maxCount)
-    → ((c : ℕ) → out c ≤ maxCount)
+    → n ≤ max_tasks
+    → ((c : ℕ) → work c ≤ max_count)
+    → ((c : ℕ) → out c ≤ max_count)
     → peak n par work out l < 2 ^ 32
 unfolding peak
 peak-most n par work out l small works outs = let most = sums-most n par work out works outs [] l in omega arith
 
 -- the task of the largest sum, the first of equals
-unfoldable pub runningTask : (n : ℕ) (par work out : ℕ → ℕ) → ℕ → List ℕ → ℕ
-runningTask n par work out h [] = 0
-runningTask n par work out h (x ∷ later) =
+unfoldable pub running_task : (n : ℕ) (par work out : ℕ → ℕ) → ℕ → List ℕ → ℕ
+running_task n par work out h [] = 0
+running_task n par work out h (x ∷ later) =
     cond (ltb (h + work x + out x) (running n par work out (h + kept par out x - children n par out x) later))
-    (runningTask n par work out (h + kept par out x - children n par out x) later) x
+    (running_task n par work out (h + kept par out x - children n par out x) later) x
 
 -- the first place of the largest of some numbers: among the later ones where one of them is above the first
 pub largest-later : (s : ℕ) (l : List ℕ) → s < largest l → place (largest (s ∷ l)) (s ∷ l) ≡ suc (place (largest l) l)
@@ -223,8 +223,8 @@ running-task-is :
     (n : ℕ) (par work out : ℕ → ℕ) (ended later : List ℕ)
     → Left n par ended later
     → at later (place (largest (sums n par work out ended later)) (sums n par work out ended later))
-    ≡ runningTask n par work out (level n par out ended) later
-unfolding sums runningTask
+    ≡ running_task n par work out (level n par out ended) later
+unfolding sums running_task
 running-task-is n par work out ended [] r = refl
 running-task-is n par work out ended (x ∷ later) r =
     let turn = left-turn n par ended x later r in
@@ -245,23 +245,23 @@ running-task-is n par work out ended (x ∷ later) r =
       largest-later (sum_at n par work out ended x) (sums n par work out (x ∷ ended) later) above,
       lt-ltb (level n par out ended + work x + out x) (running n par work out h later) (omega arith),
     )
-    (running-task-is n par work out (x ∷ ended) later next ∙ ap (λ (v : ℕ). runningTask n par work out v later) after))
+    (running-task-is n par work out (x ∷ ended) later next ∙ ap (λ (v : ℕ). running_task n par work out v later) after))
     (le-or-lt (largest (sums n par work out (x ∷ ended) later)) (sum_at n par work out ended x))
 
 -- both along an order, from a level on
-abbrev pub runningPeak : (n : ℕ) (par work out : ℕ → ℕ) → ℕ → List ℕ → Peaked
-runningPeak n par work out h l =
-    record { trays = running n par work out h l; task = runningTask n par work out h l }
+abbrev pub running_peak : (n : ℕ) (par work out : ℕ → ℕ) → ℕ → List ℕ → Peaked
+running_peak n par work out h l =
+    record { trays = running n par work out h l; task = running_task n par work out h l }
 
 -- the peak of a valid order with its task, by the level that runs along it
 pub peaked-running :
     (n : ℕ) (par work out : ℕ → ℕ) (order : List ℕ)
     → Valid n par order
-    → peaked n par work out order ≡ runningPeak n par work out 0 order
-unfolding peaked peakTask peak
+    → peaked n par work out order ≡ running_peak n par work out 0 order
+unfolding peaked peak_task peak
 peaked-running n par work out order v =
     let trays = peak-running n par work out order v in
-    let task : peakTask n par work out order ≡ runningTask n par work out 0 order
+    let task : peak_task n par work out order ≡ running_task n par work out 0 order
     = running-task-is n par work out [] order (left_split n par [] order v)
-    ∙ ap (λ (h : ℕ). runningTask n par work out h order) (level-first n par out) in
+    ∙ ap (λ (h : ℕ). running_task n par work out h order) (level-first n par out) in
     λ z. record { trays = trays z; task = task z }

@@ -8,7 +8,7 @@ use native.Mathlib.Omega.{arith}
 use lib.ListN.{length}
 use Rattle.numbers.specs.Lists.{mem, place}
 use Rattle.numbers.specs.Sums.{within}
-use Rattle.tree.specs.Tree.{rankIn, Valid, Tree}
+use Rattle.tree.specs.Tree.{rank_in, Valid, Tree}
 use Rattle.numbers.proofs.Tests.{decide}
 use Rattle.numbers.proofs.Sums.{Task}
 use Rattle.tree.proofs.Orders.{within-task, every-mem, mem-here, mem-among, place-lt, place-second, place-split, place-injective, new-behind, all_in, ordered-rises}
@@ -28,10 +28,10 @@ module _ (n : ℕ) (par : ℕ → ℕ) (order : List ℕ) (valid : Valid n par o
       member-task x (rw e (mem-among x x pre later ∙ mem-here x x (pre ++ later) refl))
 
   -- two tasks of one rank are one
-  pub same_rank : (i j : ℕ) → Task n i → Task n j → rankIn order i ≡ rankIn order j → i ≡ j
+  pub same_rank : (i j : ℕ) → Task n i → Task n j → rank_in order i ≡ rank_in order j → i ≡ j
   same_rank i j t u e = place-injective i j order (stands i t) (stands j u) e
 
-  pub tree_of : ((i : ℕ) → Task n i → par i ≤ n) → Tree n par (rankIn order)
+  pub tree_of : ((i : ℕ) → Task n i → par i ≤ n) → Tree n par (rank_in order)
   tree_of inside =
       record {
         within = inside;
@@ -44,7 +44,7 @@ module _ (n : ℕ) (par : ℕ → ℕ) (order : List ℕ) (valid : Valid n par o
       (pre : List ℕ) (x : ℕ) (later : List ℕ)
       → order ≡ pre ++ x ∷ later
       → (j : ℕ)
-      → rankIn order j < rankIn order x
+      → rank_in order j < rank_in order x
       → mem j pre ≡ true
   in-front pre x later e j h =
       ⊎_elim (λ m. m)

@@ -7,7 +7,7 @@ use native.Mathlib.Omega.{arith}
 use lib.Dec.{eqb}
 use borrow.Author.Tests.{eqb-true, eq-eqb, ne_eqb}
 use Rattle.numbers.specs.Sums.{Task, only, sum_to}
-use Rattle.tree.specs.Need.{need, resident, inProcess, trolley}
+use Rattle.tree.specs.Need.{need, resident, in_process, trolley}
 use Rattle.tree.specs.Tree.{roots}
 use Rattle.numbers.proofs.Tests.{decide, same_or_not, and_none}
 use Rattle.numbers.proofs.Sums.{sum-cong, sum-zero, sum-single, only-true, only-false, only_zero, only-and, only_sum}
@@ -43,8 +43,8 @@ module _ (n : ℕ) (par out : ℕ → ℕ) (ended : ℕ → Bool) where
         (work : ℕ → ℕ) (begun : ℕ → Bool)
         → ((i : ℕ) → Task n i → begun i ≡ true)
         → ((i : ℕ) → Task n i → par i ≤ n)
-        → inProcess n par work out ended begun ≡ 0
-    unfolding inProcess resident
+        → in_process n par work out ended begun ≡ 0
+    unfolding in_process resident
     none-in-process work begun started within =
         let nobody =
         sum-zero (λ i. only (begun i && not (ended i)) (need n par work out i)) n (λ i t. rw (started i t, all i t) refl)

@@ -14,8 +14,8 @@ resident n par out ended begun =
 
 -- "the needs of running steps + the outs of ended steps whose parent is waiting or booked": begun says which tasks have started, ended
 -- which have ended, and a task runs in between
-unfoldable pub inProcess : (n : ℕ) (par work out : ℕ → ℕ) (ended begun : ℕ → Bool) → ℕ
-inProcess n par work out ended begun =
+unfoldable pub in_process : (n : ℕ) (par work out : ℕ → ℕ) (ended begun : ℕ → Bool) → ℕ
+in_process n par work out ended begun =
     sum_to (λ i. only (begun i && not (ended i)) (need n par work out i)) n + resident n par out ended begun
 
 -- the loaded trolley: "When the root ends, its out remains booked and in use", until it is fetched
@@ -23,5 +23,5 @@ unfoldable pub trolley : (n : ℕ) (par out : ℕ → ℕ) (ended : ℕ → Bool
 trolley n par out ended fetched = only (not fetched) (sum_to (λ i. only (ended i && eqb (par i) 0) (out i)) n)
 
 -- trays in use, "reckoned from the starts, the ends and the fetch"
-unfoldable pub inUse : (n : ℕ) (par work out : ℕ → ℕ) (ended begun : ℕ → Bool) (fetched : Bool) → ℕ
-inUse n par work out ended begun fetched = inProcess n par work out ended begun + trolley n par out ended fetched
+unfoldable pub in_use : (n : ℕ) (par work out : ℕ → ℕ) (ended begun : ℕ → Bool) (fetched : Bool) → ℕ
+in_use n par work out ended begun fetched = in_process n par work out ended begun + trolley n par out ended fetched

@@ -20,8 +20,8 @@ peak n par work out order = largest (sums n par work out [] order)
 
 -- its step, "the earliest in the activation order where several are equal": it stands where the peak first stands among the sums; 0
 -- for no order
-unfoldable pub peakTask : (n : ℕ) (par work out : ℕ → ℕ) → List ℕ → ℕ
-peakTask n par work out order = at order (place (peak n par work out order) (sums n par work out [] order))
+unfoldable pub peak_task : (n : ℕ) (par work out : ℕ → ℕ) → List ℕ → ℕ
+peak_task n par work out order = at order (place (peak n par work out order) (sums n par work out [] order))
 
 -- "The peak shall always come with its step"
 pub record Peaked : Type 0 where
@@ -30,8 +30,8 @@ pub record Peaked : Type 0 where
 
 unfoldable pub peaked : (n : ℕ) (par work out : ℕ → ℕ) → List ℕ → Peaked
 peaked n par work out order =
-    record { trays = peak n par work out order; task = peakTask n par work out order }
+    record { trays = peak n par work out order; task = peak_task n par work out order }
 
 -- "Where no peak is answered, the step is 0"
-abbrev pub noPeak : Peaked
-noPeak = record { trays = 0; task = 0 }
+abbrev pub no_peak : Peaked
+no_peak = record { trays = 0; task = 0 }

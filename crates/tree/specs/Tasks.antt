@@ -15,8 +15,8 @@ abbrev pub need : Tasks → ℕ → ℕ
 need t = Need.need t.size t.parent t.work t.out
 
 -- "In use", by which tasks have ended, which have started and whether the trolley was fetched
-abbrev pub inUse : Tasks → (ended begun : ℕ → Bool) (fetched : Bool) → ℕ
-inUse t = Need.inUse t.size t.parent t.work t.out
+abbrev pub in_use : Tasks → (ended begun : ℕ → Bool) (fetched : Bool) → ℕ
+in_use t = Need.in_use t.size t.parent t.work t.out
 
 -- what the store holds while task x of an order runs, where those of `ended` have run already
 abbrev pub sum_at : Tasks → (ended : List ℕ) → ℕ → ℕ

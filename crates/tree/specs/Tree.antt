@@ -1,15 +1,15 @@
 -- The tree of a plan: the children of a task, the tasks above it and below it, the root, and the orders of its tasks.
 use Rattle.std.specs.Prelude.{◌≡◌, Bool, true, false, ◌&&◌, ◌||◌, List, [], ◌∷◌, ℕ, zero, suc, ◌≤◌, ◌<◌, eqb, length}
-use Rattle.numbers.specs.Sums.{Task, within, only, sum_to, count_to, lowestTo}
+use Rattle.numbers.specs.Sums.{Task, within, only, sum_to, count_to, lowest_to}
 use Rattle.numbers.specs.Lists.{mem, every, distinct, place}
 
 -- "The children of a step are those whose parent it is": c is a child of i
-abbrev pub isChild : (par : ℕ → ℕ) → ℕ → ℕ → Bool
-isChild par i c = eqb (par c) i
+abbrev pub is_child : (par : ℕ → ℕ) → ℕ → ℕ → Bool
+is_child par i c = eqb (par c) i
 
 -- the sum of f over the children of i
 unfoldable pub children : (n : ℕ) (par f : ℕ → ℕ) → ℕ → ℕ
-children n par f i = sum_to (λ c. only (isChild par i c) (f c)) n
+children n par f i = sum_to (λ c. only (is_child par i c) (f c)) n
 
 -- i and the tasks above it, from parent to parent, as far as the root
 unfoldable pub chain : ℕ → (ℕ → ℕ) → ℕ → List ℕ
@@ -31,7 +31,7 @@ roots n par = count_to (λ i. eqb (par i) 0) n
 
 -- the root: the task without a parent, the lowest where there are several, and 0 where there is none
 unfoldable pub root : (n : ℕ) (par : ℕ → ℕ) → ℕ
-root n par = lowestTo (λ i. eqb (par i) 0) n
+root n par = lowest_to (λ i. eqb (par i) 0) n
 
 -- "There are two orders, each holding every step once": an order's entries are the tasks, and none stands twice
 pub record EachOnce (n : ℕ) (order : List ℕ) : Type 0 where
@@ -52,8 +52,8 @@ pub record Valid (n : ℕ) (par : ℕ → ℕ) (order : List ℕ) : Type 0 where
   pub upward : ordered par order ≡ true
 
 -- the rank of a task: its place in the activation order
-abbrev pub rankIn : List ℕ → ℕ → ℕ
-rankIn order i = place i order
+abbrev pub rank_in : List ℕ → ℕ → ℕ
+rank_in order i = place i order
 
 -- parents are tasks or 0, and the rank rises from each task to its parent
 pub record Tree (n : ℕ) (par rank : ℕ → ℕ) : Type 0 where

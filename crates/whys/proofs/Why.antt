@@ -16,13 +16,13 @@ use Rattle.numbers.specs.Lists.{at, first}
 use Rattle.rules.specs.Phase
 use Rattle.books.specs.Standing
 use Rattle.books.specs.Standing.{waiting, activated, finished, count}
-use Rattle.rules.specs.State.{State, needsIn, store_of}
-use Rattle.books.specs.Booking.{Terms, allowsIn, total, missing, Books, isUnendedChild, fed, misses, allows, book, activate, ready}
-use Rattle.rules.specs.Obey.{termsOf, booksOf, withPlaces, withBounds, ahead}
-use Rattle.rules.specs.Question.{isRunning}
-use Rattle.tree.specs.Tree.{Valid, rankIn}
+use Rattle.rules.specs.State.{State, needs_in, store_of}
+use Rattle.books.specs.Booking.{Terms, allows_in, total, missing, Books, is_unended_child, fed, misses, allows, book, activate, ready}
+use Rattle.rules.specs.Obey.{terms_of, books_of, with_places, with_bounds, ahead}
+use Rattle.rules.specs.Question.{is_running}
+use Rattle.tree.specs.Tree.{Valid, rank_in}
 use Rattle.books.specs.Invariant.{FirstWaiting}
-use Rattle.whys.specs.Why.{refused, ended, running, notBooked, unfed, noProcessor, has, firstWaiting, lackIn, lacks, unendedChild, why}
+use Rattle.whys.specs.Why.{refused, ended, running, not_booked, unfed, no_processor, has, first_waiting, lack_in, lacks, unended_child, why}
 use Rattle.whys.specs.WhyHolds.{LackIsExact, Unfed}
 use Rattle.books.proofs.EachStore.{of-each, each_all, some-fails, one-fails}
 use Rattle.numbers.proofs.Tests.{decide, clash, fails, le-or-lt, and-true, and_both}
@@ -38,23 +38,23 @@ use Rattle.rules.proofs.InDay.{Planned, Going, tree}
 -- one equation a branch, by the phase, the number and the standing
 module _ (s : State) (i : ℕ) where
   pub why-outside : (s.phase ≡ Phase.running → ⊥) → why s i ≡ refused 3
-  unfolding why isRunning
+  unfolding why is_running
   why-outside out = rw (ne_eqb s.phase Phase.running out)
 
   module _ (runs : s.phase ≡ Phase.running) where
     pub why-nobody : (Task s.size i → ⊥) → why s i ≡ refused 4
-    unfolding why isRunning
+    unfolding why is_running
     why-nobody none =
         rw (eq-eqb s.phase Phase.running runs, fails (within i s.size) (λ e. none (within-task s.size i e)))
 
     module _ (task : Task s.size i) where
       pub why-ended : at s.standings i ≡ finished → why s i ≡ ended
-      unfolding why isRunning
+      unfolding why is_running
       why-ended e =
           rw (eq-eqb s.phase Phase.running runs, task-within s.size i task, eq-eqb (at s.standings i) finished e)
 
       pub why-running : at s.standings i ≡ Standing.running → why s i ≡ running
-      unfolding why isRunning
+      unfolding why is_running
       why-running e =
           rw (
             eq-eqb s.phase Phase.running runs,
@@ -64,8 +64,8 @@ module _ (s : State) (i : ℕ) where
           )
 
       pub why-waiting :
-          at s.standings i ≡ waiting → why s i ≡ notBooked (firstWaiting s) (lacks s (firstWaiting s))
-      unfolding why isRunning
+          at s.standings i ≡ waiting → why s i ≡ not_booked (first_waiting s) (lacks s (first_waiting s))
+      unfolding why is_running
       why-waiting e =
           rw (
             eq-eqb s.phase Phase.running runs,
@@ -78,8 +78,8 @@ module _ (s : State) (i : ℕ) where
       why-booked :
           at s.standings i ≡ activated
           → why s i
-          ≡ cond (not (fed s.size (at s.parents) (at s.standings) i)) (unfed (unendedChild s i)) noProcessor
-      unfolding why isRunning
+          ≡ cond (not (fed s.size (at s.parents) (at s.standings) i)) (unfed (unended_child s i)) no_processor
+      unfolding why is_running
       why-booked e =
           rw (
             eq-eqb s.phase Phase.running runs,
@@ -92,25 +92,25 @@ module _ (s : State) (i : ℕ) where
       pub why-unfed :
           at s.standings i ≡ activated
           → fed s.size (at s.parents) (at s.standings) i ≡ false
-          → why s i ≡ unfed (unendedChild s i)
+          → why s i ≡ unfed (unended_child s i)
       why-unfed e f = why-booked e ∙ rw f
 
       pub why-no-processor :
           at s.standings i ≡ activated
           → fed s.size (at s.parents) (at s.standings) i ≡ true
-          → why s i ≡ noProcessor
+          → why s i ≡ no_processor
       why-no-processor e f = why-booked e ∙ rw f
 
 -- the first waiting task by its place in the order: nobody in front of it waits
 module _ (n : ℕ) (par : ℕ → ℕ) (order : List ℕ) (valid : Valid n par order) (st : ℕ → ℕ) (x : ℕ)
-    (fw : FirstWaiting n (rankIn order) st x) where
-  there : at order (rankIn order x) ≡ x
+    (fw : FirstWaiting n (rank_in order) st x) where
+  there : at order (rank_in order x) ≡ x
   there = place_at x order (stands n par order valid x fw.task)
 
-  inside : rankIn order x < length order
+  inside : rank_in order x < length order
   inside = place-lt x order (stands n par order valid x fw.task)
 
-  before : (e : ℕ) → e < rankIn order x → st (at order e) ≡ waiting → ⊥
+  before : (e : ℕ) → e < rank_in order x → st (at order e) ≡ waiting → ⊥
   before e h w =
       let in_order : e < length order = (let i = inside in omega arith) in
       let own = place_of order e valid.once in_order in
@@ -121,7 +121,7 @@ module _ (n : ℕ) (par : ℕ → ℕ) (order : List ℕ) (valid : Valid n par o
   -- it is the one that is found
   pub first-is : first (λ i. eqb (st i) waiting) order ≡ x
   first-is =
-      first-at (λ i. eqb (st i) waiting) order (rankIn order x) inside
+      first-at (λ i. eqb (st i) waiting) order (rank_in order x) inside
       (λ e h. ne_eqb (st (at order e)) waiting (before e h))
       (rw there (eq-eqb (st x) waiting fw.waits))
       ∙ there
@@ -153,14 +153,14 @@ activate-keeps n par terms (x ∷ l) k i busy =
 
 -- booking ahead within some bound comes to the first waiting task, and books it just where it is allowed
 module _ (n : ℕ) (par : ℕ → ℕ) (terms : Kind → Terms) (order : List ℕ) (valid : Valid n par order) (k : Books) (x : ℕ)
-    (fw : FirstWaiting n (rankIn order) (at k.standings) x) where
+    (fw : FirstWaiting n (rank_in order) (at k.standings) x) where
   comes :
-      activate n par terms order k ≡ activate n par terms (x ∷ drop (suc (rankIn order x)) order) k
+      activate n par terms order k ≡ activate n par terms (x ∷ drop (suc (rank_in order x)) order) k
   comes =
-      passes-all n par terms order (rankIn order x) k (before n par order valid (at k.standings) x fw)
+      passes-all n par terms order (rank_in order x) k (before n par order valid (at k.standings) x fw)
       ∙ ap (λ (l : List ℕ). activate n par terms l k)
-      (drop-cons order (rankIn order x) 0 (inside n par order valid (at k.standings) x fw)
-      ∙ ap (λ (y : ℕ). y ∷ drop (suc (rankIn order x)) order) (there n par order valid (at k.standings) x fw))
+      (drop-cons order (rank_in order x) 0 (inside n par order valid (at k.standings) x fw)
+      ∙ ap (λ (y : ℕ). y ∷ drop (suc (rank_in order x)) order) (there n par order valid (at k.standings) x fw))
 
   waits-true : eqb (at k.standings x) waiting ≡ true
   waits-true = eq-eqb (at k.standings x) waiting fw.waits
@@ -173,14 +173,14 @@ module _ (n : ℕ) (par : ℕ → ℕ) (terms : Kind → Terms) (order : List �
   allowed-booked sized a =
       let own = at_set n k.standings x activated sized fw.task in
       ap (λ (b : Books). at b.standings x)
-      (comes ∙ activate-book n par terms x (drop (suc (rankIn order x)) order) k waits-true a)
-      ∙ activate-keeps n par terms (drop (suc (rankIn order x)) order) (book n par terms k x) x (λ w. omega arith)
+      (comes ∙ activate-book n par terms x (drop (suc (rank_in order x)) order) k waits-true a)
+      ∙ activate-keeps n par terms (drop (suc (rank_in order x)) order) (book n par terms k x) x (λ w. omega arith)
       ∙ own
 
   denied-waits : allows n par terms k x ≡ false → at (activate n par terms order k).standings x ≡ waiting
   denied-waits a =
       ap (λ (b : Books). at b.standings x)
-      (comes ∙ activate-stop n par terms x (drop (suc (rankIn order x)) order) k waits-true a)
+      (comes ∙ activate-stop n par terms x (drop (suc (rank_in order x)) order) k waits-true a)
       ∙ fw.waits
 
 -- a plan whose day goes on
@@ -189,62 +189,62 @@ module _ (s : State) (planned : Planned s) (going : Going s) where
   abbrev asked : ℕ → Kind → ℕ
   asked x k =
       total s.size (at (store_of s k).booked)
-      + missing s.size (at s.parents) (needsIn s (store_of s k)) (at s.standings) (at (store_of s k).booked) x
+      + missing s.size (at s.parents) (needs_in s (store_of s k)) (at s.standings) (at (store_of s k).booked) x
 
   -- with more places it is allowed where that is within them
   allowed-with :
       (more : Kind → ℕ) (x : ℕ) (k : Kind)
-      → allowsIn s.size (at s.parents) (termsOf (withBounds s (λ d. (store_of s d).bound + more d))) (booksOf s) x k
+      → allows_in s.size (at s.parents) (terms_of (with_bounds s (λ d. (store_of s d).bound + more d))) (books_of s) x k
       ≡ leb (asked x k) ((store_of s k).bound + more k)
-  unfolding allowsIn misses withBounds
+  unfolding allows_in misses with_bounds
   allowed-with more x k =
       rw (
         of-each (λ d. (store_of s d).booked) k,
-        of-each (λ d. withPlaces (store_of s d) ((store_of s d).bound + more d)) k,
+        of-each (λ d. with_places (store_of s d) ((store_of s d).bound + more d)) k,
       ) refl
 
   -- the first waiting task lacks so many places just
   pub lack-exact :
       (x : ℕ)
-      → FirstWaiting s.size (rankIn s.activation) (at s.standings) x
+      → FirstWaiting s.size (rank_in s.activation) (at s.standings) x
       → LackIsExact s x (of (lacks s x))
-  unfolding lacks lackIn ahead withBounds allows allowsIn misses
+  unfolding lacks lack_in ahead with_bounds allows allows_in misses
   lack-exact x fw =
       record {
         some =
-            (let short = some-fails (allowsIn s.size (at s.parents) (termsOf s) (booksOf s) x) (going.settled.halted x fw) in
+            (let short = some-fails (allows_in s.size (at s.parents) (terms_of s) (books_of s) x) (going.settled.halted x fw) in
             lacking short.0 short.1);
         booked =
-            allowed-booked s.size (at s.parents) _ s.activation planned.valid (booksOf s) x fw
+            allowed-booked s.size (at s.parents) _ s.activation planned.valid (books_of s) x fw
             going.settled.good.sized
             (each_all _
             (λ k.
             allowed-with (of (lacks s x)) x k
-            ∙ le-leb (asked x k) _ (let e = of-each (λ d. lackIn s (store_of s d) x) k in omega arith)));
+            ∙ le-leb (asked x k) _ (let e = of-each (λ d. lack_in s (store_of s d) x) k in omega arith)));
         waits =
             λ more k h.
-            denied-waits s.size (at s.parents) _ s.activation planned.valid (booksOf s) x fw
+            denied-waits s.size (at s.parents) _ s.activation planned.valid (books_of s) x fw
             (one-fails _ k
             (allowed-with more x k
-            ∙ lt-leb (asked x k) _ (let e = of-each (λ d. lackIn s (store_of s d) x) k in omega arith)));
+            ∙ lt-leb (asked x k) _ (let e = of-each (λ d. lack_in s (store_of s d) x) k in omega arith)));
       }
     where
       lacking :
           (k : Kind)
-          → allowsIn s.size (at s.parents) (termsOf s) (booksOf s) x k ≡ false
+          → allows_in s.size (at s.parents) (terms_of s) (books_of s) x k ≡ false
           → (d : Kind) × (1 ≤ of (lacks s x) d)
       lacking k f =
           let g : leb (asked x k) (store_of s k).bound ≡ false = rw (of-each (λ d. (store_of s d).booked) k) at f in
           let short = leb-false (asked x k) (store_of s k).bound g in
-          (k, (let e = of-each (λ d. lackIn s (store_of s d) x) k in omega arith))
+          (k, (let e = of-each (λ d. lack_in s (store_of s d) x) k in omega arith))
 
   -- where somebody waits, the first that is found is the first
   pub first_found :
       (i : ℕ)
       → Task s.size i
       → at s.standings i ≡ waiting
-      → FirstWaiting s.size (rankIn s.activation) (at s.standings) (firstWaiting s)
-  unfolding firstWaiting
+      → FirstWaiting s.size (rank_in s.activation) (at s.standings) (first_waiting s)
+  unfolding first_waiting
   first_found i t w =
       let valid = planned.valid in
       ⊎_elim
@@ -257,10 +257,10 @@ module _ (s : State) (planned : Planned s) (going : Going s) where
       (first-waiting (at s.standings) s.activation)
 
   -- the child that is found of a task that is not fed
-  pub child-found : (i : ℕ) → fed s.size (at s.parents) (at s.standings) i ≡ false → Unfed s i (unendedChild s i)
-  unfolding fed unendedChild
+  pub child-found : (i : ℕ) → fed s.size (at s.parents) (at s.standings) i ≡ false → Unfed s i (unended_child s i)
+  unfolding fed unended_child
   child-found i e =
-      let test : ℕ → Bool = isUnendedChild (at s.parents) (at s.standings) i in
+      let test : ℕ → Bool = is_unended_child (at s.parents) (at s.standings) i in
       let some = eqb-false (count_to test s.size) 0 e in
       let low = lowest-found test s.size (omega arith) in
       let both = and-true _ _ low.passes in
@@ -280,7 +280,7 @@ module _ (s : State) (planned : Planned s) (going : Going s) where
   pub no-child : (i c : ℕ) → fed s.size (at s.parents) (at s.standings) i ≡ true → Unfed s i c → ⊥
   unfolding fed
   no-child i c e u =
-      let test : ℕ → Bool = isUnendedChild (at s.parents) (at s.standings) i in
+      let test : ℕ → Bool = is_unended_child (at s.parents) (at s.standings) i in
       clash (and_both _ _ (eq-eqb _ i u.child) (rw (ne_eqb _ _ u.unended) refl))
       (none-counted test s.size (eqb-true _ 0 e) c u.task)
 

@@ -13,7 +13,7 @@ use Rattle.rules.specs.State.{State}
 use Rattle.books.specs.Booking.{fed}
 use Rattle.numbers.specs.Sums.{within}
 use Rattle.rules.specs.Day.{Event}
-use Rattle.whys.specs.Why.{Reason, refused, ended, running, notBooked, unfed, noProcessor, firstWaiting, lacks, unendedChild, why}
+use Rattle.whys.specs.Why.{Reason, refused, ended, running, not_booked, unfed, no_processor, first_waiting, lacks, unended_child, why}
 use Rattle.whys.specs.WhyHolds.{LackIsExact, NotBooked, Unfed, Says, precedence, ReasonHolds, EveryReasonHolds}
 use Rattle.books.proofs.EachStore.{each_same}
 use Rattle.numbers.proofs.Tests.{decide, clash, same_or_not, le-or-lt}
@@ -34,9 +34,9 @@ module _ (s : State) (i : ℕ) where
       only (refused k) h (inr e) = absurd (omega (arith, e.0))
       only ended h x = absurd (omega arith)
       only running h x = absurd (omega arith)
-      only (notBooked y lack) h x = absurd (omega arith)
+      only (not_booked y lack) h x = absurd (omega arith)
       only (unfed c) h x = absurd (omega arith)
-      only noProcessor h x = absurd (omega arith)
+      only no_processor h x = absurd (omega arith)
 
   refused-task : s.phase ≡ Phase.running → (Task s.size i → ⊥) → ReasonHolds s i (refused 4)
   refused-task runs none = record { says = inr (refl, none); first = only }
@@ -46,9 +46,9 @@ module _ (s : State) (i : ℕ) where
       only (refused k) h (inr e) = ap refused e.0
       only ended h x = absurd (omega arith)
       only running h x = absurd (omega arith)
-      only (notBooked y lack) h x = absurd (omega arith)
+      only (not_booked y lack) h x = absurd (omega arith)
       only (unfed c) h x = absurd (omega arith)
-      only noProcessor h x = absurd (omega arith)
+      only no_processor h x = absurd (omega arith)
 
 -- a task of a plan that runs
 module _ (s : State) {happened : List Event} (day : InDay s happened) (runs : s.phase ≡ Phase.running) (i : ℕ)
@@ -67,9 +67,9 @@ module _ (s : State) {happened : List Event} (day : InDay s happened) (runs : s.
       only (refused k) h x = absurd (not-refused k x)
       only ended h x = refl
       only running h x = absurd (omega arith)
-      only (notBooked y lack) h x = absurd (omega arith)
+      only (not_booked y lack) h x = absurd (omega arith)
       only (unfed c) h x = absurd (omega arith)
-      only noProcessor h x = absurd (omega arith)
+      only no_processor h x = absurd (omega arith)
 
   told-running : at s.standings i ≡ Standing.running → ReasonHolds s i running
   told-running e = record { says = e; first = only }
@@ -78,16 +78,16 @@ module _ (s : State) {happened : List Event} (day : InDay s happened) (runs : s.
       only (refused k) h x = absurd (not-refused k x)
       only ended h x = absurd (omega arith)
       only running h x = refl
-      only (notBooked y lack) h x = absurd (omega arith)
+      only (not_booked y lack) h x = absurd (omega arith)
       only (unfed c) h x = absurd (omega arith)
-      only noProcessor h x = absurd (omega arith)
+      only no_processor h x = absurd (omega arith)
 
   -- the first waiting task is one, and lacks one number of places
-  only-lack : {x y : ℕ} {l m : Each ℕ} → NotBooked s i x l → NotBooked s i y m → notBooked x l ≡ notBooked y m
+  only-lack : {x y : ℕ} {l m : Each ℕ} → NotBooked s i x l → NotBooked s i y m → not_booked x l ≡ not_booked y m
   only-lack {x} {y} {l} {m} a b =
       let same = first-waiting-one s.size (at s.parents) s.activation day.planned.valid (at s.standings) x y a.first b.first in
       let exact : LackIsExact s x (of m) = rw same b.exact in
-      ap₂ notBooked same (only-exact a.exact exact)
+      ap₂ not_booked same (only-exact a.exact exact)
     where
       only-exact : {x : ℕ} {l m : Each ℕ} → LackIsExact s x (of l) → LackIsExact s x (of m) → l ≡ m
       only-exact {x} {l} {m} a b =
@@ -98,11 +98,11 @@ module _ (s : State) {happened : List Event} (day : InDay s happened) (runs : s.
           omega arith)
 
   told-waiting :
-      at s.standings i ≡ Standing.waiting → ReasonHolds s i (notBooked (firstWaiting s) (lacks s (firstWaiting s)))
+      at s.standings i ≡ Standing.waiting → ReasonHolds s i (not_booked (first_waiting s) (lacks s (first_waiting s)))
   told-waiting e =
       let fw = first_found s day.planned going i task e in
-      let says : NotBooked s i (firstWaiting s) (lacks s (firstWaiting s)) =
-      record { asked = e; first = fw; exact = lack-exact s day.planned going (firstWaiting s) fw }
+      let says : NotBooked s i (first_waiting s) (lacks s (first_waiting s)) =
+      record { asked = e; first = fw; exact = lack-exact s day.planned going (first_waiting s) fw }
       in
       record { says = says; first = only says }
     where
@@ -110,47 +110,47 @@ module _ (s : State) {happened : List Event} (day : InDay s happened) (runs : s.
           {x : ℕ} {l : Each ℕ}
           → NotBooked s i x l
           → (other : Reason)
-          → precedence other ≤ precedence (notBooked x l)
+          → precedence other ≤ precedence (not_booked x l)
           → Says s i other
-          → other ≡ notBooked x l
+          → other ≡ not_booked x l
       only told (refused k) h x = absurd (not-refused k x)
       only told ended h x = absurd (omega arith)
       only told running h x = absurd (omega arith)
-      only told (notBooked y lack) h x = only-lack x told
+      only told (not_booked y lack) h x = only-lack x told
       only told (unfed c) h x = absurd (omega arith)
-      only told noProcessor h x = absurd (omega arith)
+      only told no_processor h x = absurd (omega arith)
 
   told-unfed :
       at s.standings i ≡ Standing.activated
       → fed s.size (at s.parents) (at s.standings) i ≡ false
-      → ReasonHolds s i (unfed (unendedChild s i))
+      → ReasonHolds s i (unfed (unended_child s i))
   told-unfed e f = record { says = child-found s day.planned going i f; first = only (child-found s day.planned going i f) }
     where
       only : {c : ℕ} → Unfed s i c → (other : Reason) → precedence other ≤ precedence (unfed c) → Says s i other → other ≡ unfed c
       only told (refused k) h x = absurd (not-refused k x)
       only told ended h x = absurd (omega arith)
       only told running h x = absurd (omega arith)
-      only told (notBooked y lack) h x = absurd (let w = x.asked in omega arith)
+      only told (not_booked y lack) h x = absurd (let w = x.asked in omega arith)
       only {c} told (unfed d) h x =
           let low : d < c → ⊥ = λ h. x.unended (told.lowest d x.task h x.child) in
           let high : c < d → ⊥ = λ h. told.unended (x.lowest c told.task h told.child) in
           let same : d ≡ c = omega arith in
           ap unfed same
-      only told noProcessor h x = absurd (omega arith)
+      only told no_processor h x = absurd (omega arith)
 
   told-no-processor :
       at s.standings i ≡ Standing.activated
       → fed s.size (at s.parents) (at s.standings) i ≡ true
-      → ReasonHolds s i noProcessor
+      → ReasonHolds s i no_processor
   told-no-processor e f = record { says = all-taken s day.planned going i task e f; first = only }
     where
-      only : (other : Reason) → precedence other ≤ precedence noProcessor → Says s i other → other ≡ noProcessor
+      only : (other : Reason) → precedence other ≤ precedence no_processor → Says s i other → other ≡ no_processor
       only (refused k) h x = absurd (not-refused k x)
       only ended h x = absurd (omega arith)
       only running h x = absurd (omega arith)
-      only (notBooked y lack) h x = absurd (let w = x.asked in omega arith)
+      only (not_booked y lack) h x = absurd (let w = x.asked in omega arith)
       only (unfed c) h x = absurd (no-child s day.planned going i c f x)
-      only noProcessor h x = refl
+      only no_processor h x = refl
 
   -- one of them is told
   told : ReasonHolds s i (why s i)

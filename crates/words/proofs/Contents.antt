@@ -13,9 +13,9 @@ use Rattle.books.specs.Kind
 use Rattle.numbers.specs.Lists.{at}
 use Rattle.numbers.proofs.Tests.{same_or_not}
 use Rattle.books.proofs.EachStore.{of-each}
-use Rattle.words.specs.Layout.{row, rows, words, headBase, entries, activationBase, executionBase, blocks, readyBase, filledWord, offset}
+use Rattle.words.specs.Layout.{row, rows, words, head_base, entries, activation_base, execution_base, blocks, ready_base, filled_word, offset}
 use Rattle.words.specs.Views.{column, part}
-use Rattle.words.specs.Contents.{Contents, headWord, storeContents, contents, renewed, edited, storeWithCell, withCell, storeWithHead, with_head, withOrders, withReady}
+use Rattle.words.specs.Contents.{Contents, head_word, store_contents, contents, renewed, edited, store_with_cell, with_cell, store_with_head, with_head, with_orders, with_ready}
 use Rattle.words.proofs.Views.{view-other, column-length, column-set, part_length, part-set}
 
 -- the columns of a store are in the row
@@ -36,23 +36,23 @@ module _ (w : List ℕ) (long : length w ≡ words) (j i x : ℕ) (in_row : j < 
       ∙ sym (ap (λ (b : Bool). cond b (set (column k w) i x) (column k w)) (ne_eqb k j d)))
       (same_or_not k j)
 
-  beside-rows : (base count : ℕ) → headBase ≤ base → part base count (set w (row * i + j) x) ≡ part base count w
+  beside-rows : (base count : ℕ) → head_base ≤ base → part base count (set w (row * i + j) x) ≡ part base count w
   beside-rows base count h = view-other count (λ m. base + m) w (row * i + j) x (λ m _ f. omega arith)
 
-  word-beside : (q : ℕ) → headBase ≤ q → at (set w (row * i + j) x) q ≡ at w q
+  word-beside : (q : ℕ) → head_base ≤ q → at (set w (row * i + j) x) q ≡ at w q
   word-beside q h = get_or-set_other w (row * i + j) q x 0 (λ e. omega arith)
 
   store-cell :
       (store : ℕ)
       → store + 5 ≤ row
-      → storeContents store (set w (row * i + j) x) ≡ storeWithCell store j i x (storeContents store w)
-  unfolding storeContents storeWithCell
+      → store_contents store (set w (row * i + j) x) ≡ store_with_cell store j i x (store_contents store w)
+  unfolding store_contents store_with_cell
   store-cell store h =
       λ z.
       record {
-        bound = word-beside (headBase + store) (omega arith) z;
-        total = word-beside (headBase + (store + 1)) (omega arith) z;
-        used = word-beside (headBase + (store + 2)) (omega arith) z;
+        bound = word-beside (head_base + store) (omega arith) z;
+        total = word-beside (head_base + (store + 1)) (omega arith) z;
+        used = word-beside (head_base + (store + 2)) (omega arith) z;
         works = column-edited store (omega arith) z;
         outs = column-edited (store + 1) (omega arith) z;
         needs = column-edited (store + 2) (omega arith) z;
@@ -60,58 +60,58 @@ module _ (w : List ℕ) (long : length w ≡ words) (j i x : ℕ) (in_row : j < 
         figures = column-edited (store + 4) (omega arith) z;
       }
 
-  pub contents-cell : contents (set w (row * i + j) x) ≡ withCell j i x (contents w)
-  unfolding contents withCell
+  pub contents-cell : contents (set w (row * i + j) x) ≡ with_cell j i x (contents w)
+  unfolding contents with_cell
   contents-cell =
       λ z.
       record {
         extent = length-set w (row * i + j) x z;
-        phase = word-beside headBase (omega arith) z;
-        size = word-beside (headBase + 1) (omega arith) z;
-        processors = word-beside (headBase + 2) (omega arith) z;
-        given = word-beside (headBase + 3) (omega arith) z;
-        ranked = word-beside (headBase + 4) (omega arith) z;
-        placed = word-beside (headBase + 8) (omega arith) z;
-        next = word-beside (headBase + 9) (omega arith) z;
-        active = word-beside (headBase + 13) (omega arith) z;
-        ended = word-beside (headBase + 14) (omega arith) z;
+        phase = word-beside head_base (omega arith) z;
+        size = word-beside (head_base + 1) (omega arith) z;
+        processors = word-beside (head_base + 2) (omega arith) z;
+        given = word-beside (head_base + 3) (omega arith) z;
+        ranked = word-beside (head_base + 4) (omega arith) z;
+        placed = word-beside (head_base + 8) (omega arith) z;
+        next = word-beside (head_base + 9) (omega arith) z;
+        active = word-beside (head_base + 13) (omega arith) z;
+        ended = word-beside (head_base + 14) (omega arith) z;
         parents = column-edited 0 (omega arith) z;
         ranks = column-edited 1 (omega arith) z;
         places = column-edited 2 (omega arith) z;
         unended = column-edited 3 (omega arith) z;
         standings = column-edited 4 (omega arith) z;
         stores = each (λ k. store-cell (offset k) (offset-in k) z);
-        activation = beside-rows activationBase entries (omega arith) z;
-        execution = beside-rows executionBase entries (omega arith) z;
-        ready = beside-rows readyBase blocks (omega arith) z;
-        filled = word-beside filledWord (omega arith) z;
+        activation = beside-rows activation_base entries (omega arith) z;
+        execution = beside-rows execution_base entries (omega arith) z;
+        ready = beside-rows ready_base blocks (omega arith) z;
+        filled = word-beside filled_word (omega arith) z;
       }
 
 -- a word of the head is written
 module _ (w : List ℕ) (long : length w ≡ words) (j x : ℕ) (in_row : j < row) where
-  word-renewed : (k : ℕ) → headWord k (set w (headBase + j) x) ≡ renewed k j x (headWord k w)
+  word-renewed : (k : ℕ) → head_word k (set w (head_base + j) x) ≡ renewed k j x (head_word k w)
   word-renewed k =
       ⊎_elim
       (λ (e : k ≡ j).
-      ap (λ (m : ℕ). headWord k (set w (headBase + m) x)) (sym e)
-      ∙ get_or-set_same w (headBase + k) x 0 (omega arith)
-      ∙ sym (ap (λ (b : Bool). cond b x (headWord k w)) (eq-eqb k j e)))
+      ap (λ (m : ℕ). head_word k (set w (head_base + m) x)) (sym e)
+      ∙ get_or-set_same w (head_base + k) x 0 (omega arith)
+      ∙ sym (ap (λ (b : Bool). cond b x (head_word k w)) (eq-eqb k j e)))
       (λ d.
-      get_or-set_other w (headBase + j) (headBase + k) x 0 (λ e. d (omega arith))
-      ∙ sym (ap (λ (b : Bool). cond b x (headWord k w)) (ne_eqb k j d)))
+      get_or-set_other w (head_base + j) (head_base + k) x 0 (λ e. d (omega arith))
+      ∙ sym (ap (λ (b : Bool). cond b x (head_word k w)) (ne_eqb k j d)))
       (same_or_not k j)
 
-  column-beside-head : (k : ℕ) → k < row → column k (set w (headBase + j) x) ≡ column k w
-  column-beside-head k h = view-other rows (λ m. row * m + k) w (headBase + j) x (λ m b f. omega arith)
+  column-beside-head : (k : ℕ) → k < row → column k (set w (head_base + j) x) ≡ column k w
+  column-beside-head k h = view-other rows (λ m. row * m + k) w (head_base + j) x (λ m b f. omega arith)
 
-  part-beside-head : (base count : ℕ) → activationBase ≤ base → part base count (set w (headBase + j) x) ≡ part base count w
-  part-beside-head base count h = view-other count (λ m. base + m) w (headBase + j) x (λ m _ f. omega arith)
+  part-beside-head : (base count : ℕ) → activation_base ≤ base → part base count (set w (head_base + j) x) ≡ part base count w
+  part-beside-head base count h = view-other count (λ m. base + m) w (head_base + j) x (λ m _ f. omega arith)
 
   store-head :
       (store : ℕ)
       → store + 5 ≤ row
-      → storeContents store (set w (headBase + j) x) ≡ storeWithHead store j x (storeContents store w)
-  unfolding storeContents storeWithHead
+      → store_contents store (set w (head_base + j) x) ≡ store_with_head store j x (store_contents store w)
+  unfolding store_contents store_with_head
   store-head store h =
       λ z.
       record {
@@ -125,12 +125,12 @@ module _ (w : List ℕ) (long : length w ≡ words) (j x : ℕ) (in_row : j < ro
         figures = column-beside-head (store + 4) (omega arith) z;
       }
 
-  pub contents-head : contents (set w (headBase + j) x) ≡ with_head j x (contents w)
+  pub contents-head : contents (set w (head_base + j) x) ≡ with_head j x (contents w)
   unfolding contents with_head
   contents-head =
       λ z.
       record {
-        extent = length-set w (headBase + j) x z;
+        extent = length-set w (head_base + j) x z;
         phase = word-renewed 0 z;
         size = word-renewed 1 z;
         processors = word-renewed 2 z;
@@ -146,22 +146,22 @@ module _ (w : List ℕ) (long : length w ≡ words) (j x : ℕ) (in_row : j < ro
         unended = column-beside-head 3 (omega arith) z;
         standings = column-beside-head 4 (omega arith) z;
         stores = each (λ k. store-head (offset k) (offset-in k) z);
-        activation = part-beside-head activationBase entries (omega arith) z;
-        execution = part-beside-head executionBase entries (omega arith) z;
-        ready = part-beside-head readyBase blocks (omega arith) z;
-        filled = get_or-set_other w (headBase + j) filledWord x 0 (λ e. omega arith) z;
+        activation = part-beside-head activation_base entries (omega arith) z;
+        execution = part-beside-head execution_base entries (omega arith) z;
+        ready = part-beside-head ready_base blocks (omega arith) z;
+        filled = get_or-set_other w (head_base + j) filled_word x 0 (λ e. omega arith) z;
       }
 
 -- a word behind the rows is written
-module _ (w : List ℕ) (q x : ℕ) (behind : activationBase ≤ q) where
-  word-before : (k : ℕ) → k < row → headWord k (set w q x) ≡ headWord k w
-  word-before k h = get_or-set_other w q (headBase + k) x 0 (λ e. omega arith)
+module _ (w : List ℕ) (q x : ℕ) (behind : activation_base ≤ q) where
+  word-before : (k : ℕ) → k < row → head_word k (set w q x) ≡ head_word k w
+  word-before k h = get_or-set_other w q (head_base + k) x 0 (λ e. omega arith)
 
   column-before : (k : ℕ) → k < row → column k (set w q x) ≡ column k w
   column-before k h = view-other rows (λ m. row * m + k) w q x (λ m b f. omega arith)
 
-  store-before : (store : ℕ) → store + 5 ≤ row → storeContents store (set w q x) ≡ storeContents store w
-  unfolding storeContents
+  store-before : (store : ℕ) → store + 5 ≤ row → store_contents store (set w q x) ≡ store_contents store w
+  unfolding store_contents
   store-before store h =
       λ z.
       record {
@@ -177,9 +177,9 @@ module _ (w : List ℕ) (q x : ℕ) (behind : activationBase ≤ q) where
 
   contents-behind :
       contents (set w q x)
-      ≡ withReady (part readyBase blocks (set w q x)) (at (set w q x) filledWord)
-      (withOrders (part activationBase entries (set w q x)) (part executionBase entries (set w q x)) (contents w))
-  unfolding contents withReady withOrders
+      ≡ with_ready (part ready_base blocks (set w q x)) (at (set w q x) filled_word)
+      (with_orders (part activation_base entries (set w q x)) (part execution_base entries (set w q x)) (contents w))
+  unfolding contents with_ready with_orders
   contents-behind =
       λ z.
       record {
@@ -199,10 +199,10 @@ module _ (w : List ℕ) (q x : ℕ) (behind : activationBase ≤ q) where
         unended = column-before 3 (omega arith) z;
         standings = column-before 4 (omega arith) z;
         stores = each (λ k. store-before (offset k) (offset-in k) z);
-        activation = part activationBase entries (set w q x);
-        execution = part executionBase entries (set w q x);
-        ready = part readyBase blocks (set w q x);
-        filled = at (set w q x) filledWord;
+        activation = part activation_base entries (set w q x);
+        execution = part execution_base entries (set w q x);
+        ready = part ready_base blocks (set w q x);
+        filled = at (set w q x) filled_word;
       }
 
 module _ (w : List ℕ) (long : length w ≡ words) (e x : ℕ) where
@@ -215,56 +215,56 @@ module _ (w : List ℕ) (long : length w ≡ words) (e x : ℕ) where
   -- an entry of the activation order
   pub contents-activation :
       e < entries
-      → contents (set w (activationBase + e) x) ≡ withOrders (set (contents w).activation e x) (contents w).execution (contents w)
-  unfolding contents withOrders withReady
+      → contents (set w (activation_base + e) x) ≡ with_orders (set (contents w).activation e x) (contents w).execution (contents w)
+  unfolding contents with_orders with_ready
   contents-activation h =
-      contents-behind w (activationBase + e) x (omega arith)
+      contents-behind w (activation_base + e) x (omega arith)
       ∙ (λ z.
-      withReady (other-part readyBase blocks (activationBase + e) (inl (omega arith)) z)
-      (get_or-set_other w (activationBase + e) filledWord x 0 (λ f. omega arith) z)
-      (withOrders (part-set activationBase entries w e x h (omega arith) z)
-      (other-part executionBase entries (activationBase + e) (inl (omega arith)) z) (contents w)))
+      with_ready (other-part ready_base blocks (activation_base + e) (inl (omega arith)) z)
+      (get_or-set_other w (activation_base + e) filled_word x 0 (λ f. omega arith) z)
+      (with_orders (part-set activation_base entries w e x h (omega arith) z)
+      (other-part execution_base entries (activation_base + e) (inl (omega arith)) z) (contents w)))
 
   -- an entry of the execution order
   pub contents-execution :
       e < entries
-      → contents (set w (executionBase + e) x) ≡ withOrders (contents w).activation (set (contents w).execution e x) (contents w)
-  unfolding contents withOrders withReady
+      → contents (set w (execution_base + e) x) ≡ with_orders (contents w).activation (set (contents w).execution e x) (contents w)
+  unfolding contents with_orders with_ready
   contents-execution h =
-      contents-behind w (executionBase + e) x (omega arith)
+      contents-behind w (execution_base + e) x (omega arith)
       ∙ (λ z.
-      withReady (other-part readyBase blocks (executionBase + e) (inl (omega arith)) z)
-      (get_or-set_other w (executionBase + e) filledWord x 0 (λ f. omega arith) z)
-      (withOrders (other-part activationBase entries (executionBase + e) (inr (omega arith)) z)
-      (part-set executionBase entries w e x h (omega arith) z) (contents w)))
+      with_ready (other-part ready_base blocks (execution_base + e) (inl (omega arith)) z)
+      (get_or-set_other w (execution_base + e) filled_word x 0 (λ f. omega arith) z)
+      (with_orders (other-part activation_base entries (execution_base + e) (inr (omega arith)) z)
+      (part-set execution_base entries w e x h (omega arith) z) (contents w)))
 
   -- a word of the ready set
   pub contents-ready :
       e < blocks
-      → contents (set w (readyBase + e) x) ≡ withReady (set (contents w).ready e x) (contents w).filled (contents w)
-  unfolding contents withOrders withReady
+      → contents (set w (ready_base + e) x) ≡ with_ready (set (contents w).ready e x) (contents w).filled (contents w)
+  unfolding contents with_orders with_ready
   contents-ready h =
-      contents-behind w (readyBase + e) x (omega arith)
+      contents-behind w (ready_base + e) x (omega arith)
       ∙ (λ z.
-      withReady (part-set readyBase blocks w e x h (omega arith) z)
-      (get_or-set_other w (readyBase + e) filledWord x 0 (λ f. omega arith) z)
-      (withOrders (other-part activationBase entries (readyBase + e) (inr (omega arith)) z)
-      (other-part executionBase entries (readyBase + e) (inr (omega arith)) z) (contents w)))
+      with_ready (part-set ready_base blocks w e x h (omega arith) z)
+      (get_or-set_other w (ready_base + e) filled_word x 0 (λ f. omega arith) z)
+      (with_orders (other-part activation_base entries (ready_base + e) (inr (omega arith)) z)
+      (other-part execution_base entries (ready_base + e) (inr (omega arith)) z) (contents w)))
 
 -- the word that says which words of the ready set are not 0
 pub contents-filled :
     (w : List ℕ)
     → length w ≡ words
     → (x : ℕ)
-    → contents (set w filledWord x) ≡ withReady (contents w).ready x (contents w)
-unfolding contents withOrders withReady
+    → contents (set w filled_word x) ≡ with_ready (contents w).ready x (contents w)
+unfolding contents with_orders with_ready
 contents-filled w long x =
-    contents-behind w filledWord x (omega arith)
+    contents-behind w filled_word x (omega arith)
     ∙ (λ z.
-    withReady (other-part w long 0 x readyBase blocks filledWord (inr (omega arith)) z)
-    (get_or-set_same w filledWord x 0 (omega arith) z)
-    (withOrders (other-part w long 0 x activationBase entries filledWord (inr (omega arith)) z)
-    (other-part w long 0 x executionBase entries filledWord (inr (omega arith)) z) (contents w)))
+    with_ready (other-part w long 0 x ready_base blocks filled_word (inr (omega arith)) z)
+    (get_or-set_same w filled_word x 0 (omega arith) z)
+    (with_orders (other-part w long 0 x activation_base entries filled_word (inr (omega arith)) z)
+    (other-part w long 0 x execution_base entries filled_word (inr (omega arith)) z) (contents w)))
 
 -- the lengths of the columns and of the parts
 pub record Lengths (c : Contents) : Type 0 where
@@ -283,7 +283,7 @@ pub record Lengths (c : Contents) : Type 0 where
   pub ready : length c.ready ≡ blocks
 
 pub lengths : (w : List ℕ) → Lengths (contents w)
-unfolding contents storeContents
+unfolding contents store_contents
 lengths w =
     record {
       parents = column-length 0 w;
@@ -291,14 +291,14 @@ lengths w =
       places = column-length 2 w;
       unended = column-length 3 w;
       standings = column-length 4 w;
-      works = λ k. rw (of-each (λ d. storeContents (offset d) w) k) (column-length (offset k) w);
-      outs = λ k. rw (of-each (λ d. storeContents (offset d) w) k) (column-length (offset k + 1) w);
-      needs = λ k. rw (of-each (λ d. storeContents (offset d) w) k) (column-length (offset k + 2) w);
-      booked = λ k. rw (of-each (λ d. storeContents (offset d) w) k) (column-length (offset k + 3) w);
-      figures = λ k. rw (of-each (λ d. storeContents (offset d) w) k) (column-length (offset k + 4) w);
-      activation = part_length activationBase entries w;
-      execution = part_length executionBase entries w;
-      ready = part_length readyBase blocks w;
+      works = λ k. rw (of-each (λ d. store_contents (offset d) w) k) (column-length (offset k) w);
+      outs = λ k. rw (of-each (λ d. store_contents (offset d) w) k) (column-length (offset k + 1) w);
+      needs = λ k. rw (of-each (λ d. store_contents (offset d) w) k) (column-length (offset k + 2) w);
+      booked = λ k. rw (of-each (λ d. store_contents (offset d) w) k) (column-length (offset k + 3) w);
+      figures = λ k. rw (of-each (λ d. store_contents (offset d) w) k) (column-length (offset k + 4) w);
+      activation = part_length activation_base entries w;
+      execution = part_length execution_base entries w;
+      ready = part_length ready_base blocks w;
     }
 
 -- a word was written, by what a contract says of it; the number of words stays
@@ -308,7 +308,7 @@ pub wrote-cell :
     → j < row
     → i < rows
     → w' ≡ set w (row * i + j) x
-    → (contents w' ≡ withCell j i x (contents w)) × (length w' ≡ words)
+    → (contents w' ≡ with_cell j i x (contents w)) × (length w' ≡ words)
 wrote-cell w j i x long h b e =
     (ap contents e ∙ contents-cell w long j i x h b, ap length e ∙ length-set w (row * i + j) x ∙ long)
 
@@ -316,7 +316,7 @@ pub wrote-head :
     (w : List ℕ) {w' : List ℕ} (j x : ℕ)
     → length w ≡ words
     → j < row
-    → w' ≡ set w (headBase + j) x
+    → w' ≡ set w (head_base + j) x
     → (contents w' ≡ with_head j x (contents w)) × (length w' ≡ words)
 wrote-head w j x long h e =
-    (ap contents e ∙ contents-head w long j x h, ap length e ∙ length-set w (headBase + j) x ∙ long)
+    (ap contents e ∙ contents-head w long j x h, ap length e ∙ length-set w (head_base + j) x ∙ long)

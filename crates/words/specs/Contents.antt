@@ -2,7 +2,7 @@
 use Rattle.std.specs.Prelude.{cond, List, ℕ, ◌+◌, eqb, length, set}
 use Rattle.books.specs.Kind.{Each, of, each}
 use Rattle.numbers.specs.Lists.{at}
-use Rattle.words.specs.Layout.{headBase, entries, activationBase, executionBase, blocks, readyBase, filledWord, offset}
+use Rattle.words.specs.Layout.{head_base, entries, activation_base, execution_base, blocks, ready_base, filled_word, offset}
 use Rattle.words.specs.Views.{column, part}
 
 -- of a store: its bound, what is booked and what is in use of it, and its columns
@@ -46,15 +46,15 @@ pub record Contents : Type 0 where
   pub filled : ℕ
 
 -- a word of the head
-abbrev pub headWord : ℕ → List ℕ → ℕ
-headWord k w = at w (headBase + k)
+abbrev pub head_word : ℕ → List ℕ → ℕ
+head_word k w = at w (head_base + k)
 
-unfoldable pub storeContents : ℕ → List ℕ → StoreContents
-storeContents store w =
+unfoldable pub store_contents : ℕ → List ℕ → StoreContents
+store_contents store w =
     record {
-      bound = headWord store w;
-      total = headWord (store + 1) w;
-      used = headWord (store + 2) w;
+      bound = head_word store w;
+      total = head_word (store + 1) w;
+      used = head_word (store + 2) w;
       works = column store w;
       outs = column (store + 1) w;
       needs = column (store + 2) w;
@@ -66,25 +66,25 @@ unfoldable pub contents : List ℕ → Contents
 contents w =
     record {
       extent = length w;
-      phase = headWord 0 w;
-      size = headWord 1 w;
-      processors = headWord 2 w;
-      given = headWord 3 w;
-      ranked = headWord 4 w;
-      placed = headWord 8 w;
-      next = headWord 9 w;
-      active = headWord 13 w;
-      ended = headWord 14 w;
+      phase = head_word 0 w;
+      size = head_word 1 w;
+      processors = head_word 2 w;
+      given = head_word 3 w;
+      ranked = head_word 4 w;
+      placed = head_word 8 w;
+      next = head_word 9 w;
+      active = head_word 13 w;
+      ended = head_word 14 w;
       parents = column 0 w;
       ranks = column 1 w;
       places = column 2 w;
       unended = column 3 w;
       standings = column 4 w;
-      stores = each (λ k. storeContents (offset k) w);
-      activation = part activationBase entries w;
-      execution = part executionBase entries w;
-      ready = part readyBase blocks w;
-      filled = at w filledWord;
+      stores = each (λ k. store_contents (offset k) w);
+      activation = part activation_base entries w;
+      execution = part execution_base entries w;
+      ready = part ready_base blocks w;
+      filled = at w filled_word;
     }
 
 -- the new value where the numbers of two words are the same, and what was there elsewhere
@@ -95,8 +95,8 @@ abbrev pub edited : ℕ → ℕ → ℕ → ℕ → List ℕ → List ℕ
 edited k j i x old = cond (eqb k j) (set old i x) old
 
 -- after word j of row i of a task was written
-unfoldable pub storeWithCell : ℕ → ℕ → ℕ → ℕ → StoreContents → StoreContents
-storeWithCell store j i x c =
+unfoldable pub store_with_cell : ℕ → ℕ → ℕ → ℕ → StoreContents → StoreContents
+store_with_cell store j i x c =
     record {
       bound = c.bound;
       total = c.total;
@@ -108,8 +108,8 @@ storeWithCell store j i x c =
       figures = edited (store + 4) j i x c.figures;
     }
 
-unfoldable pub withCell : ℕ → ℕ → ℕ → Contents → Contents
-withCell j i x c =
+unfoldable pub with_cell : ℕ → ℕ → ℕ → Contents → Contents
+with_cell j i x c =
     record {
       extent = c.extent;
       phase = c.phase;
@@ -126,7 +126,7 @@ withCell j i x c =
       places = edited 2 j i x c.places;
       unended = edited 3 j i x c.unended;
       standings = edited 4 j i x c.standings;
-      stores = each (λ k. storeWithCell (offset k) j i x (of c.stores k));
+      stores = each (λ k. store_with_cell (offset k) j i x (of c.stores k));
       activation = c.activation;
       execution = c.execution;
       ready = c.ready;
@@ -134,8 +134,8 @@ withCell j i x c =
     }
 
 -- after word j of the head was written
-unfoldable pub storeWithHead : ℕ → ℕ → ℕ → StoreContents → StoreContents
-storeWithHead store j x c =
+unfoldable pub store_with_head : ℕ → ℕ → ℕ → StoreContents → StoreContents
+store_with_head store j x c =
     record {
       bound = renewed store j x c.bound;
       total = renewed (store + 1) j x c.total;
@@ -165,7 +165,7 @@ with_head j x c =
       places = c.places;
       unended = c.unended;
       standings = c.standings;
-      stores = each (λ k. storeWithHead (offset k) j x (of c.stores k));
+      stores = each (λ k. store_with_head (offset k) j x (of c.stores k));
       activation = c.activation;
       execution = c.execution;
       ready = c.ready;
@@ -173,8 +173,8 @@ with_head j x c =
     }
 
 -- after words behind the rows were written: other orders, another ready set
-unfoldable pub withOrders : List ℕ → List ℕ → Contents → Contents
-withOrders activation execution c =
+unfoldable pub with_orders : List ℕ → List ℕ → Contents → Contents
+with_orders activation execution c =
     record {
       extent = c.extent;
       phase = c.phase;
@@ -198,8 +198,8 @@ withOrders activation execution c =
       filled = c.filled;
     }
 
-unfoldable pub withReady : List ℕ → ℕ → Contents → Contents
-withReady ready filled c =
+unfoldable pub with_ready : List ℕ → ℕ → Contents → Contents
+with_ready ready filled c =
     record {
       extent = c.extent;
       phase = c.phase;

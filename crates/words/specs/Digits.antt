@@ -8,6 +8,6 @@ digits f zero = 0
 digits f (suc count) = only (f 0) 1 + 2 * digits (λ k. f (suc k)) count
 
 -- the first place below the count where f holds, or the count
-unfoldable pub firstIn : (ℕ → Bool) → ℕ → ℕ
-firstIn f zero = 0
-firstIn f (suc count) = cond (f 0) 0 (suc (firstIn (λ k. f (suc k)) count))
+unfoldable pub first_in : (ℕ → Bool) → ℕ → ℕ
+first_in f zero = 0
+first_in f (suc count) = cond (f 0) 0 (suc (first_in (λ k. f (suc k)) count))

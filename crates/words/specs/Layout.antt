@@ -11,18 +11,18 @@ row = 16
 abbrev pub rows : ℕ
 rows = 1025
 
-abbrev pub headBase : ℕ
-headBase = 16400
+abbrev pub head_base : ℕ
+head_base = 16400
 
 -- an order has an entry for each task
 abbrev pub entries : ℕ
 entries = 1024
 
-abbrev pub activationBase : ℕ
-activationBase = 16416
+abbrev pub activation_base : ℕ
+activation_base = 16416
 
-abbrev pub executionBase : ℕ
-executionBase = 17440
+abbrev pub execution_base : ℕ
+execution_base = 17440
 
 -- the ready set: a bit for each place of the execution order, and a word that says which of its words are not 0
 abbrev pub bits : ℕ
@@ -31,11 +31,11 @@ bits = 32
 abbrev pub blocks : ℕ
 blocks = 32
 
-abbrev pub readyBase : ℕ
-readyBase = 18464
+abbrev pub ready_base : ℕ
+ready_base = 18464
 
-abbrev pub filledWord : ℕ
-filledWord = 18496
+abbrev pub filled_word : ℕ
+filled_word = 18496
 
 -- all words
 abbrev pub words : ℕ

@@ -2,8 +2,8 @@
 use Rattle.std.specs.Prelude.{◌≡◌, Bool, not, cond, ℕ, ◌+◌, ◌*◌, ◌<◌, eqb, ltb}
 use Rattle.numbers.specs.Lists.{at}
 use Rattle.words.specs.Layout.{words, entries, bits, blocks}
-use Rattle.words.specs.Contents.{Contents, withReady}
-use Rattle.words.specs.Digits.{digits, firstIn}
+use Rattle.words.specs.Contents.{Contents, with_ready}
+use Rattle.words.specs.Digits.{digits, first_in}
 
 pub record Marks (test : ℕ → Bool) (c : Contents) : Type 0 where
   pub marked : (q : ℕ) → q < blocks → at c.ready q ≡ digits (λ k. test (bits * q + k)) bits
@@ -23,13 +23,13 @@ pub record MayChange (place : ℕ) (b : Bool) (c : Contents) : Type 0 where
 
 -- the set is another one then, by any test that tells what it was; nothing else changes
 pub record Changed (place : ℕ) (b : Bool) (c c' : Contents) : Type 0 where
-  pub same : c' ≡ withReady c'.ready c'.filled c
+  pub same : c' ≡ with_ready c'.ready c'.filled c
   pub marks : (test : ℕ → Bool) → Marks test c → test place ≡ not b → Marks (changed test place b) c'
 
 -- the first place of the set, or `none` where it is empty
 pub record FirstMarked (none : ℕ) (c : Contents) (r : ℕ) : Type 0 where
   pub first :
-      (test : ℕ → Bool) → Marks test c → r ≡ cond (ltb (firstIn test entries) entries) (firstIn test entries) none
+      (test : ℕ → Bool) → Marks test c → r ≡ cond (ltb (first_in test entries) entries) (first_in test entries) none
 
 -- the words are those of some set
 pub record Marked (c : Contents) : Type 0 where

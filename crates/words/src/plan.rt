@@ -127,7 +127,7 @@ impl Plan {
 
     // Whether trays of a plan in that phase may lie in the cold room: from BEGIN to FETCH.
     pub fn holds_trays(phase: u32) -> bool
-        ensures { result ≡ Phase.holdsTrays phase }
+        ensures { result ≡ Phase.holds_trays phase }
     {
         if phase == Plan::RUNNING {
             return true;

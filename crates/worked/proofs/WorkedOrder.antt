@@ -10,26 +10,26 @@ use Rattle.format.specs.Command.{Command, plan, task, activation, begin}
 use Rattle.rules.specs.Day.{after}
 use Rattle.tree.specs.Tree.{Valid}
 use Rattle.rules.specs.Reachable.{Reachable}
-use Rattle.postorders.specs.Find.{found, findOrder}
-use Rattle.postorders.specs.FindHolds.{peakBy, Rooted}
-use Rattle.worked.specs.Marked.{ask, asks, inOrder, last, tasksA, planA, readyA, overA, planC}
+use Rattle.postorders.specs.Find.{found, find_order}
+use Rattle.postorders.specs.FindHolds.{peak_by, Rooted}
+use Rattle.worked.specs.Marked.{ask, asks, in_order, last, tasks_a, plan_a, ready_a, over_a, plan_c}
 use Rattle.worked.proofs.Computing.{computing}
 use Rattle.rules.proofs.Reaching.{reachable}
 use Rattle.postorders.proofs.Find.{test-reaches}
 
 -- plan A once its tasks are given, into a list with one entry more than is needed: equal ones by lower number
-pub found-A : findOrder (after none (asks (tasksA 7))) (replicate 4 99) ≡ record { number = 0; count = 3; list = 1 ∷ 2 ∷ 3 ∷ 99 ∷ [] }
-unfolding computing asks tasksA ask
+pub found-A : find_order (after none (asks (tasks_a 7))) (replicate 4 99) ≡ record { number = 0; count = 3; list = 1 ∷ 2 ∷ 3 ∷ 99 ∷ [] }
+unfolding computing asks tasks_a ask
 found-A = refl
 
 -- plan C: task 2 frees 2 of its peak of 3, and task 1 frees 1 of as much
-pub found-C : findOrder (after none (asks planC)) (replicate 5 99) ≡ record { number = 0; count = 4; list = 2 ∷ 1 ∷ 3 ∷ 4 ∷ 99 ∷ [] }
-unfolding computing asks planC inOrder ask
+pub found-C : find_order (after none (asks plan_c)) (replicate 5 99) ≡ record { number = 0; count = 4; list = 2 ∷ 1 ∷ 3 ∷ 4 ∷ 99 ∷ [] }
+unfolding computing asks plan_c in_order ask
 found-C = refl
 
 -- plan A once it is over, into a list that is just long enough
-pub found-over : findOrder (after none (asks overA)) (replicate 3 99) ≡ record { number = 0; count = 3; list = 1 ∷ 2 ∷ 3 ∷ [] }
-unfolding computing asks tasksA planA readyA overA inOrder ask
+pub found-over : find_order (after none (asks over_a)) (replicate 3 99) ≡ record { number = 0; count = 3; list = 1 ∷ 2 ∷ 3 ∷ [] }
+unfolding computing asks tasks_a plan_a ready_a over_a in_order ask
 found-over = refl
 
 -- task 1 leaves much, and task 2 takes much and leaves little
@@ -51,23 +51,23 @@ unfolding computing last asks uneven ask
 by-found = refl
 
 -- tasks with these parents
-unfoldable pub withParents : ℕ → List ℕ → List Command
-withParents n parents = plan n 1 0 ∷ map (λ parent. task parent 0 0) parents
+unfoldable pub with_parents : ℕ → List ℕ → List Command
+with_parents n parents = plan n 1 0 ∷ map (λ parent. task parent 0 0) parents
 
 -- the numbers that refuse, in their order: the last task is not given; two roots, and beside them a task that is its own parent; no root;
 -- two tasks that are each other's parent, whatever the list; and a list that is one entry short
 pub found-numbers :
-    map (λ parents. (findOrder (after none (asks (withParents 4 parents))) (replicate 3 99)).number)
+    map (λ parents. (find_order (after none (asks (with_parents 4 parents))) (replicate 3 99)).number)
     ((0 ∷ 0 ∷ 3 ∷ []) ∷ (0 ∷ 0 ∷ 3 ∷ 1 ∷ []) ∷ (2 ∷ 3 ∷ 4 ∷ 1 ∷ []) ∷ (0 ∷ 3 ∷ 2 ∷ 1 ∷ []) ∷ (0 ∷ 1 ∷ 2 ∷ 3 ∷ []) ∷ [])
     ≡ 3 ∷ 7 ∷ 7 ∷ 12 ∷ 11 ∷ []
-unfolding computing asks withParents ask
+unfolding computing asks with_parents ask
 found-numbers = refl
 
 -- a refusal leaves the list as it was
 pub found-short :
-    findOrder (after none (asks (withParents 4 (0 ∷ 1 ∷ 2 ∷ 3 ∷ [])))) (replicate 3 99)
+    find_order (after none (asks (with_parents 4 (0 ∷ 1 ∷ 2 ∷ 3 ∷ [])))) (replicate 3 99)
     ≡ record { number = 11; count = 0; list = replicate 3 99 }
-unfolding computing asks withParents ask
+unfolding computing asks with_parents ask
 found-short = refl
 
 -- two subtrees, each of which takes much at first and leaves little until its last task
@@ -91,7 +91,7 @@ Best =
     → Rooted s
     → (l : List ℕ)
     → Valid s.size (at s.parents) l
-    → peakBy s (found s) ≤ peakBy s l
+    → peak_by s (found s) ≤ peak_by s l
 
 -- "Orders that hop between subtrees may do better": 12 by number, and 16 by the order found
 pub not-best : Best → ⊥

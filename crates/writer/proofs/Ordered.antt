@@ -6,13 +6,13 @@ use Prim.Native.Nat.{ℕ, ◌+◌, ◌≤◌}
 use native.Mathlib.Omega.{arith}
 use lib.ListN.{take}
 use lib.Seq.{get_or-take, length-take-le}
-use Rattle.numbers.specs.Limits.{maxTasks}
+use Rattle.numbers.specs.Limits.{max_tasks}
 use Rattle.numbers.specs.Lists.{at, every}
 use Rattle.numbers.specs.Sums.{within}
-use Rattle.streams.specs.Instance.{instanceOf}
+use Rattle.streams.specs.Instance.{instance_of}
 use Rattle.tree.proofs.Orders.{within-task, mem-at, every-mem}
 use Rattle.streams.proofs.Instance.{Proper, proper}
-use Rattle.words.specs.Layout.{words, entries, activationBase, executionBase}
+use Rattle.words.specs.Layout.{words, entries, activation_base, execution_base}
 use Rattle.words.specs.Views.{part}
 use Rattle.words.specs.Contents.{contents}
 use Rattle.words.proofs.Views.{part_length, part_at}
@@ -24,7 +24,7 @@ use Rattle.writer.specs.Writing.{WholePlan, OrderAt}
 -- an order that lies from some word on
 order-at :
     (base : ℕ) (w : List ℕ)
-    → (contents w).size ≤ maxTasks
+    → (contents w).size ≤ max_tasks
     → base + entries ≤ words
     → every (λ i. within i (contents w).size) (take (contents w).size (part base entries w)) ≡ true
     → OrderAt base w
@@ -46,26 +46,26 @@ order-at base w small inside all =
     }
 
 module _ (w : List ℕ) (whole : WholePlan w) where
-  limits : Proper (instanceOf (plan_of w))
+  limits : Proper (instance_of (plan_of w))
   limits = proper (plan_of w) whole.valid.reached whole.whole
 
   -- all entries are given
-  pub activation-is : take (contents w).size (part activationBase entries w) ≡ (plan_of w).activation
+  pub activation-is : take (contents w).size (part activation_base entries w) ≡ (plan_of w).activation
   unfolding contents
   activation-is =
       ap (λ (k : ℕ). take k (contents w).activation)
       (sym limits.activation.whole ∙ ranked-length (contents w) whole.valid.sound (lengths w))
 
-  pub execution-is : take (contents w).size (part executionBase entries w) ≡ (plan_of w).execution
+  pub execution-is : take (contents w).size (part execution_base entries w) ≡ (plan_of w).execution
   unfolding contents
   execution-is =
       ap (λ (k : ℕ). take k (contents w).execution)
       (sym limits.execution.whole ∙ placed-length (contents w) whole.valid.sound (lengths w))
 
-  pub activation-at : OrderAt activationBase w
+  pub activation-at : OrderAt activation_base w
   activation-at =
-      order-at activationBase w whole.valid.sound.small (omega arith) (rw activation-is limits.activation.inside)
+      order-at activation_base w whole.valid.sound.small (omega arith) (rw activation-is limits.activation.inside)
 
-  pub execution-at : OrderAt executionBase w
+  pub execution-at : OrderAt execution_base w
   execution-at =
-      order-at executionBase w whole.valid.sound.small (omega arith) (rw execution-is limits.execution.inside)
+      order-at execution_base w whole.valid.sound.small (omega arith) (rw execution-is limits.execution.inside)

@@ -6,23 +6,23 @@ use native.Mathlib.Numerals.{add-one}
 use lib.ListN.{length, take}
 use Rattle.numbers.specs.Lists.{at}
 use Rattle.format.specs.Command.{Command, bytes}
-use Rattle.streams.specs.Instance.{Instance, task_of, tasksTo}
+use Rattle.streams.specs.Instance.{Instance, task_of, tasks_to}
 use Rattle.streams.proofs.Written.{bytes-append, bytes_one}
 use Rattle.put.specs.Put.{Put}
 use Rattle.put.proofs.Pieces.{◌then◌, turn}
 
 -- the tasks up to k, and the next
-tasks-grow : (m : Instance) (k : ℕ) → flat_map bytes (tasksTo m (k + 1)) ≡ flat_map bytes (tasksTo m k) ++ bytes (task_of m (k + 1))
-unfolding tasksTo
+tasks-grow : (m : Instance) (k : ℕ) → flat_map bytes (tasks_to m (k + 1)) ≡ flat_map bytes (tasks_to m k) ++ bytes (task_of m (k + 1))
+unfolding tasks_to
 tasks-grow m k =
     rw (add-one k)
-    (bytes-append (tasksTo m k) (task_of m (suc k) ∷ [])
-    ∙ ap (λ (l : List ℕ). flat_map bytes (tasksTo m k) ++ l) (bytes_one (task_of m (suc k))))
+    (bytes-append (tasks_to m k) (task_of m (suc k) ∷ [])
+    ∙ ap (λ (l : List ℕ). flat_map bytes (tasks_to m k) ++ l) (bytes_one (task_of m (suc k))))
 
 pub task-turn : (m : Instance) (k : ℕ) {place next end : ℕ} {before after last : List ℕ}
-    → Put (flat_map bytes (tasksTo m k)) place before after next
+    → Put (flat_map bytes (tasks_to m k)) place before after next
     → Put (bytes (task_of m (k + 1))) next after last end
-    → Put (flat_map bytes (tasksTo m (k + 1))) place before last end
+    → Put (flat_map bytes (tasks_to m (k + 1))) place before last end
 task-turn m k p q = rw (tasks-grow m k) (p then q)
 
 -- the entries of an order so far, and the next

@@ -1,11 +1,11 @@
 -- What the parts of the writer ask of the plan.
 use Rattle.std.specs.Prelude.{◌≡◌, true, cond, List, ℕ, ◌+◌, ◌≤◌, ◌<◌, eqb}
-use Rattle.numbers.specs.Limits.{maxTasks}
+use Rattle.numbers.specs.Limits.{max_tasks}
 use Rattle.numbers.specs.Sums.{Task}
 use Rattle.numbers.specs.Lists.{at}
 use Rattle.format.specs.Command.{Command, activation, execution}
 use Rattle.streams.specs.Write.{is_whole}
-use Rattle.words.specs.Layout.{words, entries, activationBase}
+use Rattle.words.specs.Layout.{words, entries, activation_base}
 use Rattle.words.specs.Contents.{contents}
 use Rattle.answer.specs.Meaning.{plan_of}
 use Rattle.answer.specs.ValidPlan.{ValidPlan}
@@ -17,14 +17,14 @@ pub record WholePlan (w : List ℕ) : Type 0 where
 
 pub record WholeTask (w : List ℕ) (task : ℕ) : Type 0 where
   pub plan : WholePlan w
-  pub is-task : Task (contents w).size task
+  pub is_task : Task (contents w).size task
 
 -- 03 or 04, by where its order begins in the words
-unfoldable pub nextIn : ℕ → ℕ → Command
-nextIn order i = cond (eqb order activationBase) (activation i) (execution i)
+unfoldable pub next_in : ℕ → ℕ → Command
+next_in order i = cond (eqb order activation_base) (activation i) (execution i)
 
 -- tasks stand from there on
 pub record OrderAt (order : ℕ) (w : List ℕ) : Type 0 where
-  pub small : (contents w).size ≤ maxTasks
+  pub small : (contents w).size ≤ max_tasks
   pub inside : order + entries ≤ words
-  pub tasks : (k : ℕ) → k < (contents w).size → at w (order + k) ≤ maxTasks
+  pub tasks : (k : ℕ) → k < (contents w).size → at w (order + k) ≤ max_tasks

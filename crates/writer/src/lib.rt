@@ -4,15 +4,15 @@
 ghost use Rattle.std.specs.Prelude.{◌≡◌, take};
 ghost use mathlib.Core.List.{map, flat_map};
 ghost use Rattle.format.specs.Command as rules;
-ghost use Rattle.streams.specs.Instance.{instanceOf, openingOf, task_of, tasksTo, written};
+ghost use Rattle.streams.specs.Instance.{instance_of, opening_of, task_of, tasks_to, written};
 ghost use Rattle.streams.specs.Write as writing;
 ghost use Rattle.words.specs.Layout.{entries};
 ghost use Rattle.words.specs.Views.{part};
 ghost use Rattle.words.specs.Contents.{contents};
-ghost use Rattle.answer.specs.Meaning.{plan_of, wroteOf};
+ghost use Rattle.answer.specs.Meaning.{plan_of, wrote_of};
 ghost use Rattle.answer.specs.ValidPlan.{ValidPlan};
 ghost use Rattle.put.specs.Put.{Put};
-ghost use Rattle.writer.specs.Writing.{WholePlan, WholeTask, nextIn, OrderAt};
+ghost use Rattle.writer.specs.Writing.{WholePlan, WholeTask, next_in, OrderAt};
 
 use answer::Wrote;
 use cells::{cell, entry};
@@ -37,7 +37,7 @@ fn is_whole(plan: &[u32; Plan::WORDS]) -> bool
 // PLAN, at the front of the list.
 fn write_opening(plan: &[u32; Plan::WORDS], list: &mut [u8]) -> usize
     requires { WholePlan plan.now }
-    ensures { Put (rules.bytes (openingOf (instanceOf (plan_of plan.now)))) 0 list.old list.new result }
+    ensures { Put (rules.bytes (opening_of (instance_of (plan_of plan.now)))) 0 list.old list.new result }
 {
     let n = cell(plan, Plan::HEAD, Plan::SIZE) as u16;
     let p = cell(plan, Plan::HEAD, Plan::PROCESSORS) as u8;
@@ -48,7 +48,7 @@ fn write_opening(plan: &[u32; Plan::WORDS], list: &mut [u8]) -> usize
 // STEP of a task.
 fn write_task(plan: &[u32; Plan::WORDS], task: usize, list: &mut [u8], place: usize) -> usize
     requires { WholeTask plan.now task }
-    ensures { Put (rules.bytes (task_of (instanceOf (plan_of plan.now)) task)) place list.old list.new result }
+    ensures { Put (rules.bytes (task_of (instance_of (plan_of plan.now)) task)) place list.old list.new result }
 {
     let parent = cell(plan, task, Plan::PARENT) as u16;
     let work = cell(plan, task, Plan::CHILLED + Plan::WORK) as u16;
@@ -59,7 +59,7 @@ fn write_task(plan: &[u32; Plan::WORDS], task: usize, list: &mut [u8], place: us
 // All tasks, by their numbers.
 fn write_tasks(plan: &[u32; Plan::WORDS], list: &mut [u8], place: usize) -> usize
     requires { WholePlan plan.now }
-    ensures { Put (flat_map rules.bytes (tasksTo (instanceOf (plan_of plan.now)) (plan_of plan.now).size))
+    ensures { Put (flat_map rules.bytes (tasks_to (instance_of (plan_of plan.now)) (plan_of plan.now).size))
         place list.old list.new result }
 {
     let n = cell(plan, Plan::HEAD, Plan::SIZE) as usize;
@@ -74,7 +74,7 @@ fn write_tasks(plan: &[u32; Plan::WORDS], list: &mut [u8], place: usize) -> usiz
 
 // 03 or 04, by where the order begins that a task is the next of.
 fn write_entry(order: usize, task: u16, list: &mut [u8], place: usize) -> usize
-    ensures { Put (rules.bytes (nextIn order task)) place list.old list.new result }
+    ensures { Put (rules.bytes (next_in order task)) place list.old list.new result }
 {
     if order == Plan::ACTIVATION {
         encode_activation(task, list, place)
@@ -86,7 +86,7 @@ fn write_entry(order: usize, task: u16, list: &mut [u8], place: usize) -> usize
 // All entries of an order.
 fn write_order(plan: &[u32; Plan::WORDS], order: usize, list: &mut [u8], place: usize) -> usize
     requires { OrderAt order plan.now }
-    ensures { Put (flat_map rules.bytes (map (nextIn order) (take (contents plan.now).size (part order entries plan.now))))
+    ensures { Put (flat_map rules.bytes (map (next_in order) (take (contents plan.now).size (part order entries plan.now))))
         place list.old list.new result }
 {
     let n = cell(plan, Plan::HEAD, Plan::SIZE) as usize;
@@ -103,7 +103,7 @@ fn write_order(plan: &[u32; Plan::WORDS], order: usize, list: &mut [u8], place: 
 // The four parts, one behind another.
 fn write_whole(plan: &[u32; Plan::WORDS], list: &mut [u8]) -> usize
     requires { WholePlan plan.now }
-    ensures { Put (written (instanceOf (plan_of plan.now))) 0 list.old list.new result }
+    ensures { Put (written (instance_of (plan_of plan.now))) 0 list.old list.new result }
 {
     let next = write_opening(plan, list);
     let next = write_tasks(plan, list, next);
@@ -115,7 +115,7 @@ fn write_whole(plan: &[u32; Plan::WORDS], list: &mut [u8]) -> usize
 // leaves the list untouched"
 pub fn write(plan: &[u32; Plan::WORDS], list: &mut [u8]) -> Wrote
     requires { ValidPlan plan.now }
-    ensures { wroteOf result list.new ≡ writing.write (plan_of plan.now) list.old }
+    ensures { wrote_of result list.new ≡ writing.write (plan_of plan.now) list.old }
 {
     if !is_whole(plan) {
         return Wrote::refused(3);

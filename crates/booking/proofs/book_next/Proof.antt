@@ -12,10 +12,10 @@ use Rattle.numbers.specs.Lists.{at}
 use Rattle.words.specs.Layout.{next}
 use Rattle.words.specs.Contents.{Contents, contents, with_head}
 use Rattle.words.proofs.Contents.{lengths, contents-head}
-use Rattle.store.specs.Store.{granted, withStore}
+use Rattle.store.specs.Store.{granted, with_store}
 use Rattle.store.proofs.InStore.{total-within}
-use Rattle.booking.specs.Booked.{DidActivate, allowsNext}
-use Rattle.booking.proofs.Booking.{nextTask, lacking, grantedNext, roomIn, next-in, tested, may-grant, may-activate, long-still, next-booked, next-read}
+use Rattle.booking.specs.Booked.{DidActivate, allows_next}
+use Rattle.booking.proofs.Booking.{next_task, lacking, granted_next, room_in, next-in, tested, may-grant, may-activate, long-still, next-booked, next-read}
 use Rattle.booking.proofs.book_next.Statement.{statement}
 use Rattle.booking.proofs.book_next.Tie as tie
 
@@ -26,7 +26,7 @@ more : (c : tie.Start) → (old c).next < (old c).size
 more c = let e = c.requires.here in let m = c.requires.more in omega arith
 
 -- what is read
-task-is : (c : tie.After-entry) → c.entry.result ≡ nextTask (old c.before.before)
+task-is : (c : tie.After-entry) → c.entry.result ≡ next_task (old c.before.before)
 task-is c = c.entry.ensures ∙ next-read c.before.before.args.plan.now c.before.before.args.next c.before.before.requires
 
 missing-requires : tie.Need-missing-requires
@@ -47,13 +47,13 @@ has-room-requires : tie.Need-has-room-requires
 has-room-requires c κs =
     let s = start c.before in (record { offset = refl; inside = omega arith }, total-within s.pre.kept Kind.chilled)
 
-room-is : (c : tie.After-has-room) → c.has_room.result ≡ roomIn (old (start c.before.before)) Kind.chilled
+room-is : (c : tie.After-has-room) → c.has_room.result ≡ room_in (old (start c.before.before)) Kind.chilled
 room-is c =
     let s = start c.before.before in
     c.has_room.ensures
     ∙ ap (λ (u : ℕ). leb ((old s).stores.chilled.total + u) (old s).stores.chilled.bound) (units-are c.before.before)
 
-tested-is : (c : tie.After-has-room) → c.has_room.result ≡ allowsNext (old (start c.before.before))
+tested-is : (c : tie.After-has-room) → c.has_room.result ≡ allows_next (old (start c.before.before))
 unfolding all
 tested-is c =
     let s = start c.before.before in
@@ -71,7 +71,7 @@ returns c =
 abbrev begin : tie.Else1 → tie.Start
 begin c = start c.before.before.before
 
-fits : (c : tie.Else1) → all (roomIn (old (begin c))) ≡ true
+fits : (c : tie.Else1) → all (room_in (old (begin c))) ≡ true
 unfolding all
 fits c = sym (room-is c.before) ∙ not-false c.before.has_room.result c.if1.false
 
@@ -81,11 +81,11 @@ grant-requires c κs =
     rw (task-is c.before.before.before.before.before.before, units-are c.before.before.before.before)
     (may-grant s.pre.kept (lengths s.args.plan.now) (more s) (fits c.before))
 
-granted-is : (c : tie.After-grant) → contents c.grant.new.0 ≡ grantedNext (old (begin c.before.before))
+granted-is : (c : tie.After-grant) → contents c.grant.new.0 ≡ granted_next (old (begin c.before.before))
 granted-is c =
     let s = begin c.before.before in
     c.grant.ensures
-    ∙ ap₂ (λ (t u : ℕ). withStore Kind.chilled (granted (at (old s).parents t) t u (old s).stores.chilled) (old s))
+    ∙ ap₂ (λ (t u : ℕ). with_store Kind.chilled (granted (at (old s).parents t) t u (old s).stores.chilled) (old s))
     (task-is c.before.before.before.before.before.before.before) (units-are c.before.before.before.before.before)
 
 activate-requires : tie.Need-activate-requires
@@ -99,10 +99,10 @@ fitted c = begin c.before.before.before.before
 
 did :
     (c : tie.After-activate)
-    → DidActivate (nextTask (old (fitted c))) (grantedNext (old (fitted c))) (contents c.activate.new.0)
+    → DidActivate (next_task (old (fitted c))) (granted_next (old (fitted c))) (contents c.activate.new.0)
 did c =
     let s = fitted c in
-    subst (λ (d : Contents). DidActivate (nextTask (old s)) d (contents c.activate.new.0)) (granted-is c.before.before)
+    subst (λ (d : Contents). DidActivate (next_task (old s)) d (contents c.activate.new.0)) (granted-is c.before.before)
     (subst (λ (t : ℕ). DidActivate t (contents c.before.before.grant.new.0) (contents c.activate.new.0))
     (task-is c.before.before.before.before.before.before.before.before.before) c.activate.ensures)
 

@@ -1,12 +1,12 @@
 -- `codec::encode` meets its contract: in each arm the command is known, and the pieces, one behind the other, are its bytes.
 use borrow.Author.Rules.{rules}
-use Rattle.format.specs.Command.{forms, find, byte_of, operandsOf, widthsOf, little, littles, bytes}
+use Rattle.format.specs.Command.{forms, find, byte_of, operands_of, widths_of, little, littles, bytes}
 use Rattle.put.proofs.Pieces.{◌then◌}
 use Rattle.codec.proofs.encode.Statement.{statement}
 use Rattle.codec.proofs.encode.Tie as tie
 
 plan : tie.Need-returns
-unfolding bytes byte_of operandsOf widthsOf find forms littles little
+unfolding bytes byte_of operands_of widths_of find forms littles little
 plan c =
     let bound = c.before.before in
     let p = bound.before.before.before.before in
@@ -29,25 +29,25 @@ execution c =
     rw i.before.before.before.command4.given.1 i.encode-execution.ensures
 
 begin : tie.Need-returns-5
-unfolding bytes byte_of operandsOf widthsOf find forms littles little
+unfolding bytes byte_of operands_of widths_of find forms littles little
 begin c =
     let byte = c.before.before in
     rw byte.before.before.enum_told.given.1 byte.byte.ensures
 
 done : tie.Need-returns-6
-unfolding bytes byte_of operandsOf widthsOf find forms littles little
+unfolding bytes byte_of operands_of widths_of find forms littles little
 done c =
     let i = c.before.before in
     rw i.before.before.before.command5.given.1 i.start2.ensures
 
 fetch : tie.Need-returns-7
-unfolding bytes byte_of operandsOf widthsOf find forms littles little
+unfolding bytes byte_of operands_of widths_of find forms littles little
 fetch c =
     let byte = c.before.before in
     rw byte.before.before.enum-told2.given.1 byte.byte2.ensures
 
 places : tie.Need-returns-8
-unfolding bytes byte_of operandsOf widthsOf find forms littles little
+unfolding bytes byte_of operands_of widths_of find forms littles little
 places c =
     let bound = c.before.before in
     let byte = bound.before.before.before.before in

@@ -1,11 +1,11 @@
 -- `codec::encode_activation` meets its contract.
 use borrow.Author.Rules.{rules}
-use Rattle.format.specs.Command.{forms, find, byte_of, operandsOf, widthsOf, little, littles, bytes}
+use Rattle.format.specs.Command.{forms, find, byte_of, operands_of, widths_of, little, littles, bytes}
 use Rattle.codec.proofs.encode_activation.Statement.{statement}
 use Rattle.codec.proofs.encode_activation.Tie as tie
 
 returns : tie.Need-returns
-unfolding bytes byte_of operandsOf widthsOf find forms littles little
+unfolding bytes byte_of operands_of widths_of find forms littles little
 returns c = c.before.before.start.ensures
 
 pub encode-activation-spec : {M : Type 1} → statement M

@@ -1,11 +1,11 @@
 -- `codec::encode_execution` meets its contract.
 use borrow.Author.Rules.{rules}
-use Rattle.format.specs.Command.{forms, find, byte_of, operandsOf, widthsOf, little, littles, bytes}
+use Rattle.format.specs.Command.{forms, find, byte_of, operands_of, widths_of, little, littles, bytes}
 use Rattle.codec.proofs.encode_execution.Statement.{statement}
 use Rattle.codec.proofs.encode_execution.Tie as tie
 
 returns : tie.Need-returns
-unfolding bytes byte_of operandsOf widthsOf find forms littles little
+unfolding bytes byte_of operands_of widths_of find forms littles little
 returns c = c.before.before.start.ensures
 
 pub encode-execution-spec : {M : Type 1} → statement M

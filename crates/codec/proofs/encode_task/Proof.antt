@@ -1,12 +1,12 @@
 -- `codec::encode_task` meets its contract: the pieces, one behind the other, are the bytes of STEP.
 use borrow.Author.Rules.{rules}
-use Rattle.format.specs.Command.{forms, find, byte_of, operandsOf, widthsOf, little, littles, bytes}
+use Rattle.format.specs.Command.{forms, find, byte_of, operands_of, widths_of, little, littles, bytes}
 use Rattle.put.proofs.Pieces.{◌then◌}
 use Rattle.codec.proofs.encode_task.Statement.{statement}
 use Rattle.codec.proofs.encode_task.Tie as tie
 
 returns : tie.Need-returns
-unfolding bytes byte_of operandsOf widthsOf find forms littles little
+unfolding bytes byte_of operands_of widths_of find forms littles little
 returns c =
     let out = c.before.before in
     let work = out.before.before.before.before in

@@ -4,9 +4,9 @@ use mathlib.Core.Bool.{true}
 use native.Mathlib.Omega.{arith}
 use borrow.Author.Tests.{not-true, not-false}
 use Rattle.numbers.specs.Lists.{distinct}
-use Rattle.numbers.specs.Limits.{maxTasks}
+use Rattle.numbers.specs.Limits.{max_tasks}
 use Rattle.tree.proofs.Orders.{within-task}
-use Rattle.desk.specs.Columns.{ofTask}
+use Rattle.desk.specs.Columns.{of_task}
 use Rattle.desk.proofs.Surveying.{InLimits, unequal, outside, strayed, unlisted, twice, may-survey, told, may-list, fill}
 use Rattle.desk.proofs.answer.Statement.{statement}
 use Rattle.desk.proofs.answer.Tie as tie
@@ -22,7 +22,7 @@ returns-outside c =
 write-rows-requires : tie.Need-write-rows-requires
 write-rows-requires c κs =
     let sized = sym c.before.before.is_Within.ensures ∙ not-false _ c.before.if2.false in
-    ((within-task maxTasks _ sized).high, c.before.before.before.before.before.requires)
+    ((within-task max_tasks _ sized).high, c.before.before.before.before.before.requires)
 
 returns-strayed : tie.Need-returns-3
 returns-strayed c =
@@ -40,7 +40,7 @@ start c = c.before.before.before.before.before.before.before.before.before
 
 limits :
     (c : tie.Else4)
-    → InLimits (start c).args.n (ofTask (start c).args.n (start c).args.parents.now) (start c).args.activation.now
+    → InLimits (start c).args.n (of_task (start c).args.n (start c).args.parents.now) (start c).args.activation.now
 limits c =
     record {
       whole = c.before.before.before.before.before.before.before.if1.false;
@@ -54,7 +54,7 @@ in_rows : (c : tie.Else4) → c.before.before.before.write-rows.result ≡ true
 in_rows c = not-false _ c.before.before.if3.false
 
 cast-size : tie.Need-overflow-cast-set-cell
-cast-size c = omega (arith, within-task maxTasks (start c.before).args.n (limits c.before).sized)
+cast-size c = omega (arith, within-task max_tasks (start c.before).args.n (limits c.before).sized)
 
 set-cell-requires : tie.Need-set-cell-requires
 set-cell-requires c κs = (omega arith, omega arith)

@@ -89,7 +89,7 @@ use denote.Triple.Entry.{on_entry}
 use denote.Triple.Spec.{Meets, triple_of}
 use denote.Triple.Table.{entered, cited}
 use denote.Triple.Walked.{Goes-none_slice, Goes-gave_ref, Walks, walked, walk_Meets}
-use Rattle.numbers.specs.Limits.{maxTasks}
+use Rattle.numbers.specs.Limits.{max_tasks}
 use Rattle.desk.specs.declared.TaskRecord.{TaskRecord}
 use Rattle.desk.proofs.Columns.{filled_none}
 use Rattle.desk.proofs.Arrays.{zeros-typed, zeros-apart}
@@ -176,8 +176,8 @@ module _ {M : Type 1} {𝓤 : Ura M} (𝓛 : Logic 𝓤) (mem : Memory → SProp
 
   copied-said :
       (c : ℕ)
-      → ent 𝓤 (ensured 𝓛 copied.ended (copied.clauses 𝓛 mem run) tt (n, tt) tt c) (fact 𝓤 (c ≡ min n maxTasks))
-  copied-said c = ex_e 𝓤 _ (λ ws. snd∗ 𝓤 (sem 𝓛 (lasts copied.ended tt (n, tt) ws)) (fact 𝓤 (c ≡ min n maxTasks)))
+      → ent 𝓤 (ensured 𝓛 copied.ended (copied.clauses 𝓛 mem run) tt (n, tt) tt c) (fact 𝓤 (c ≡ min n max_tasks))
+  copied-said c = ex_e 𝓤 _ (λ ws. snd∗ 𝓤 (sem 𝓛 (lasts copied.ended tt (n, tt) ws)) (fact 𝓤 (c ≡ min n max_tasks)))
 
   module _ (𝓣 : Tables 𝓤 H) (fm : FmC 𝓤 H 𝓛.laws 𝓣.C) (known-copied : Triple 𝓤 (𝓣.C #desk·copied) (Copied 𝓛 mem run))
       (known-assess : Triple 𝓤 (𝓣.C #desk·assess) (Assess 𝓛 mem run)) where
@@ -203,7 +203,7 @@ module _ {M : Type 1} {𝓤 : Ura M} (𝓛 : Logic 𝓤) (mem : Memory → SProp
         use0 𝓛 (raw ((Copied 𝓛 mem run).pre to-copied)) (goes-copied is-records.0.1) $
         calls_at ! fm (Copied 𝓛 mem run) known-copied to-copied (and_then ! (load ! (from ! (stop !)) (look ! 29 refl)) (no_more !)) (λ u.
         use1 𝓛 (later (some (λ (c : ℕ). (‵ ftrue ⊛ ‵ (usize.own_val c (u ∷ []))) ⊛ raw (ensured 𝓛 copied.ended (copied.clauses 𝓛 mem run) tt (n, tt) tt c)))) (id⊢ 𝓤 _) $ await ! tt $ pick ! (λ c.
-        split ! $ move ! (1 ∷ []) $ use1 𝓛 (raw (fact 𝓤 (c ≡ min n maxTasks))) (copied-said c) $ heard ! (c ≡ min n maxTasks) (λ all. split ! $ drop ! $
+        split ! $ move ! (1 ∷ []) $ use1 𝓛 (raw (fact 𝓤 (c ≡ min n max_tasks))) (copied-said c) $ heard ! (c ≡ min n max_tasks) (λ all. split ! $ drop ! $
         facts ! usize (Is usize) (shows 𝓛 usize) c (u ∷ []) (λ is.
         land ! (from ! (stop !)) (init ! 34 refl ((uint_Lawful 𝓛 w64).typed c _ is).0) $
         rewrite ! 34 (λ (v : Val). ‵ (fat full_share word l₇ 0 v)) (ap only is.0) refl $

@@ -11,13 +11,13 @@ sub-set-cell : tie.Need-overflow-sub-set-cell
 sub-set-cell c =
     let e = c.before.before.before.before.before in
     let s = e.before.before in
-    omega (arith, e.cell.ensures ∙ (head_read s.args.plan.now).active, s.requires.some-run)
+    omega (arith, e.cell.ensures ∙ (head_read s.args.plan.now).active, s.requires.some_run)
 
 add-set-cell : tie.Need-overflow-add-set-cell
 add-set-cell c =
     let e = c.before.before.before.before.before in
     let s = e.before.before.before.before in
-    record { fits = omega (arith, e.cell2.ensures ∙ (head_read s.args.plan.now).ended, s.requires.ended-fits) }
+    record { fits = omega (arith, e.cell2.ensures ∙ (head_read s.args.plan.now).ended, s.requires.ended_fits) }
 
 returns : tie.Need-returns
 returns c =

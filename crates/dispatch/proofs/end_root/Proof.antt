@@ -5,18 +5,18 @@ use native.Mathlib.Omega.{arith}
 use borrow.Author.Rules.{rules}
 use Rattle.books.specs.Kind
 use Rattle.numbers.specs.Lists.{at}
-use Rattle.words.specs.Contents.{Contents, contents, storeContents}
+use Rattle.words.specs.Contents.{Contents, contents, store_contents}
 use Rattle.words.proofs.Views.{column-at}
-use Rattle.store.specs.Store.{withStore, heldAlone}
-use Rattle.dispatch.specs.Ended.{withProgress, ended, rootEnded}
+use Rattle.store.specs.Store.{with_store, held_alone}
+use Rattle.dispatch.specs.Ended.{with_progress, ended, root_ended}
 use Rattle.dispatch.proofs.end_root.Statement.{statement}
 use Rattle.dispatch.proofs.end_root.Tie as tie
 
 cell-requires : tie.Need-cell-requires
-cell-requires c κs = let inside = c.before.before.before.requires.task-in in (omega arith, omega arith)
+cell-requires c κs = let inside = c.before.before.before.requires.task_in in (omega arith, omega arith)
 
 hold-alone-requires : tie.Need-hold-alone-requires
-unfolding ended withProgress
+unfolding ended with_progress
 hold-alone-requires c κs =
     let e = c.before.before.before in
     let s = e.before.before in
@@ -24,32 +24,32 @@ hold-alone-requires c κs =
       long = ap (λ (d : Contents). d.extent) e.end.ensures ∙ s.requires.long;
       offset = refl;
       inside = omega arith;
-      task-in = s.requires.task-in;
+      task_in = s.requires.task_in;
     }
 
 -- the out that is read is the task's
 out : (c : tie.After-cell)
     → c.cell.result
     ≡ at (contents c.before.before.before.before.args.plan.now).stores.chilled.outs c.before.before.before.before.args.task
-unfolding contents storeContents ended withProgress
+unfolding contents store_contents ended with_progress
 out c =
     let e = c.before.before in
     let s = e.before.before in
     c.cell.ensures
-    ∙ column-at 6 e.end.new.0 s.args.task s.requires.task-in
+    ∙ column-at 6 e.end.new.0 s.args.task s.requires.task_in
     ∙ ap (λ (d : Contents). at d.stores.chilled.outs s.args.task) e.end.ensures
 
 returns : tie.Need-returns
-unfolding rootEnded ended withProgress
+unfolding root_ended ended with_progress
 returns c =
     let k = c.before.before in
     let e = k.before.before in
     let s = e.before.before in
     c.hold-alone.ensures
-    ∙ ap (λ (v : ℕ). withStore Kind.chilled (heldAlone s.args.task v (contents e.end.new.0).stores.chilled) (contents e.end.new.0)) (out k)
+    ∙ ap (λ (v : ℕ). with_store Kind.chilled (held_alone s.args.task v (contents e.end.new.0).stores.chilled) (contents e.end.new.0)) (out k)
     ∙ ap
     (λ (d : Contents).
-    withStore Kind.chilled (heldAlone s.args.task (at (contents s.args.plan.now).stores.chilled.outs s.args.task) d.stores.chilled) d)
+    with_store Kind.chilled (held_alone s.args.task (at (contents s.args.plan.now).stores.chilled.outs s.args.task) d.stores.chilled) d)
     e.end.ensures
 
 pub end-root-spec : {M : Type 1} → statement M

@@ -6,7 +6,7 @@ use borrow.Author.Rules.{rules}
 use Rattle.numbers.specs.Lists.{at}
 use Rattle.words.specs.Contents.{contents}
 use Rattle.dispatch.proofs.Cells.{row_read}
-use Rattle.dispatch.proofs.Feeding.{waitsForFewer, fewer-written, waits-still, is-not-booked, is-ready, standing-is, may-insert, fed-still, fed-ready}
+use Rattle.dispatch.proofs.Feeding.{waits_for_fewer, fewer-written, waits-still, is-not-booked, is-ready, standing_is, may-insert, fed-still, fed-ready}
 use Rattle.dispatch.proofs.feed.Statement.{statement}
 use Rattle.dispatch.proofs.feed.Tie as tie
 
@@ -24,7 +24,7 @@ sub-unended c =
 -- one child fewer
 fewer : (c : tie.After-set-cell)
     → contents c.set-cell.new.0
-    ≡ waitsForFewer c.before.before.before.before.args.parent (contents c.before.before.before.before.args.plan.now)
+    ≡ waits_for_fewer c.before.before.before.before.args.parent (contents c.before.before.before.before.args.plan.now)
 fewer c =
     let e = c.before.before.before.before in
     fewer-written e.args.plan.now e.args.parent e.requires (unended c.before.before) c.set-cell.ensures
@@ -53,7 +53,7 @@ standing c =
     sym
     (c.cell2.ensures
     ∙ (row_read s.set-cell.new.0 e.args.parent e.requires.parent_in).standing
-    ∙ standing-is e.requires (fewer s))
+    ∙ standing_is e.requires (fewer s))
 
 ready : tie.Need-returns
 ready c =

@@ -8,7 +8,7 @@ use Rattle.words.specs.Contents.{Contents, contents}
 use Rattle.words.proofs.Contents.{lengths}
 use Rattle.dispatch.specs.Ended.{ended, MayFeed, Fed}
 use Rattle.dispatch.proofs.Cells.{row_read}
-use Rattle.dispatch.proofs.Ending.{task-in, may-end, may-feed}
+use Rattle.dispatch.proofs.Ending.{task_in, may-end, may-feed}
 use Rattle.dispatch.proofs.Finishing.{may-release, may-climb, may_free, finishes}
 use Rattle.dispatch.proofs.finish.Statement.{statement}
 use Rattle.dispatch.proofs.finish.Tie as tie
@@ -16,7 +16,7 @@ use Rattle.dispatch.proofs.finish.Tie as tie
 cell-requires : tie.Need-cell-requires
 cell-requires c κs =
     let s = c.before in
-    let h = task-in s.requires (lengths s.args.plan.now) in
+    let h = task_in s.requires (lengths s.args.plan.now) in
     (omega arith, omega arith)
 
 -- the parent that is read is the task's
@@ -24,7 +24,7 @@ parent : (c : tie.After-cell) → c.cell.result ≡ at (contents c.before.before
 parent c =
     let s = c.before.before in
     let w = s.args.plan.now in
-    c.cell.ensures ∙ (row_read w s.args.task (task-in s.requires (lengths w))).parent
+    c.cell.ensures ∙ (row_read w s.args.task (task_in s.requires (lengths w))).parent
 
 end-requires : tie.Need-end-requires
 end-requires c κs = let s = c.before.before.before in may-end s.requires.kept s.requires.task s.requires.runs

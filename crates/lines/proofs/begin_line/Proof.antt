@@ -1,14 +1,14 @@
 -- `lines::begin_line` meets its contract.
 use native.Mathlib.Omega.{arith}
 use borrow.Author.Rules.{rules}
-use Rattle.texts.specs.Text.{ascii, beginLine}
-use Rattle.texts.proofs.Lengths.{beginLine-short}
+use Rattle.texts.specs.Text.{ascii, begin_line}
+use Rattle.texts.proofs.Lengths.{begin_line-short}
 use Rattle.put.proofs.Pieces.{◌then◌, whole}
 use Rattle.lines.proofs.begin_line.Statement.{statement}
 use Rattle.lines.proofs.begin_line.Tie as tie
 
 returns : tie.Need-returns
-unfolding ascii beginLine
+unfolding ascii begin_line
 returns c =
     let figures = c.before.before in
     let by = figures.before.before.before.before in
@@ -26,7 +26,7 @@ returns c =
           then figures.figures.ensures);
       short =
           λ few.
-          beginLine-short _ _ _ _ _ few (omega arith) (omega arith) (omega arith)
+          begin_line-short _ _ _ _ _ few (omega arith) (omega arith) (omega arith)
           (λ i. (lent.shared-slice-known.given i).fits) _ (omega arith) (omega (arith, lent.before.before.ranges));
     }
 

@@ -1,14 +1,14 @@
 -- `lines::done_line` meets its contract.
 use native.Mathlib.Omega.{arith}
 use borrow.Author.Rules.{rules}
-use Rattle.texts.specs.Text.{ascii, doneLine}
-use Rattle.texts.proofs.Lengths.{doneLine-short}
+use Rattle.texts.specs.Text.{ascii, done_line}
+use Rattle.texts.proofs.Lengths.{done_line-short}
 use Rattle.put.proofs.Pieces.{◌then◌, whole}
 use Rattle.lines.proofs.done_line.Statement.{statement}
 use Rattle.lines.proofs.done_line.Tie as tie
 
 returns : tie.Need-returns
-unfolding ascii doneLine
+unfolding ascii done_line
 returns c =
     let figures = c.before.before in
     let offers = figures.before.before.before.before in
@@ -26,7 +26,7 @@ returns c =
           then figures.figures.ensures);
       short =
           λ few.
-          doneLine-short _ _ _ _ _ few (omega arith) (omega arith) (omega arith)
+          done_line-short _ _ _ _ _ few (omega arith) (omega arith) (omega arith)
           (λ i. (lent.shared-slice-known.given i).fits) _ _ (omega (arith, lent.before.before.ranges)) (omega arith);
     }
 

@@ -1,21 +1,21 @@
 -- `lines::fetch_line` meets its contract.
 use native.Mathlib.Omega.{arith}
 use borrow.Author.Rules.{rules}
-use Rattle.texts.specs.Text.{ascii, fetchLine}
-use Rattle.texts.proofs.Lengths.{fetchLine-short}
+use Rattle.texts.specs.Text.{ascii, fetch_line}
+use Rattle.texts.proofs.Lengths.{fetch_line-short}
 use Rattle.put.proofs.Pieces.{◌then◌, whole}
 use Rattle.lines.proofs.fetch_line.Statement.{statement}
 use Rattle.lines.proofs.fetch_line.Tie as tie
 
 returns : tie.Need-returns
-unfolding ascii fetchLine
+unfolding ascii fetch_line
 returns c =
     let feed = c.before.before in
     let total = feed.before.before.before.before in
     let name = total.before.before.before.before in
     record {
       written = whole (name.text.ensures then total.decimal.ensures then feed.byte.ensures);
-      short = λ _. fetchLine-short _ (omega arith);
+      short = λ _. fetch_line-short _ (omega arith);
     }
 
 pub fetch-line-spec : {M : Type 1} → statement M

@@ -1,14 +1,14 @@
 -- `lines::places_line` meets its contract.
 use native.Mathlib.Omega.{arith}
 use borrow.Author.Rules.{rules}
-use Rattle.texts.specs.Text.{ascii, placesLine}
-use Rattle.texts.proofs.Lengths.{placesLine-short}
+use Rattle.texts.specs.Text.{ascii, places_line}
+use Rattle.texts.proofs.Lengths.{places_line-short}
 use Rattle.put.proofs.Pieces.{◌then◌, whole}
 use Rattle.lines.proofs.places_line.Statement.{statement}
 use Rattle.lines.proofs.places_line.Tie as tie
 
 returns : tie.Need-returns
-unfolding ascii placesLine
+unfolding ascii places_line
 returns c =
     let figures = c.before.before in
     let bound = figures.before.before.before.before in
@@ -18,7 +18,7 @@ returns c =
       written = whole (name.text.ensures then bound.decimal.ensures then figures.figures.ensures);
       short =
           λ few.
-          placesLine-short _ _ _ _ _ few (omega arith) (omega arith) (omega arith)
+          places_line-short _ _ _ _ _ few (omega arith) (omega arith) (omega arith)
           (λ i. (lent.shared-slice-known.given i).fits) _ (omega (arith, lent.before.before.ranges));
     }
 

@@ -1,14 +1,14 @@
 -- `lines::refused_line` meets its contract.
 use native.Mathlib.Omega.{arith}
 use borrow.Author.Rules.{rules}
-use Rattle.texts.specs.Text.{ascii, refusedLine}
-use Rattle.texts.proofs.Lengths.{refusedLine-short}
+use Rattle.texts.specs.Text.{ascii, refused_line}
+use Rattle.texts.proofs.Lengths.{refused_line-short}
 use Rattle.put.proofs.Pieces.{◌then◌, whole}
 use Rattle.lines.proofs.refused_line.Statement.{statement}
 use Rattle.lines.proofs.refused_line.Tie as tie
 
 returns : tie.Need-returns
-unfolding ascii refusedLine
+unfolding ascii refused_line
 returns c =
     let feed = c.before.before in
     let offset = feed.before.before.before.before in
@@ -23,7 +23,7 @@ returns c =
           then at.text2.ensures
           then offset.decimal2.ensures
           then feed.byte.ensures);
-      short = λ _. refusedLine-short _ _ (omega arith) (omega arith);
+      short = λ _. refused_line-short _ _ (omega arith) (omega arith);
     }
 
 pub refused-line-spec : {M : Type 1} → statement M

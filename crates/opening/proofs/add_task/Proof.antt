@@ -6,7 +6,7 @@ use Prim.Native.Nat.{ℕ, ◌+◌, ◌≤◌}
 use lib.Dec.{eqb}
 use Rattle.numbers.specs.Lists.{at}
 use Rattle.rules.specs.Phase
-use Rattle.words.specs.Layout.{rows, headBase}
+use Rattle.words.specs.Layout.{rows, head_base}
 use native.Mathlib.Omega.{arith}
 use borrow.Author.Rules.{rules}
 use Rattle.words.specs.Contents.{contents}
@@ -21,8 +21,8 @@ given-small :
     (w : List ℕ) {phase given : ℕ}
     → Sound (contents w)
     → phase ≡ Phase.steps
-    → phase ≡ at w (headBase + 0)
-    → given ≡ at w (headBase + 3)
+    → phase ≡ at w (head_base + 0)
+    → given ≡ at w (head_base + 3)
     → given ≤ rows
 unfolding contents
 given-small w sound turn is-phase is-given =

@@ -18,21 +18,21 @@ unfolding contents
 late c =
     refusal 3 c.before.before.before.before.before.requires.sound c.refused.ensures (λ q. omega arith)
     (open-late (contents c.before.before.before.before.before.args.plan.now) c.before.before.before.before.before.args.n c.before.before.before.before.before.args.processors c.before.before.before.before.before.args.bound
-    (ap Phase.holdsTrays (sym c.before.before.before.cell.ensures) ∙ sym c.before.before.holds-trays.ensures ∙ c.before.if1.true))
+    (ap Phase.holds_trays (sym c.before.before.before.cell.ensures) ∙ sym c.before.before.holds-trays.ensures ∙ c.before.if1.true))
 
 too-many-tasks : tie.Need-returns-2
 unfolding contents
 too-many-tasks c =
     refusal 4 c.before.before.before.before.before.before.before.requires.sound c.refused2.ensures (λ q. omega arith)
     (open-tasks (contents c.before.before.before.before.before.before.before.args.plan.now) c.before.before.before.before.before.before.before.args.n c.before.before.before.before.before.before.before.args.processors c.before.before.before.before.before.before.before.args.bound
-    (ap Phase.holdsTrays (sym c.before.before.before.before.before.cell.ensures) ∙ sym c.before.before.before.before.holds-trays.ensures ∙ c.before.before.before.if1.false) (sym c.before.before.is_Within.ensures ∙ not-true _ c.before.if2.true))
+    (ap Phase.holds_trays (sym c.before.before.before.before.before.cell.ensures) ∙ sym c.before.before.before.before.holds-trays.ensures ∙ c.before.before.before.if1.false) (sym c.before.before.is_Within.ensures ∙ not-true _ c.before.if2.true))
 
 too-many-processors : tie.Need-returns-3
 unfolding contents
 too-many-processors c =
     refusal 4 c.before.before.before.before.before.before.before.before.before.requires.sound c.refused3.ensures (λ q. omega arith)
     (open-processors (contents c.before.before.before.before.before.before.before.before.before.args.plan.now) c.before.before.before.before.before.before.before.before.before.args.n c.before.before.before.before.before.before.before.before.before.args.processors c.before.before.before.before.before.before.before.before.before.args.bound
-    (ap Phase.holdsTrays (sym c.before.before.before.before.before.before.before.cell.ensures) ∙ sym c.before.before.before.before.before.before.holds-trays.ensures ∙ c.before.before.before.before.before.if1.false) (sym c.before.before.is-within2.ensures ∙ not-true _ c.before.if3.true))
+    (ap Phase.holds_trays (sym c.before.before.before.before.before.before.before.cell.ensures) ∙ sym c.before.before.before.before.before.before.holds-trays.ensures ∙ c.before.before.before.before.before.if1.false) (sym c.before.before.is-within2.ensures ∙ not-true _ c.before.if3.true))
 
 empty-requires : tie.Need-empty-requires
 unfolding contents
@@ -50,7 +50,7 @@ opens c =
     let staff = sym c.before.before.before.before.before.before.before.before.before.before.before.before.before.before.before.before.is-within2.ensures ∙ not-false _ c.before.before.before.before.before.before.before.before.before.before.before.before.before.before.before.if3.false in
     let fits = c.before.before.before.before.before.before.before.before.before.before.before.before.before.before.before.before.before.before.before.before.before.before.before.ranges.bound.fits in
     acceptance
-    (open_free (contents w) c.before.before.before.before.before.before.before.before.before.before.before.before.before.before.before.before.before.before.before.before.before.before.before.args.n c.before.before.before.before.before.before.before.before.before.before.before.before.before.before.before.before.before.before.before.before.before.before.before.args.processors c.before.before.before.before.before.before.before.before.before.before.before.before.before.before.before.before.before.before.before.before.before.before.before.args.bound (ap Phase.holdsTrays (sym c.before.before.before.before.before.before.before.before.before.before.before.before.before.before.before.before.before.before.before.before.before.cell.ensures) ∙ sym c.before.before.before.before.before.before.before.before.before.before.before.before.before.before.before.before.before.before.before.before.holds-trays.ensures ∙ c.before.before.before.before.before.before.before.before.before.before.before.before.before.before.before.before.before.before.before.if1.false) tasks
+    (open_free (contents w) c.before.before.before.before.before.before.before.before.before.before.before.before.before.before.before.before.before.before.before.before.before.before.before.args.n c.before.before.before.before.before.before.before.before.before.before.before.before.before.before.before.before.before.before.before.before.before.before.before.args.processors c.before.before.before.before.before.before.before.before.before.before.before.before.before.before.before.before.before.before.before.before.before.before.before.args.bound (ap Phase.holds_trays (sym c.before.before.before.before.before.before.before.before.before.before.before.before.before.before.before.before.before.before.before.before.before.cell.ensures) ∙ sym c.before.before.before.before.before.before.before.before.before.before.before.before.before.before.before.before.before.before.before.before.holds-trays.ensures ∙ c.before.before.before.before.before.before.before.before.before.before.before.before.before.before.before.before.before.before.before.if1.false) tasks
     staff fits)
     c.plain.ensures
     (opening-contents c.before.before.before.before.before.before.before.before.before.before.before.empty.new.0 c.before.before.before.before.before.before.before.before.before.set-cell.new.0 c.before.before.before.before.before.before.before.set-cell2.new.0 c.before.before.before.before.before.set-cell3.new.0

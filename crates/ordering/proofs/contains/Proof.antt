@@ -6,7 +6,7 @@ use Rattle.ordering.proofs.contains.Statement.{statement}
 use Rattle.ordering.proofs.contains.Tie as tie
 
 cell-requires : tie.Need-cell-requires
-cell-requires c κs = let h = c.requires.within.high in (omega arith, c.requires.k-in)
+cell-requires c κs = let h = c.requires.within.high in (omega arith, c.requires.k_in)
 
 past : tie.Need-returns
 past c = contains-not c.before.before.requires c.before.cell.result c.before.cell.ensures c.if1.true

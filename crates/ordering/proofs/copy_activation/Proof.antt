@@ -4,11 +4,11 @@ use Prim.Native.Nat.{ℕ, ◌-◌, ◌≤◌, ◌<◌}
 use native.Mathlib.Omega.{arith}
 use borrow.Author.Rules.{rules}
 use Rattle.numbers.specs.Lists.{at}
-use Rattle.words.specs.Layout.{entries, activationBase, executionBase}
+use Rattle.words.specs.Layout.{entries, activation_base, execution_base}
 use Rattle.words.specs.Contents.{contents}
 use Rattle.words.proofs.Views.{part_at}
 use Rattle.answer.specs.Meaning.{plan_of}
-use Rattle.ordering.specs.Order.{MayAppend, appendedTo}
+use Rattle.ordering.specs.Order.{MayAppend, appended_to}
 use Rattle.ordering.proofs.Copying.{Copied, copied_none, copied_all, next-is, next-may, copied_more}
 use Rattle.ordering.proofs.copy_activation.Statement.{statement}
 use Rattle.ordering.proofs.copy_activation.Tie as tie
@@ -48,7 +48,7 @@ entry-is c =
     let w = turn.before.loop.plan in
     let inside : k < entries = (let m = more turn in let small = start.requires.0.sound.small in omega arith) in
     c.entry.ensures
-    ∙ part_at activationBase entries w k inside
+    ∙ part_at activation_base entries w k inside
     ∙ next-is start.requires.0 start.requires.1 k (more turn) turn.before.loop.invariant.1
 
 write-next-requires : tie.Need-write-next-requires invariant-loop decreases-loop
@@ -56,7 +56,7 @@ write-next-requires c κs =
     let read = c.before in
     let turn = read.before.before in
     let start = turn.before.before.before.before in
-    subst (λ (i : ℕ). MayAppend 8 executionBase 2 i turn.before.loop.plan) (sym (entry-is read))
+    subst (λ (i : ℕ). MayAppend 8 execution_base 2 i turn.before.loop.plan) (sym (entry-is read))
     (next-may start.requires.0 start.requires.1 turn.before.loop.k (more turn) turn.before.loop.invariant.1)
 
 add-k : tie.Need-overflow-add-k invariant-loop decreases-loop
@@ -75,7 +75,7 @@ loop-again c =
     let t = turn.loop-test.true in (
       omega arith,
       copied_more start.requires.0 start.requires.1 turn.before.loop.k (more turn) turn.before.loop.invariant.1
-          (subst (λ (i : ℕ). c.write-next.new.0 ≡ appendedTo 8 executionBase 2 w i) (entry-is read) c.write-next.ensures),
+          (subst (λ (i : ℕ). c.write-next.new.0 ≡ appended_to 8 execution_base 2 w i) (entry-is read) c.write-next.ensures),
     )
 
 returns : tie.Need-returns invariant-loop decreases-loop

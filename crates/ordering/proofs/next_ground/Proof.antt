@@ -10,8 +10,8 @@ use Rattle.ordering.proofs.next_ground.Tie as tie
 in-other-phase : tie.Need-returns
 in-other-phase c = other-phase c.before.before.args.counted c.before.before.args.base c.before.before.args.task c.before.before.args.plan.now c.before.cell.ensures c.if1.true
 
-counted-in : tie.Need-cell-requires-3
-counted-in c κs = (omega arith, c.before.before.before.requires.counted-in)
+counted_in : tie.Need-cell-requires-3
+counted_in c κs = (omega arith, c.before.before.before.requires.counted_in)
 
 full : tie.Need-returns-2
 full c = whole-order c.before.before.before.before.before.args.counted c.before.before.before.before.before.args.base c.before.before.before.before.before.args.task c.before.before.before.before.before.args.plan.now c.before.before.before.before.cell.ensures c.before.before.before.if1.false c.before.before.cell2.ensures c.before.cell3.ensures c.if2.true
@@ -45,7 +45,7 @@ next-ground-spec =
     in-other-phase
     (λ c κs. search rules)
     (λ c. search rules)
-    counted-in
+    counted_in
     (λ c. search rules)
     full
     (λ c κs. search rules)

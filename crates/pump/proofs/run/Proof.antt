@@ -1,4 +1,4 @@
--- `pump::run` is safe and ends. What holds from step to step: `PumpLoop`; what falls: `bytesLeft`.
+-- `pump::run` is safe and ends. What holds from step to step: `PumpLoop`; what falls: `bytes_left`.
 use mathlib.Core.Path.{◌≡◌, refl, sym, ◌∙◌}
 use mathlib.Core.Bool.{true}
 use native.Mathlib.Omega.{arith}
@@ -6,10 +6,10 @@ use borrow.Author.Rules.{rules}
 use borrow.Author.Tests.{not-false}
 use lib.ListN.{length}
 use lib.Seq.{length-take-le}
-use Rattle.texts.specs.Printer.{isCounted}
+use Rattle.texts.specs.Printer.{is_counted}
 use Rattle.plan.proofs.NewPlan.{new-valid}
 use Rattle.position.specs.Standing.{position_of}
-use Rattle.pump.proofs.Holding.{PumpLoop, at_size, at-start, bytesLeft, in-output, onward, room, falls, refalls, refilled}
+use Rattle.pump.proofs.Holding.{PumpLoop, at_size, at-start, bytes_left, in-output, onward, room, falls, refalls, refilled}
 use Rattle.pump.proofs.run.Statement.{statement}
 use Rattle.pump.proofs.run.Tie as tie
 
@@ -17,7 +17,7 @@ abbrev invariant-loop : tie.invariant-loop
 invariant-loop input₀ output₀ starts₀ plan₀ position₀ t9 t10 t11 input output starts plan position = PumpLoop input output starts plan.words position
 
 abbrev decreases-loop : tie.decreases-loop
-decreases-loop input₀ output₀ starts₀ plan₀ position₀ t9 t10 t11 input output starts plan position = bytesLeft (position_of position)
+decreases-loop input₀ output₀ starts₀ plan₀ position₀ t9 t10 t11 input output starts plan position = bytes_left (position_of position)
 
 loop-holds : tie.Need-loop-init invariant-loop decreases-loop
 loop-holds c =
@@ -66,7 +66,7 @@ refill-requires c κs =
     (at_size loop.input-size next.stands, omega (arith, loop.input-size, room loop step.step.ensures asks.if3.true))
 
 -- more is read only where it can be counted
-counted : (c : tie.After-position2 invariant-loop decreases-loop) → isCounted (length c.before.before.before.before.before.before.before.before.before.before.before.before.before.before.before.before.before.before.before.before.before.before.before.before.before.loop.input) (position_of c.before.before.before.before.before.before.before.before.before.before.before.before.before.before.before.before.before.before.before.before.step.result.position) ≡ true
+counted : (c : tie.After-position2 invariant-loop decreases-loop) → is_counted (length c.before.before.before.before.before.before.before.before.before.before.before.before.before.before.before.before.before.before.before.before.before.before.before.before.before.loop.input) (position_of c.before.before.before.before.before.before.before.before.before.before.before.before.before.before.before.before.before.before.before.before.step.result.position) ≡ true
 counted c =
     let told = c.before.before.before.before.before.before.before in
     sym told.before.is-counted.ensures ∙ not-false _ told.if4.false

@@ -5,17 +5,17 @@ use borrow.Author.Rules.{rules}
 use Rattle.numbers.specs.Sums.{only}
 use Rattle.rules.specs.Phase
 use Rattle.rules.specs.Question as rules
-use Rattle.words.specs.Contents.{storeContents, contents}
+use Rattle.words.specs.Contents.{store_contents, contents}
 use Rattle.question.proofs.fullness.Statement.{statement}
 use Rattle.question.proofs.fullness.Tie as tie
 
 returns : tie.Need-returns
-unfolding contents storeContents rules.fullness
+unfolding contents store_contents rules.fullness
 returns c =
     c.while-held.ensures
-    ∙ ap₂ (λ (p figure : ℕ). only (Phase.holdsTrays p) figure) c.before.before.before.phase.ensures
+    ∙ ap₂ (λ (p figure : ℕ). only (Phase.holds_trays p) figure) c.before.before.before.phase.ensures
     (c.before.fullness.ensures
-    ∙ ap₂ rules.fullnessOf c.before.before.booked.ensures c.before.before.before.before.cell.ensures)
+    ∙ ap₂ rules.fullness_of c.before.before.booked.ensures c.before.before.before.before.cell.ensures)
 
 pub fullness-spec : {M : Type 1} → statement M
 fullness-spec =

@@ -4,16 +4,16 @@ use Prim.Native.Nat.{ℕ}
 use borrow.Author.Rules.{rules}
 use Rattle.numbers.specs.Sums.{only}
 use Rattle.rules.specs.Phase
-use Rattle.words.specs.Contents.{storeContents, contents}
+use Rattle.words.specs.Contents.{store_contents, contents}
 use Rattle.question.proofs.Questions.{in-use-kept}
 use Rattle.question.proofs.in_use.Statement.{statement}
 use Rattle.question.proofs.in_use.Tie as tie
 
 returns : tie.Need-returns
-unfolding contents storeContents
+unfolding contents store_contents
 returns c =
     c.while-held.ensures
-    ∙ ap₂ (λ (p figure : ℕ). only (Phase.holdsTrays p) figure) c.before.phase.ensures c.before.before.cell.ensures
+    ∙ ap₂ (λ (p figure : ℕ). only (Phase.holds_trays p) figure) c.before.phase.ensures c.before.before.cell.ensures
     ∙ in-use-kept (contents c.before.before.before.args.plan.now) c.before.before.before.requires.reached c.before.before.before.requires.sound
 
 pub in-use-spec : {M : Type 1} → statement M

@@ -37,7 +37,7 @@ read :
     → active ≡ (contents w).active
     → ended ≡ (contents w).ended
     → Read w size next active ended
-read w phase size next active ended valid phase-is day size_is next-is active-is ended_is =
+read w phase size next active ended valid phase_is day size_is next-is active-is ended_is =
     let t = tallied (contents w) valid.reached valid.sound (omega arith) in
     let within = t.within in
     let parts = t.parts in

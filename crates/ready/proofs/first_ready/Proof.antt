@@ -5,7 +5,7 @@ use native.Mathlib.Omega.{arith}
 use borrow.Author.Rules.{rules}
 use lib.Count.{count_trailing_zeros}
 use Rattle.numbers.specs.Lists.{at}
-use Rattle.words.specs.Layout.{bits, blocks, readyBase}
+use Rattle.words.specs.Layout.{bits, blocks, ready_base}
 use Rattle.words.specs.Contents.{Contents, contents}
 use Rattle.words.proofs.Views.{part_at}
 use Rattle.ready.proofs.Marks.{word_in, bit_in, first-none, first-lowest}
@@ -46,7 +46,7 @@ bit c =
     c.lowest2.ensures
     ∙ ap (count_trailing_zeros bits)
     (c.before.entry2.ensures
-    ∙ part_at readyBase blocks c.before.before.before.before.before.args.plan.now c.before.before.lowest.result
+    ∙ part_at ready_base blocks c.before.before.before.before.before.args.plan.now c.before.before.lowest.result
     (block_in c.before.before))
 
 entry-requires-2 : tie.Need-entry-requires-2

@@ -11,8 +11,8 @@ use Rattle.words.specs.Contents.{Contents, contents}
 use Rattle.words.proofs.Contents.{lengths}
 use Rattle.store.specs.Kept.{Kept}
 use Rattle.booking.specs.Booked.{SomeWait}
-use Rattle.booking.proofs.Turn.{task-in}
-use Rattle.booking.proofs.Booking.{nextTask, lacking, turn, next-in, next-read}
+use Rattle.booking.proofs.Turn.{task_in}
+use Rattle.booking.proofs.Booking.{next_task, lacking, turn, next-in, next-read}
 use Rattle.answer.specs.Meaning.{meaning}
 use Rattle.answer.proofs.Meant.{still_kept}
 use Rattle.reason.proofs.Waiting.{within-bound, next-first, next-lack}
@@ -40,14 +40,14 @@ entry-requires c κs =
     let small = w.kept.invariant.small in
     omega arith
 
-first-is : (c : tie.After-entry) → c.entry.result ≡ nextTask (plan c.before.before)
+first-is : (c : tie.After-entry) → c.entry.result ≡ next_task (plan c.before.before)
 first-is c = c.entry.ensures ∙ next-read c.before.before.args.plan.now c.before.cell.result (wait c.before)
 
 cast-first : tie.Need-overflow-cast-first
 cast-first c =
     let s = c.before.before in
     let e = first-is c in
-    let low = task-in (turn (kept s) (lengths s.args.plan.now) s.requires.more) in
+    let low = task_in (turn (kept s) (lengths s.args.plan.now) s.requires.more) in
     omega arith
 
 missing-requires : tie.Need-missing-requires
@@ -72,11 +72,11 @@ returns c =
     let units : c.before.missing.result ≡ lacking p Kind.chilled =
     c.before.missing.ensures ∙ ap (λ (t : ℕ). at p.stores.chilled.needs t - at p.stores.chilled.figures t) (first-is c.before.before)
     in
-    ap₂ (λ (x lack : ℕ). rules.notBooked x (each (λ _. lack))) (first-is c.before.before ∙ sym first)
+    ap₂ (λ (x lack : ℕ). rules.not_booked x (each (λ _. lack))) (first-is c.before.before ∙ sym first)
     (c.shortage.ensures
     ∙ ap (λ (u : ℕ). p.stores.chilled.total + u - p.stores.chilled.bound) units
     ∙ sym lack
-    ∙ ap (rules.lackIn (meaning p) (meaning p).stores.chilled) (sym first))
+    ∙ ap (rules.lack_in (meaning p) (meaning p).stores.chilled) (sym first))
 
 pub not-booked-spec : {M : Type 1} → statement M
 not-booked-spec =

@@ -5,18 +5,18 @@ use mathlib.Core.Logic.{⊎_elim}
 use Prim.Native.Nat.{ℕ, ◌+◌, ◌-◌, ◌≤◌}
 use native.Mathlib.Omega.{arith}
 use borrow.Author.Rules.{rules}
-use Rattle.numbers.specs.Limits.{maxTasks}
+use Rattle.numbers.specs.Limits.{max_tasks}
 use Rattle.numbers.proofs.Tests.{same_or_not}
 use Rattle.numbers.proofs.Lowest.{lowest-none, lowest-is}
 use Rattle.numbers.specs.Lists.{at}
-use Rattle.books.specs.Booking.{isUnendedChild}
+use Rattle.books.specs.Booking.{is_unended_child}
 use Rattle.words.specs.Contents.{contents}
 use Rattle.reason.proofs.unended_child.Statement.{statement}
 use Rattle.reason.proofs.unended_child.Tie as tie
 
 abbrev invariant-loop : tie.invariant-loop
 invariant-loop plan task n child₀ child =
-    (child ≤ n) × ((d : ℕ) → 1 ≤ d → d ≤ child → isUnendedChild (at (contents plan).parents) (at (contents plan).standings) task d ≡ false)
+    (child ≤ n) × ((d : ℕ) → 1 ≤ d → d ≤ child → is_unended_child (at (contents plan).parents) (at (contents plan).standings) task d ≡ false)
 
 abbrev decreases-loop : tie.decreases-loop
 decreases-loop plan task n child₀ child = n - child
@@ -30,7 +30,7 @@ loop-holds : tie.Need-loop-init invariant-loop decreases-loop
 loop-holds c = (omega arith, λ d low high. absurd (omega arith))
 
 -- another task is looked at
-more : (c : tie.In-loop invariant-loop decreases-loop) → c.before.loop.child + 1 ≤ maxTasks
+more : (c : tie.In-loop invariant-loop decreases-loop) → c.before.loop.child + 1 ≤ max_tasks
 more c =
     let e = size_is c.before.before in
     let small = c.before.before.before.requires in

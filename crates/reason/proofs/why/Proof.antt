@@ -45,7 +45,7 @@ first-true-requires c κs =
     record {
       valid = s.requires;
       runs = runs c.before.before.before;
-      is-task = within-task _ _ (sym (tested c.before) ∙ not-false c.before.is_Within.result c.if2.false);
+      is_task = within-task _ _ (sym (tested c.before) ∙ not-false c.before.is_Within.result c.if2.false);
     }
 
 pub why-spec : {M : Type 1} → statement M

@@ -6,12 +6,12 @@ use borrow.Author.Rules.{rules}
 use lib.Seq.{get_or-take}
 use Rattle.books.specs.Kind
 use Rattle.numbers.specs.Lists.{at}
-use Rattle.numbers.specs.Limits.{maxTasks}
-use Rattle.words.specs.Layout.{entries, executionBase}
+use Rattle.numbers.specs.Limits.{max_tasks}
+use Rattle.words.specs.Layout.{entries, execution_base}
 use Rattle.words.specs.Contents.{Contents, contents}
 use Rattle.words.proofs.Views.{part_at}
-use Rattle.store.specs.Rows.{executionOf}
-use Rattle.starting.proofs.Running.{place_in, task, used-fits, ran, active-small, may_load, after-load}
+use Rattle.store.specs.Rows.{execution_of}
+use Rattle.starting.proofs.Running.{place_in, task, used_fits, ran, active-small, may_load, after-load}
 use Rattle.starting.proofs.run.Statement.{statement}
 use Rattle.starting.proofs.run.Tie as tie
 
@@ -23,15 +23,15 @@ place-small : (c : tie.Start) → c.args.place < entries
 place-small c = omega (arith, place_in c.requires, c.requires.kept.invariant.small)
 
 -- the task that is read there
-task-is : (c : tie.After-entry) → c.entry.result ≡ at (executionOf (plan_of c.before.before)) c.before.before.args.place
+task-is : (c : tie.After-entry) → c.entry.result ≡ at (execution_of (plan_of c.before.before)) c.before.before.args.place
 unfolding contents
 task-is c =
     let start = c.before.before in
     c.entry.ensures
-    ∙ part_at executionBase entries start.args.plan.now start.args.place (place-small start)
+    ∙ part_at execution_base entries start.args.plan.now start.args.place (place-small start)
     ∙ sym (get_or-take (plan_of start).size (plan_of start).execution start.args.place 0 (place_in start.requires))
 
-task-small : (c : tie.After-entry) → c.entry.result ≤ maxTasks
+task-small : (c : tie.After-entry) → c.entry.result ≤ max_tasks
 task-small c =
     let start = c.before.before in
     omega (arith, task-is c, (task start.requires).high, start.requires.kept.invariant.small)
@@ -79,7 +79,7 @@ load-requires c κs =
     let t = task-small at-cell.before.before in
     may_load removed.remove.new.0 start.requires.kept.cached.long (omega arith) (active-is at-cell)
     removed.remove.ensures c.before.before.before.set-cell.ensures c.before.set-cell2.ensures
-    (rw (task-is at-cell.before.before) (used-fits start.requires Kind.chilled))
+    (rw (task-is at-cell.before.before) (used_fits start.requires Kind.chilled))
 
 cast-result : tie.Need-overflow-cast-result
 cast-result c =

@@ -3,7 +3,7 @@ use mathlib.Core.Path.{◌≡◌, sym, subst, ◌∙◌}
 use Prim.Native.Nat.{ℕ, ◌-◌, ◌<◌}
 use native.Mathlib.Omega.{arith}
 use borrow.Author.Rules.{rules}
-use Rattle.numbers.specs.Limits.{maxProcessors}
+use Rattle.numbers.specs.Limits.{max_processors}
 use Rattle.words.specs.Contents.{Contents, contents}
 use Rattle.words.specs.Marks.{FirstMarked}
 use Rattle.starting.proofs.StartLoop.{StartLoop, none_yet, marked, as_long, no-processor, nobody-ready, may-run, count_small, room, next}
@@ -84,7 +84,7 @@ run-requires c κs =
     may-run (start head).pre head.loop.inv (found c.before.before) (some-ready c.before)
 
 -- that what a turn counts is small, and has room in the start list
-few : (c : tie.After-run invariant-loop decreases-loop) → (loop c.before.before.before).loop.count < maxProcessors
+few : (c : tie.After-run invariant-loop decreases-loop) → (loop c.before.before.before).loop.count < max_processors
 few c =
     let look = c.before.before.before in
     let head = loop look in

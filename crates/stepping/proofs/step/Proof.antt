@@ -27,7 +27,7 @@ loop-holds c =
     let start = c.before.before.before.before in
     let stands = start.requires.1 in
     let size = length-take-le start.args.position.filled start.args.input.now stands.in_buffer in
-    begun _ _ _ _ _ start.requires.0 (omega (arith, size, stands.at-hand)) (omega (arith, size, stands.counted))
+    begun _ _ _ _ _ start.requires.0 (omega (arith, size, stands.at_hand)) (omega (arith, size, stands.counted))
 
 -- the turn was asked with what the position answered
 turned : (c : tie.After-turn invariant-loop decreases-loop)

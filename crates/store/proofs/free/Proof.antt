@@ -3,7 +3,7 @@ use Prim.Native.Nat.{◌-◌}
 use native.Mathlib.Omega.{arith}
 use borrow.Author.Rules.{rules}
 use Rattle.words.specs.Contents.{contents}
-use Rattle.store.specs.Store.{storeAt, freed}
+use Rattle.store.specs.Store.{store_at, freed}
 use Rattle.words.specs.Layout.{kind_at}
 use Rattle.store.proofs.Writing.{head_at, holds, total-written}
 use Rattle.store.proofs.free.Statement.{statement}
@@ -24,7 +24,7 @@ returns c =
     let r = head_at start.args.plan.now start.requires.0.offset in
     let total = c.before.before.cell.ensures in
     (total-written (holds _ (kind_at start.args.store) start.requires.1) start.requires.0.offset
-    ((storeAt start.args.store (contents start.args.plan.now)).total - start.args.left) (omega arith) c.set-cell.ensures).same
+    ((store_at start.args.store (contents start.args.plan.now)).total - start.args.left) (omega arith) c.set-cell.ensures).same
 
 pub free_spec : {M : Type 1} → statement M
 free_spec =

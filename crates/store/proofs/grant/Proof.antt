@@ -7,16 +7,16 @@ use borrow.Author.Rules.{rules}
 use Rattle.numbers.specs.Lists.{at}
 use Rattle.words.specs.Layout.{kind_at, rows}
 use Rattle.words.specs.Contents.{StoreContents, Contents, contents}
-use Rattle.store.specs.Store.{storeAt, withStore, withHoldings, granted}
+use Rattle.store.specs.Store.{store_at, with_store, with_holdings, granted}
 use Rattle.store.proofs.Writing.{RowAt, HeadAt, Held, holds, row_read, row_at, head_at, total-written, booked-written, figure-written, figures-grown}
 use Rattle.store.proofs.grant.Statement.{statement}
 use Rattle.store.proofs.grant.Tie as tie
 
 row : (c : tie.Start) → RowAt c.args.plan.now c.args.store c.args.task
-row c = row_at _ c.requires.at-task
+row c = row_at _ c.requires.at_task
 
 head : (c : tie.Start) → HeadAt c.args.plan.now c.args.store
-head c = head_at _ c.requires.at-task.offset
+head c = head_at _ c.requires.at_task.offset
 
 abbrev first : tie.After-cell4 → tie.Start
 first c = c.before.before.before.before.before.before.before.before
@@ -26,7 +26,7 @@ abbrev old : tie.Start → Contents
 old c = contents c.args.plan.now
 
 abbrev was : tie.Start → StoreContents
-was c = storeAt c.args.store (old c)
+was c = store_at c.args.store (old c)
 
 -- what is read
 figure-read : (c : tie.After-cell4) → c.cell4.result ≡ at (was (first c)).figures (first c).args.task
@@ -74,21 +74,21 @@ written c =
     let s : tie.Start = begin c in
     let x = s.args.task in
     let m = s.args.units in
-    let at-task = s.pre.at-task in
+    let at_task = s.pre.at_task in
     figure-written
     (booked-written
-    (total-written (holds s.args.plan.now (kind_at s.args.store) at-task.long) at-task.offset ((was s).total + m)
+    (total-written (holds s.args.plan.now (kind_at s.args.store) at_task.long) at_task.offset ((was s).total + m)
     (ap (λ (v : ℕ). v + m) (total-read (third c))) c.before.before.before.before.set-cell.ensures)
-    at-task.offset (at (was s).booked x + m) (ap (λ (v : ℕ). v + m) (booked-read (third c))) x
-    at-task.task-in c.before.before.set-cell2.ensures)
-    at-task.offset (at (was s).figures x + m) (ap (λ (v : ℕ). v + m) (figure-read (third c))) x
-    at-task.task-in c.set-cell3.ensures
+    at_task.offset (at (was s).booked x + m) (ap (λ (v : ℕ). v + m) (booked-read (third c))) x
+    at_task.task_in c.before.before.set-cell2.ensures)
+    at_task.offset (at (was s).figures x + m) (ap (λ (v : ℕ). v + m) (figure-read (third c))) x
+    at_task.task_in c.set-cell3.ensures
 
 parent-small : (c : tie.After-cell4) → c.before.before.before.before.before.before.cell.result < rows
 parent-small c = let e = parent-read c in let h = (first c).requires.parent_in in omega arith
 
 grow-requires : tie.Need-grow-requires
-unfolding withStore withHoldings
+unfolding with_store with_holdings
 grow-requires c κs =
     let s : tie.Start = begin c.before in
     let h = written c.before in
@@ -96,22 +96,22 @@ grow-requires c κs =
     let p = parent-read (third c.before) in
     let f = figure-read (third c.before) in
     record {
-      task-in = small;
-      column-in = (let o = s.pre.at-task.inside in omega arith);
+      task_in = small;
+      column_in = (let o = s.pre.at_task.inside in omega arith);
       fits =
           λ d.
-          let most = s.pre.parent-fits (λ e. d (p ∙ e)) in
-          let is = (row_read h s.pre.at-task.offset _ small).figure in
+          let most = s.pre.parent_fits (λ e. d (p ∙ e)) in
+          let is = (row_read h s.pre.at_task.offset _ small).figure in
           let there = ap (at (set (was s).figures s.args.task (at (was s).figures s.args.task + s.args.units))) p in
           omega arith;
     }
 
 returns : tie.Need-returns
-unfolding withStore withHoldings granted
+unfolding with_store with_holdings granted
 returns c =
     let before = third c.before.before in
     let s : tie.Start = first before in
-    (figures-grown (written c.before.before) s.pre.at-task.offset (at (old s).parents s.args.task)
+    (figures-grown (written c.before.before) s.pre.at_task.offset (at (old s).parents s.args.task)
     (at (was s).figures s.args.task + s.args.units) (parent-read before)
     (ap (λ (v : ℕ). v + s.args.units) (figure-read before)) s.pre.parent_in c.grow.ensures).same
 

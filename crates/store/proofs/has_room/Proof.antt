@@ -7,7 +7,7 @@ use borrow.Author.Rules.{rules}
 use borrow.Author.Tests.{le-leb, lt-leb}
 use Rattle.numbers.proofs.Tests.{le-or-lt}
 use Rattle.words.specs.Contents.{contents}
-use Rattle.store.specs.Store.{storeAt}
+use Rattle.store.specs.Store.{store_at}
 use Rattle.store.proofs.Writing.{head_at}
 use Rattle.store.proofs.has_room.Statement.{statement}
 use Rattle.store.proofs.has_room.Tie as tie
@@ -28,8 +28,8 @@ returns c =
     let fits = start.requires.1 in
     let bound = c.before.cell.ensures in
     let total = c.cell2.ensures in
-    let all = (storeAt start.args.store (contents start.args.plan.now)).total + start.args.units in
-    let most = (storeAt start.args.store (contents start.args.plan.now)).bound in
+    let all = (store_at start.args.store (contents start.args.plan.now)).total + start.args.units in
+    let most = (store_at start.args.store (contents start.args.plan.now)).bound in
     ⊎_elim (λ h. le-leb _ _ h ∙ sym (le-leb all most (omega arith))) (λ h. lt-leb _ _ h ∙ sym (lt-leb all most (omega arith)))
     (le-or-lt start.args.units (c.before.cell.result - c.cell2.result))
 

@@ -1,21 +1,21 @@
 -- `hold_alone` meets its contract: one word of a row and two of the head are written.
 use mathlib.Core.Path.{refl}
 use borrow.Author.Rules.{rules}
-use Rattle.store.specs.Store.{withStore, withHoldings, heldAlone}
+use Rattle.store.specs.Store.{with_store, with_holdings, held_alone}
 use Rattle.words.specs.Layout.{kind_at}
 use Rattle.store.proofs.Writing.{holds, total-written, used-written, booked-written}
 use Rattle.store.proofs.hold_alone.Statement.{statement}
 use Rattle.store.proofs.hold_alone.Tie as tie
 
 returns : tie.Need-returns
-unfolding withStore withHoldings heldAlone
+unfolding with_store with_holdings held_alone
 returns c =
     let start = c.before.before.before.before.before.before in
     let here = start.requires in
     (used-written
     (total-written
     (booked-written (holds _ (kind_at start.args.store) here.long) here.offset start.args.units refl start.args.task
-    here.task-in c.before.before.before.before.set-cell.ensures) here.offset start.args.units refl
+    here.task_in c.before.before.before.before.set-cell.ensures) here.offset start.args.units refl
     c.before.before.set-cell2.ensures) here.offset start.args.units refl c.set-cell3.ensures).same
 
 pub hold-alone-spec : {M : Type 1} → statement M

@@ -4,7 +4,7 @@ use native.Mathlib.Omega.{arith}
 use borrow.Author.Rules.{rules}
 use Rattle.numbers.specs.Lists.{at}
 use Rattle.words.specs.Contents.{StoreContents, contents}
-use Rattle.store.specs.Store.{storeAt, loaded}
+use Rattle.store.specs.Store.{store_at, loaded}
 use Rattle.words.specs.Layout.{kind_at}
 use Rattle.store.proofs.Writing.{RowAt, HeadAt, row_at, head_at, holds, used-written}
 use Rattle.store.proofs.load.Statement.{statement}
@@ -15,7 +15,7 @@ start c = c.before.before.before.before.before.before
 
 -- the store as it was
 abbrev was : tie.Start → StoreContents
-was c = storeAt c.args.store (contents c.args.plan.now)
+was c = store_at c.args.store (contents c.args.plan.now)
 
 row : (c : tie.Start) → RowAt c.args.plan.now c.args.store c.args.task
 row c = row_at _ c.requires.0

@@ -5,7 +5,7 @@ use native.Mathlib.Omega.{arith}
 use borrow.Author.Rules.{rules}
 use Rattle.numbers.specs.Lists.{at}
 use Rattle.words.specs.Contents.{StoreContents, contents}
-use Rattle.store.specs.Store.{storeAt, withStore, withHoldings, gift, passed}
+use Rattle.store.specs.Store.{store_at, with_store, with_holdings, gift, passed}
 use Rattle.words.specs.Layout.{kind_at}
 use Rattle.store.proofs.Writing.{RowAt, row_at, holds, booked-written, figure-written}
 use Rattle.store.proofs.pass.Statement.{statement}
@@ -13,16 +13,16 @@ use Rattle.store.proofs.pass.Tie as tie
 
 -- the store as it was
 abbrev was : tie.Start → StoreContents
-was c = storeAt c.args.store (contents c.args.plan.now)
+was c = store_at c.args.store (contents c.args.plan.now)
 
 row : (c : tie.Start) → RowAt c.args.plan.now c.args.store c.args.task
-row c = row_at _ c.requires.at-task
+row c = row_at _ c.requires.at_task
 
 sub-figure : tie.Need-overflow-sub-figure
 sub-figure c =
     let r = row c.before.before in
     let e = c.cell.ensures in
-    let enough = c.before.before.requires.figure-has in
+    let enough = c.before.before.requires.figure_has in
     omega arith
 
 -- what is read
@@ -49,27 +49,27 @@ add-set-cell-2 : tie.Need-overflow-add-set-cell-2
 add-set-cell-2 c =
     let b = booked-read c.before in
     let g = gift-read c.before in
-    let fits = (start c.before).requires.booked-fits in
+    let fits = (start c.before).requires.booked_fits in
     omega arith
 
 abbrev last : tie.After-set-cell2 → tie.After-cell3
 last c = c.before.before.before.before
 
 sub-result : tie.Need-overflow-sub-result
-sub-result c = let g = gift-read (last c) in let small = (start (last c)).requires.gift-small in omega arith
+sub-result c = let g = gift-read (last c) in let small = (start (last c)).requires.gift_small in omega arith
 
 returns : tie.Need-returns
-unfolding withStore withHoldings passed
+unfolding with_store with_holdings passed
 returns c =
     let s : tie.Start = start (last c) in
     let x = s.args.task in
-    let here = s.pre.at-task in
+    let here = s.pre.at_task in
     let given = gift x s.args.left (was s) in (
       (figure-written
           (booked-written (holds s.args.plan.now (kind_at s.args.store) here.long) here.offset (at (was s).booked x + given)
-          (ap₂ (λ (a b : ℕ). a + b) (booked-read (last c)) (gift-read (last c))) x here.task-in c.before.before.set-cell.ensures)
+          (ap₂ (λ (a b : ℕ). a + b) (booked-read (last c)) (gift-read (last c))) x here.task_in c.before.before.set-cell.ensures)
           here.offset (at (was s).figures x - s.args.left + given)
-          (ap₂ (λ (a b : ℕ). a - s.args.left + b) (figure-read (last c)) (gift-read (last c))) x here.task-in c.set-cell2.ensures).same,
+          (ap₂ (λ (a b : ℕ). a - s.args.left + b) (figure-read (last c)) (gift-read (last c))) x here.task_in c.set-cell2.ensures).same,
       ap (λ (v : ℕ). s.args.left - v) (gift-read (last c)),
     )
 

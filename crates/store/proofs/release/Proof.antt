@@ -7,7 +7,7 @@ use borrow.Author.Rules.{rules}
 use Rattle.numbers.specs.Lists.{at}
 use Rattle.words.specs.Layout.{kind_at, rows}
 use Rattle.words.specs.Contents.{StoreContents, Contents, contents}
-use Rattle.store.specs.Store.{storeAt, withStore, withHoldings, released}
+use Rattle.store.specs.Store.{store_at, with_store, with_holdings, released}
 use Rattle.store.proofs.Writing.{RowAt, HeadAt, Held, holds, row_read, row_at, head_at, used-written, booked-written, figure-written, booked-grown}
 use Rattle.store.proofs.release.Statement.{statement}
 use Rattle.store.proofs.release.Tie as tie
@@ -17,13 +17,13 @@ abbrev old : tie.Start → Contents
 old c = contents c.args.plan.now
 
 abbrev was : tie.Start → StoreContents
-was c = storeAt c.args.store (old c)
+was c = store_at c.args.store (old c)
 
 row : (c : tie.Start) → RowAt c.args.plan.now c.args.store c.args.task
-row c = row_at _ c.requires.at-task
+row c = row_at _ c.requires.at_task
 
 head : (c : tie.Start) → HeadAt c.args.plan.now c.args.store
-head c = head_at _ c.requires.at-task.offset
+head c = head_at _ c.requires.at_task.offset
 
 -- what is read
 abbrev start : tie.After-cell5 → tie.Start
@@ -60,7 +60,7 @@ sub-set-cell : tie.Need-overflow-sub-set-cell
 sub-set-cell c =
     let u = used-read c.before in
     let n = need-read c.before in
-    let enough = (start c.before).requires.used-has in
+    let enough = (start c.before).requires.used_has in
     omega arith
 
 add-set-cell-2 : tie.Need-overflow-add-set-cell-2
@@ -68,7 +68,7 @@ add-set-cell-2 c =
     let u = used-read c.before in
     let n = need-read c.before in
     let o = out-read c.before in
-    let fits = (start c.before).requires.used-fits in
+    let fits = (start c.before).requires.used_fits in
     omega arith
 
 -- the words after the three writes before the parent's booked trays
@@ -86,7 +86,7 @@ written :
 written c =
     let s : tie.Start = begin c in
     let x = s.args.task in
-    let here = s.pre.at-task in
+    let here = s.pre.at_task in
     let u = used-read (third c) in
     let n = need-read (third c) in
     let o = out-read (third c) in
@@ -94,26 +94,26 @@ written c =
     (booked-written
     (used-written (holds s.args.plan.now (kind_at s.args.store) here.long) here.offset
     ((was s).used - at (was s).needs x + keeps s) (omega arith) c.before.before.before.before.set-cell.ensures)
-    here.offset 0 refl x here.task-in c.before.before.set-cell2.ensures)
-    here.offset 0 refl x here.task-in c.set-cell3.ensures
+    here.offset 0 refl x here.task_in c.before.before.set-cell2.ensures)
+    here.offset 0 refl x here.task_in c.set-cell3.ensures
 
 parent-small : (c : tie.After-cell5) → c.before.before.before.before.before.before.before.before.cell.result < rows
 parent-small c = let e = parent-read c in let h = (start c).requires.parent_in in omega arith
 
 grow-requires : tie.Need-grow-requires
-unfolding withStore withHoldings
+unfolding with_store with_holdings
 grow-requires c κs =
     let s : tie.Start = begin c.before in
     let p = parent-read (third c.before) in
     let o = out-read (third c.before) in
     let small = parent-small (third c.before) in
     record {
-      task-in = small;
-      column-in = (let f = s.pre.at-task.inside in omega arith);
+      task_in = small;
+      column_in = (let f = s.pre.at_task.inside in omega arith);
       fits =
           λ _.
-          let most = s.pre.parent-fits in
-          let is = (row_read (written c.before) s.pre.at-task.offset _ small).booked in
+          let most = s.pre.parent_fits in
+          let is = (row_read (written c.before) s.pre.at_task.offset _ small).booked in
           let there = ap (at (set (was s).booked s.args.task 0)) p in
           omega arith;
     }
@@ -123,15 +123,15 @@ sub-result c =
     let before = third c.before.before in
     let h = held-read before in
     let o = out-read before in
-    let enough = (start before).pre.out-held in
+    let enough = (start before).pre.out_held in
     omega arith
 
 returns : tie.Need-returns
-unfolding withStore withHoldings released
+unfolding with_store with_holdings released
 returns c =
     let before = third c.before.before in
     let s : tie.Start = start before in (
-      (booked-grown (written c.before.before) s.pre.at-task.offset (parent s) (keeps s) (parent-read before) (out-read before)
+      (booked-grown (written c.before.before) s.pre.at_task.offset (parent s) (keeps s) (parent-read before) (out-read before)
           s.pre.parent_in c.grow.ensures).same,
       ap₂ (λ (a b : ℕ). a - b) (held-read before) (out-read before),
     )

@@ -4,7 +4,7 @@ use native.Mathlib.Omega.{arith}
 use borrow.Author.Rules.{rules}
 use Rattle.numbers.specs.Lists.{at}
 use Rattle.words.specs.Contents.{contents}
-use Rattle.store.specs.Store.{storeAt, rested}
+use Rattle.store.specs.Store.{store_at, rested}
 use Rattle.words.specs.Layout.{kind_at}
 use Rattle.store.proofs.Writing.{row_at, holds, figure-written}
 use Rattle.store.proofs.rest.Statement.{statement}
@@ -27,8 +27,8 @@ returns c =
     let r = row_at start.args.plan.now here in
     let figure = c.before.before.cell.ensures in
     (figure-written (holds _ (kind_at start.args.store) here.long) here.offset
-    (at (storeAt start.args.store (contents start.args.plan.now)).figures start.args.task - start.args.left) (omega arith)
-    start.args.task here.task-in c.set-cell.ensures).same
+    (at (store_at start.args.store (contents start.args.plan.now)).figures start.args.task - start.args.left) (omega arith)
+    start.args.task here.task_in c.set-cell.ensures).same
 
 pub rest-spec : {M : Type 1} → statement M
 rest-spec =

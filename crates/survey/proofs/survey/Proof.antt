@@ -9,19 +9,19 @@ use borrow.Author.Rules.{rules}
 use borrow.Author.Tests.{eq-eqb, ne_eqb}
 use Rattle.books.specs.Kind.{chilled}
 use Rattle.numbers.specs.Lists.{at}
-use Rattle.tree.specs.Peak.{Peaked, peaked, noPeak}
+use Rattle.tree.specs.Peak.{Peaked, peaked, no_peak}
 use Rattle.words.specs.Contents.{contents}
-use Rattle.store.specs.Rows.{tasksOf}
-use Rattle.survey.specs.Survey.{RankedIn, orderGround, groundOf}
+use Rattle.store.specs.Rows.{tasks_of}
+use Rattle.survey.specs.Survey.{RankedIn, order_ground, ground_of}
 use Rattle.survey.proofs.Grounds.{no-ground}
 use Rattle.survey.proofs.survey.Statement.{statement}
 use Rattle.survey.proofs.survey.Tie as tie
 
 -- a peak is told where the test holds, and none where it fails
-told : (test : Bool) (p : Peaked) → test ≡ true → cond test p noPeak ≡ p
+told : (test : Bool) (p : Peaked) → test ≡ true → cond test p no_peak ≡ p
 told test p e = rw e
 
-untold : (test : Bool) (p : Peaked) → test ≡ false → cond test p noPeak ≡ noPeak
+untold : (test : Bool) (p : Peaked) → test ≡ false → cond test p no_peak ≡ no_peak
 untold test p e = rw e
 
 cell-requires : tie.Need-cell-requires
@@ -41,14 +41,14 @@ ordered c = subst (λ (n : ℕ). RankedIn n (contents c.before.args.plan.now)) (
 ground-requires : tie.Need-ground-requires
 ground-requires c κs = ordered c
 
-ground-is : (c : tie.After-ground) → c.ground.result ≡ groundOf (contents c.before.before.args.plan.now)
+ground-is : (c : tie.After-ground) → c.ground_for.result ≡ ground_of (contents c.before.before.args.plan.now)
 ground-is c =
     let k = contents c.before.before.args.plan.now in
-    c.ground.ensures ∙ ap (λ (n : ℕ). orderGround n (at k.parents) (take n k.activation)) (size_is c.before)
+    c.ground_for.ensures ∙ ap (λ (n : ℕ). order_ground n (at k.parents) (take n k.activation)) (size_is c.before)
 
 returns : tie.Need-returns
 returns c =
-    let number = groundOf (contents c.before.before.before.args.plan.now) in (
+    let number = ground_of (contents c.before.before.before.args.plan.now) in (
       ground-is c.before,
       sym (untold (eqb number 0) _ (ne_eqb number 0 (λ e. c.if1.true (ground-is c.before ∙ e)))),
     )
@@ -56,7 +56,7 @@ returns c =
 peak-requires : tie.Need-peak-requires
 peak-requires c κs =
     let pre = ordered c.before.before in
-    let fine = no-ground _ _ _ _ pre.parented pre.ranked (sym c.before.ground.ensures ∙ c.if1.false) in
+    let fine = no-ground _ _ _ _ pre.parented pre.ranked (sym c.before.ground_for.ensures ∙ c.if1.false) in
     record { some = fine.0; parented = pre.parented; offset = omega arith; valid = fine.1 }
 
 returns-2 : tie.Need-returns-2
@@ -64,12 +64,12 @@ unfolding contents
 returns-2 c =
     let past = c.before in
     let k = contents past.before.before.before.args.plan.now in
-    let none : groundOf k ≡ 0 = sym (ground-is past.before) ∙ past.if1.false in (
+    let none : ground_of k ≡ 0 = sym (ground-is past.before) ∙ past.if1.false in (
       sym none,
       c.peak.ensures
-          ∙ ap (λ (n : ℕ). peaked n (at k.parents) (tasksOf k chilled).work (tasksOf k chilled).out (take n k.activation))
+          ∙ ap (λ (n : ℕ). peaked n (at k.parents) (tasks_of k chilled).work (tasks_of k chilled).out (take n k.activation))
           (size_is past.before.before)
-          ∙ sym (told (eqb (groundOf k) 0) _ (eq-eqb (groundOf k) 0 none)),
+          ∙ sym (told (eqb (ground_of k) 0) _ (eq-eqb (ground_of k) 0 none)),
     )
 
 pub survey-spec : {M : Type 1} → statement M

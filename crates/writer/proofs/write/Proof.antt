@@ -5,7 +5,7 @@ use Prim.Native.Nat.{ℕ, ◌+◌, ◌*◌}
 use native.Mathlib.Omega.{arith}
 use borrow.Author.Rules.{rules}
 use borrow.Author.Tests.{not-true, not-false}
-use Rattle.streams.specs.Instance.{instanceOf}
+use Rattle.streams.specs.Instance.{instance_of}
 use Rattle.rules.specs.Answer.{front}
 use Rattle.streams.specs.Write as writing
 use Rattle.streams.proofs.Written.{every-write-holds, write-early, write-short, write-whole}
@@ -30,8 +30,8 @@ whole c =
 -- the room that is tested
 room-is :
     (c : tie.After-cell)
-    → 8 + 13 * c.cell.result ≡ writing.writtenLength (instanceOf (plan_of (start c.before.before).args.plan.now))
-unfolding contents writing.writtenLength
+    → 8 + 13 * c.cell.result ≡ writing.written_length (instance_of (plan_of (start c.before.before).args.plan.now))
+unfolding contents writing.written_length
 room-is c = ap (λ (n : ℕ). 8 + 13 * n) c.cell.ensures
 
 -- an order is not complete
@@ -52,7 +52,7 @@ write-whole-requires : tie.Need-write-whole-requires
 write-whole-requires c κs = whole c.before.before.before
 
 returns-3 : tie.Need-returns-3
-unfolding writing.atFront front
+unfolding writing.at_front front
 returns-3 c =
     let put = c.before.before in
     let tested = put.before.before in

@@ -2,7 +2,7 @@
 use borrow.Author.Rules.{rules}
 use mathlib.Core.Path.{◌≡◌}
 use native.Mathlib.Omega.{arith}
-use Rattle.words.specs.Contents.{contents, storeContents}
+use Rattle.words.specs.Contents.{contents, store_contents}
 use Rattle.writer.proofs.write_opening.Statement.{statement}
 use Rattle.writer.proofs.write_opening.Tie as tie
 
@@ -15,7 +15,7 @@ unfolding contents
 cast-p c = let e = c.cell2.ensures in let few = c.before.before.before.requires.valid.sound.few in omega arith
 
 returns : tie.Need-returns
-unfolding contents storeContents
+unfolding contents store_contents
 returns c =
     let put = c.before.before in
     let read = put.before.before in

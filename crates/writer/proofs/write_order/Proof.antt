@@ -13,14 +13,14 @@ use Rattle.words.specs.Contents.{contents}
 use Rattle.words.proofs.Views.{part_length, part_at}
 use Rattle.put.specs.Put.{Put}
 use Rattle.put.proofs.Pieces.{nothing, kept}
-use Rattle.writer.specs.Writing.{nextIn}
+use Rattle.writer.specs.Writing.{next_in}
 use Rattle.writer.proofs.Turning.{entry-turn}
 use Rattle.writer.proofs.write_order.Statement.{statement}
 use Rattle.writer.proofs.write_order.Tie as tie
 
 abbrev invariant-loop : tie.invariant-loop
 invariant-loop plan order list₀ place n next₀ k₀ list next k =
-    (k ≤ n) × Put (flat_map bytes (map (nextIn order) (take k (part order entries plan)))) place list₀ list next
+    (k ≤ n) × Put (flat_map bytes (map (next_in order) (take k (part order entries plan)))) place list₀ list next
 
 abbrev decreases-loop : tie.decreases-loop
 decreases-loop plan order list₀ place n next₀ k₀ list next k = n - k
@@ -71,7 +71,7 @@ loop-again c =
     let there : (read c).entry.result ≡ at (part order entries w) k = (read c).entry.ensures ∙ part_at order entries w k inside in
     let t = turn.loop-test.taken in (
       omega arith,
-      entry-turn (nextIn order) (part order entries w) k (rw (part_length order entries w) inside) there turn.before.loop.inv.1
+      entry-turn (next_in order) (part order entries w) k (rw (part_length order entries w) inside) there turn.before.loop.inv.1
           c.before.before.write-entry.ensures,
     )
 

@@ -6,7 +6,7 @@ use native.Mathlib.Omega.{arith}
 use borrow.Author.Rules.{rules}
 use Rattle.numbers.specs.Sums.{Task}
 use Rattle.format.specs.Command.{bytes}
-use Rattle.streams.specs.Instance.{instanceOf, tasksTo}
+use Rattle.streams.specs.Instance.{instance_of, tasks_to}
 use Rattle.words.specs.Contents.{contents}
 use Rattle.answer.specs.Meaning.{plan_of}
 use Rattle.put.specs.Put.{Put}
@@ -17,13 +17,13 @@ use Rattle.writer.proofs.write_tasks.Tie as tie
 
 abbrev invariant-loop : tie.invariant-loop
 invariant-loop plan list₀ place n next₀ task₀ list next task =
-    (task ≤ n) × Put (flat_map bytes (tasksTo (instanceOf (plan_of plan)) task)) place list₀ list next
+    (task ≤ n) × Put (flat_map bytes (tasks_to (instance_of (plan_of plan)) task)) place list₀ list next
 
 abbrev decreases-loop : tie.decreases-loop
 decreases-loop plan list₀ place n next₀ task₀ list next task = n - task
 
 loop-holds : tie.Need-loop-init invariant-loop decreases-loop
-unfolding tasksTo flat_map
+unfolding tasks_to flat_map
 loop-holds c = (omega arith, nothing _ _)
 
 -- what is read
@@ -32,18 +32,18 @@ unfolding contents
 size_is c = c.cell.ensures
 
 -- another task is written
-is-task : (c : tie.In-loop invariant-loop decreases-loop) → Task (contents c.before.before.before.before.args.plan.now).size (c.before.loop.task + 1)
-is-task c =
+is_task : (c : tie.In-loop invariant-loop decreases-loop) → Task (contents c.before.before.before.before.args.plan.now).size (c.before.loop.task + 1)
+is_task c =
     let e = size_is c.before.before in
     let more = c.loop-test.true in
     record { low = omega arith; high = omega arith }
 
 add-task : tie.Need-overflow-add-task invariant-loop decreases-loop
 add-task c =
-    let t = (is-task c).high in let small = c.before.before.before.before.requires.valid.sound.small in omega arith
+    let t = (is_task c).high in let small = c.before.before.before.before.requires.valid.sound.small in omega arith
 
 write-task-requires : tie.Need-write-task-requires invariant-loop decreases-loop
-write-task-requires c κs = record { plan = c.before.before.before.before.before.requires; is-task = is-task c.before }
+write-task-requires c κs = record { plan = c.before.before.before.before.before.requires; is_task = is_task c.before }
 
 loop-again : tie.Need-loop-preserved invariant-loop decreases-loop
 loop-again c =

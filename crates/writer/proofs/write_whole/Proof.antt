@@ -5,33 +5,33 @@ use Prim.Native.Nat.{ℕ}
 use borrow.Author.Rules.{rules}
 use lib.ListN.{take}
 use Rattle.format.specs.Command.{bytes}
-use Rattle.streams.specs.Instance.{instanceOf, openingOf, tasksTo, written}
+use Rattle.streams.specs.Instance.{instance_of, opening_of, tasks_to, written}
 use Rattle.streams.proofs.Written.{written-parts}
-use Rattle.words.specs.Layout.{entries, activationBase, executionBase}
+use Rattle.words.specs.Layout.{entries, activation_base, execution_base}
 use Rattle.words.specs.Views.{part}
 use Rattle.words.specs.Contents.{contents}
 use Rattle.answer.specs.Meaning.{plan_of}
 use Rattle.put.proofs.Pieces.{◌then◌}
-use Rattle.writer.specs.Writing.{WholePlan, nextIn}
+use Rattle.writer.specs.Writing.{WholePlan, next_in}
 use Rattle.writer.proofs.Ordered.{activation-is, execution-is, activation-at, execution-at}
 use Rattle.writer.proofs.write_whole.Statement.{statement}
 use Rattle.writer.proofs.write_whole.Tie as tie
 
 -- the bytes of an order, as its words have it
-abbrev orderBytes : ℕ → List ℕ → List ℕ
-orderBytes order w = flat_map bytes (map (nextIn order) (take (contents w).size (part order entries w)))
+abbrev order_bytes : ℕ → List ℕ → List ℕ
+order_bytes order w = flat_map bytes (map (next_in order) (take (contents w).size (part order entries w)))
 
 parts_are :
     (w : List ℕ)
     → WholePlan w
-    → written (instanceOf (plan_of w))
-    ≡ bytes (openingOf (instanceOf (plan_of w)))
-    ++ flat_map bytes (tasksTo (instanceOf (plan_of w)) (plan_of w).size)
-    ++ orderBytes activationBase w
-    ++ orderBytes executionBase w
-unfolding nextIn
+    → written (instance_of (plan_of w))
+    ≡ bytes (opening_of (instance_of (plan_of w)))
+    ++ flat_map bytes (tasks_to (instance_of (plan_of w)) (plan_of w).size)
+    ++ order_bytes activation_base w
+    ++ order_bytes execution_base w
+unfolding next_in
 parts_are w whole =
-    rw (activation-is w whole, execution-is w whole) (written-parts (instanceOf (plan_of w)))
+    rw (activation-is w whole, execution-is w whole) (written-parts (instance_of (plan_of w)))
 
 -- the parts that are behind
 abbrev opening : tie.After-write-tasks → tie.After-write-opening

@@ -2,7 +2,7 @@
 use mathlib.Core.Path.{◌≡◌, sym, ap, ◌∙◌}
 use borrow.Author.Rules.{rules}
 use Rattle.codec.specs.Meaning.{decoded}
-use Rattle.cephlouk.specs.FlatCommand.{flatDecoded}
+use Rattle.cephlouk.specs.FlatCommand.{flat_decoded}
 use Rattle.cephlouk.proofs.command.cephlouk_decode.Statement.{statement}
 use Rattle.cephlouk.proofs.command.cephlouk_decode.Tie as tie
 

@@ -7,7 +7,7 @@ use borrow.Author.Rules.{rules}
 use Rattle.format.specs.Command.{read}
 use Rattle.rules.specs.Answer.{front}
 use Rattle.streams.specs.Write as writing
-use Rattle.codec.specs.Meaning.{commandOf, decoded}
+use Rattle.codec.specs.Meaning.{command_of, decoded}
 use Rattle.answer.proofs.Unwritten.{unwritten}
 use Rattle.put.proofs.Pieces.{with-room}
 use Rattle.cephlouk.specs.FlatCommand.{named, known}
@@ -30,7 +30,7 @@ unknown c =
     ∙ sym (encode-unknown _ _ _ (sym (ap decoded arm.named2.given.1) ∙ arm.before.before.named.ensures))
 
 whole : tie.Need-returns-3
-unfolding writing.atFront front
+unfolding writing.at_front front
 whole c =
     let put = c.before.before in
     let test = put.before.before in

@@ -101,7 +101,7 @@ use Rattle.peaks.specs.Desk.{desk}
 use Rattle.words.specs.Layout.{words}
 use Rattle.desk.specs.declared.TaskRecord.{TaskRecord}
 use Rattle.desk.specs.declared.DeskAnswer.{DeskAnswer}
-use Rattle.desk.specs.Records.{stepRecords, answer_of}
+use Rattle.desk.specs.Records.{step_records, answer_of}
 use Rattle.desk.specs.contracts.TaskRecord as T
 use Rattle.desk.specs.contracts.DeskAnswer as D
 use Rattle.desk.proofs.DeskAnswer.TheLaws as D'
@@ -203,7 +203,7 @@ module _ {M : Type 1} {𝓤 : Ura M} (𝓛 : Logic 𝓤) (mem : Memory → SProp
 
   -- where the answer is the desk's and the words are 0, what is had at exit is what the contract promises
   abbrev Answered : DeskAnswer → List ℕ → Type 0
-  Answered r ws = (desk (stepRecords records.now) order.now ≡ answer_of r) × (ws ≡ replicate words 0)
+  Answered r ws = (desk (step_records records.now) order.now ≡ answer_of r) × (ws ≡ replicate words 0)
 
   abbrev Had : DeskAnswer → Val → List ℕ → List (Item 𝓤)
   Had r u ws = ‵ ((D.the_row).own_val r (u ∷ [])) ∷ Tokens ∷ ‵ (RoomLast ws) ∷ ‵ Order ∷ ‵ Records ∷ []

@@ -3,7 +3,7 @@ use mathlib.Core.Path.{◌≡◌, ◌∙◌}
 use Prim.Native.Nat.{◌+◌, ◌-◌, ◌≤◌}
 use native.Mathlib.Omega.{arith}
 use Rattle.numbers.specs.Lists.{at}
-use Rattle.numbers.specs.Limits.{maxTasks}
+use Rattle.numbers.specs.Limits.{max_tasks}
 use Rattle.words.specs.Contents.{contents}
 use Rattle.survey.proofs.Reading.{parent-at}
 use Rattle.children.specs.Listing.{ListedTo}
@@ -33,7 +33,7 @@ parent :
     ≡ at (contents c.before.before.before.args.plan.now).parents (c.before.before.loop.i + 1)
 parent c = let small = c.before.before.before.requires.parented.small in c.cell.ensures ∙ parent-at _ _ (omega arith)
 
-low : (c : tie.After-cell invariant-loop decreases-loop) → (c.cell.result ≤ c.before.before.before.args.n) × (c.before.before.before.args.n ≤ maxTasks)
+low : (c : tie.After-cell invariant-loop decreases-loop) → (c.cell.result ≤ c.before.before.before.args.n) × (c.before.before.before.args.n ≤ max_tasks)
 low c =
     let parented = c.before.before.before.requires.parented in
     let is = parent c in

@@ -9,9 +9,9 @@ use borrow.Author.Tests.{not-true, not-false}
 use Rattle.numbers.specs.Lists.{at}
 use Rattle.format.specs.Command.{begin}
 use Rattle.rules.specs.Grounds.{in_turn}
-use Rattle.words.specs.Contents.{contents, storeContents}
+use Rattle.words.specs.Contents.{contents, store_contents}
 use Rattle.words.proofs.Contents.{lengths}
-use Rattle.survey.specs.Survey.{orderGround}
+use Rattle.survey.specs.Survey.{order_ground}
 use Rattle.answer.specs.Meaning.{plan_of}
 use Rattle.answer.proofs.Obeying.{refusal, judged}
 use Rattle.day.specs.Day.{begins}
@@ -42,7 +42,7 @@ out_of_order c =
     c.before.before.before.before.before.before.before.before.before.args.starts.now
 
 over-the-bound : tie.Need-returns-3
-unfolding contents storeContents
+unfolding contents store_contents
 over-the-bound c =
     let w = c.before.before.before.before.before.before.before.before.before.before.before.before.before.args.plan.now in
     let valid = c.before.before.before.before.before.before.before.before.before.before.before.before.before.requires.0 in
@@ -66,7 +66,7 @@ module _ (c : tie.Else3) where
   in-turn-there : in_turn (plan_of w) begin ≡ true
   in-turn-there = in-turn (contents w) start.pre.0.sound (lengths w) turn
 
-  no-ground-there : orderGround (plan_of w).size (at (plan_of w).parents) (plan_of w).activation ≡ 0
+  no-ground-there : order_ground (plan_of w).size (at (plan_of w).parents) (plan_of w).activation ≡ 0
   no-ground-there =
       no-order-ground (contents w) start.pre.0.sound (lengths w) start.pre.0.reached turn
       c.before.before.before.before.before.before.survey.ensures.0 c.before.before.before.before.before.before.survey.ensures.1 c.before.before.before.before.if2.false
@@ -82,7 +82,7 @@ start-day-requires c κs =
     (no-ground-there passed) _ (start passed).requires.1
 
 begun : tie.Need-returns-4
-unfolding contents storeContents
+unfolding contents store_contents
 begun c =
     let passed = c.before.before.before.before.before.before.before in
     let valid = (start passed).requires.0 in

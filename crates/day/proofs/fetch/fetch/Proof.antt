@@ -6,9 +6,9 @@ use borrow.Author.Rules.{rules}
 use Rattle.rules.specs.Phase
 use Rattle.words.specs.Contents.{Contents, contents, with_head}
 use Rattle.words.proofs.Contents.{wrote-head}
-use Rattle.store.specs.Store.{withStore}
+use Rattle.store.specs.Store.{with_store}
 use Rattle.answer.proofs.Obeying.{refusal, acceptance}
-use Rattle.day.specs.Day.{madeOver}
+use Rattle.day.specs.Day.{made_over}
 use Rattle.day.proofs.Fetching.{fetch-late, fetch-free, root-task, fetches, fetch-sound}
 use Rattle.day.proofs.fetch.fetch.Statement.{statement}
 use Rattle.day.proofs.fetch.fetch.Tie as tie
@@ -38,10 +38,10 @@ hold-alone-requires c κs =
     let high = t.high in
     let small = s.requires.sound.small in
     let is = r.root.ensures in
-    record { long = s.requires.sound.long; offset = refl; inside = omega arith; task-in = omega arith }
+    record { long = s.requires.sound.long; offset = refl; inside = omega arith; task_in = omega arith }
 
 fetches-there : tie.Need-returns-2
-unfolding contents madeOver withStore
+unfolding contents made_over with_store
 fetches-there c =
     let h = c.before.before.before in
     let r = h.before.before in
@@ -52,7 +52,7 @@ fetches-there c =
     ((wrote-head h.hold-alone.new.0 0 Phase.over (ap (λ (d : Contents). d.extent) h.hold-alone.ensures ∙ s.requires.sound.long) (omega arith)
     c.before.set-cell.ensures).0
     ∙ ap (with_head 0 Phase.over) h.hold-alone.ensures
-    ∙ ap (λ (i : ℕ). madeOver i (contents w)) r.root.ensures)
+    ∙ ap (λ (i : ℕ). made_over i (contents w)) r.root.ensures)
     (fetches (contents w) s.requires.reached s.requires.sound (in-ready e))
     (fetch-sound (contents w) s.requires.reached s.requires.sound (in-ready e))
 

@@ -4,7 +4,7 @@ use Prim.Native.Nat.{ℕ, ◌+◌, ◌-◌}
 use native.Mathlib.Omega.{arith}
 use borrow.Author.Rules.{rules}
 use Rattle.numbers.specs.Lists.{at}
-use Rattle.words.specs.Layout.{activationBase, entries}
+use Rattle.words.specs.Layout.{activation_base, entries}
 use Rattle.words.specs.Contents.{contents}
 use Rattle.words.proofs.Views.{part_at}
 use Rattle.day.proofs.Fetching.{root-task, last_entry}
@@ -39,8 +39,8 @@ returns c =
     let low = t.low in
     let high = t.high in
     c.entry.ensures
-    ∙ ap (λ (k : ℕ). at w (activationBase + (k - 1))) c.before.cell.ensures
-    ∙ part_at activationBase entries w ((contents w).size - 1) (omega arith)
+    ∙ ap (λ (k : ℕ). at w (activation_base + (k - 1))) c.before.cell.ensures
+    ∙ part_at activation_base entries w ((contents w).size - 1) (omega arith)
     ∙ last_entry (contents w) s.requires.0.reached s.requires.0.sound s.requires.1
 
 pub root-spec : {M : Type 1} → statement M

@@ -5,14 +5,14 @@ use borrow.Author.Rules.{rules}
 use Rattle.rules.specs.Phase
 use Rattle.words.specs.Contents.{Contents, contents, with_head}
 use Rattle.words.proofs.Contents.{wrote-head}
-use Rattle.store.specs.Store.{withStore}
-use Rattle.dispatch.specs.Ended.{withProgress, ended, rootEnded}
-use Rattle.day.specs.Day.{madeReady}
+use Rattle.store.specs.Store.{with_store}
+use Rattle.dispatch.specs.Ended.{with_progress, ended, root_ended}
+use Rattle.day.specs.Day.{made_ready}
 use Rattle.day.proofs.report.make_ready.Statement.{statement}
 use Rattle.day.proofs.report.make_ready.Tie as tie
 
 returns : tie.Need-returns
-unfolding contents madeReady rootEnded ended withProgress withStore
+unfolding contents made_ready root_ended ended with_progress with_store
 returns c =
     let k = c.before.before in
     let s = k.before.before in

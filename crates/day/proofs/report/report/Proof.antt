@@ -6,7 +6,7 @@ use native.Mathlib.Omega.{arith}
 use borrow.Author.Rules.{rules}
 use Rattle.numbers.specs.Lists.{at}
 use Rattle.format.specs.Command.{done}
-use Rattle.rules.specs.Grounds.{ground}
+use Rattle.rules.specs.Grounds.{ground_for}
 use Rattle.words.specs.Layout.{row, rows}
 use Rattle.words.specs.Contents.{contents}
 use Rattle.words.proofs.Views.{column-at}
@@ -37,25 +37,25 @@ module _ (c : tie.Else1) where
   abbrev valid : ValidPlan start.args.plan.now
   valid = start.pre.0
 
-  none : ground (plan_of w) (done task) ≡ 0
+  none : ground_for (plan_of w) (done task) ≡ 0
   none = sym c.before.report-ground.ensures ∙ c.if1.false
 
   done-there : Accepted (contents w) task
   done-there = accepted (contents w) task valid.sound none
 
-  task-in : task < rows
-  task-in = let h = done-there.task.high in let s = valid.sound.small in omega arith
+  task_in : task < rows
+  task_in = let h = done-there.task.high in let s = valid.sound.small in omega arith
 
   parent_is : at w (row * task + 0) ≡ at (contents w).parents task
   unfolding contents
-  parent_is = column-at 0 w task task-in
+  parent_is = column-at 0 w task task_in
 
 -- a task that is not the root has a parent
 higher : (c : tie.Else2) → at (contents (w c.before.before.before)).parents (task c.before.before.before) ≡ 0 → ⊥
 higher c z = c.if2.false (c.before.cell.ensures ∙ parent_is c.before.before.before ∙ z)
 
 cell-requires : tie.Need-cell-requires
-cell-requires c κs = let low = task-in c.before in (omega arith, omega arith)
+cell-requires c κs = let low = task_in c.before in (omega arith, omega arith)
 
 make-ready-requires : tie.Need-make-ready-requires
 make-ready-requires c κs =

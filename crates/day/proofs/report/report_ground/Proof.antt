@@ -31,18 +31,18 @@ outside c =
 
 -- the task is in the rows, and its standing is read there
 module _ (w : List ℕ) (valid : ValidPlan w) (task size : ℕ) (is-size : size ≡ (contents w).size) (inside : within task size ≡ true) where
-  task-in : task < rows
-  task-in = let h = (within-task size task inside).high in let s = valid.sound.small in omega arith
+  task_in : task < rows
+  task_in = let h = (within-task size task inside).high in let s = valid.sound.small in omega arith
 
-  standing-is : at w (row * task + 4) ≡ at (contents w).standings task
+  standing_is : at w (row * task + 4) ≡ at (contents w).standings task
   unfolding contents
-  standing-is = column-at 4 w task task-in
+  standing_is = column-at 4 w task task_in
 
 cell-requires-3 : tie.Need-cell-requires-3
 unfolding contents
 cell-requires-3 c κs =
     let low =
-    task-in c.before.before.before.before.before.args.plan.now c.before.before.before.before.before.requires c.before.before.before.before.before.args.task c.before.before.cell2.result c.before.before.cell2.ensures
+    task_in c.before.before.before.before.before.args.plan.now c.before.before.before.before.before.requires c.before.before.before.before.before.args.task c.before.before.cell2.result c.before.before.cell2.ensures
     (sym c.before.is_Within.ensures ∙ not-false _ c.if2.false)
     in
     (omega arith, omega arith)
@@ -57,7 +57,7 @@ idle c =
     (ap (within c.before.before.before.before.before.before.before.args.task) (sym c.before.before.before.before.cell2.ensures) ∙ inside)
     (λ e.
     c.if3.true
-    (c.before.cell3.ensures ∙ standing-is w c.before.before.before.before.before.before.before.requires c.before.before.before.before.before.before.before.args.task c.before.before.before.before.cell2.result c.before.before.before.before.cell2.ensures inside ∙ e)))
+    (c.before.cell3.ensures ∙ standing_is w c.before.before.before.before.before.before.before.requires c.before.before.before.before.before.before.before.args.task c.before.before.before.before.cell2.result c.before.before.before.before.cell2.ensures inside ∙ e)))
 
 free : tie.Need-returns-4
 unfolding contents
@@ -67,7 +67,7 @@ free c =
     sym
     (report-free (contents w) c.before.before.before.before.before.before.before.args.task (sym c.before.before.before.before.before.before.cell.ensures ∙ c.before.before.before.before.before.if1.false) c.before.before.before.before.before.before.before.requires.sound
     (ap (within c.before.before.before.before.before.before.before.args.task) (sym c.before.before.before.before.cell2.ensures) ∙ inside)
-    (sym (standing-is w c.before.before.before.before.before.before.before.requires c.before.before.before.before.before.before.before.args.task c.before.before.before.before.cell2.result c.before.before.before.before.cell2.ensures inside)
+    (sym (standing_is w c.before.before.before.before.before.before.before.requires c.before.before.before.before.before.before.before.args.task c.before.before.before.before.cell2.result c.before.before.before.before.cell2.ensures inside)
     ∙ sym c.before.cell3.ensures
     ∙ c.if3.false))
 

@@ -5,7 +5,7 @@ use borrow.Author.Rules.{rules}
 use Rattle.words.specs.Layout.{chilled}
 use Rattle.words.specs.Contents.{contents}
 use Rattle.words.proofs.Contents.{wrote-head}
-use Rattle.day.specs.Day.{withBound}
+use Rattle.day.specs.Day.{with_bound}
 use Rattle.day.proofs.Days.{resize-advances, resized}
 use Rattle.day.proofs.resize.advance_within.Statement.{statement}
 use Rattle.day.proofs.resize.advance_within.Tie as tie
@@ -13,8 +13,8 @@ use Rattle.day.proofs.resize.advance_within.Tie as tie
 -- the words with the new bound
 bound-is :
     (c : tie.After-set-cell)
-    → contents c.set-cell.new.0 ≡ withBound c.before.before.before.args.bound (contents c.before.before.before.args.plan.now)
-unfolding contents withBound
+    → contents c.set-cell.new.0 ≡ with_bound c.before.before.before.args.bound (contents c.before.before.before.args.plan.now)
+unfolding contents with_bound
 bound-is c =
     let s = c.before.before.before in
     (wrote-head s.args.plan.now chilled s.args.bound s.requires.kept.cached.long (omega arith) c.set-cell.ensures).0

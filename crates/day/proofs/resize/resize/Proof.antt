@@ -2,7 +2,7 @@
 use mathlib.Core.Path.{◌≡◌, refl, sym, ◌∙◌}
 use borrow.Author.Rules.{rules}
 use Rattle.format.specs.Command.{places}
-use Rattle.rules.specs.Grounds.{ground}
+use Rattle.rules.specs.Grounds.{ground_for}
 use Rattle.words.specs.Contents.{contents}
 use Rattle.answer.specs.Meaning.{plan_of}
 use Rattle.answer.proofs.Obeying.{refusal, judged}
@@ -18,7 +18,7 @@ refuses c =
     (sym asked.resize-ground.ensures) s.args.starts.now
 
 -- no ground is left
-none : (c : tie.Else1) → ground (plan_of c.before.before.before.before.args.plan.now) (places c.before.before.before.before.args.bound) ≡ 0
+none : (c : tie.Else1) → ground_for (plan_of c.before.before.before.before.args.plan.now) (places c.before.before.before.before.args.bound) ≡ 0
 none c = sym c.before.resize-ground.ensures ∙ c.if1.false
 
 advance-within-requires : tie.Need-advance-within-requires

@@ -3,7 +3,7 @@ use mathlib.Core.Path.{◌≡◌, sym, ◌∙◌}
 use native.Mathlib.Omega.{arith}
 use borrow.Author.Rules.{rules}
 use Rattle.rules.specs.Phase
-use Rattle.words.specs.Contents.{contents, storeContents}
+use Rattle.words.specs.Contents.{contents, store_contents}
 use Rattle.words.proofs.Contents.{lengths}
 use Rattle.day.proofs.Resizing.{resize-late, may-survey, resize-high, resize-booked, resize-free}
 use Rattle.day.proofs.resize.resize_ground.Statement.{statement}
@@ -34,7 +34,7 @@ too-high c =
     s.args.bound s.ranges.bound.fits surveyed.survey.ensures.1 (omega (arith, c.if2.true)))
 
 below-booked : tie.Need-returns-3
-unfolding contents storeContents
+unfolding contents store_contents
 below-booked c =
     let above = c.before.before in
     let surveyed = above.before.before in
@@ -45,7 +45,7 @@ below-booked c =
     (omega (arith, c.if3.true, c.before.cell2.ensures)))
 
 free : tie.Need-returns-4
-unfolding contents storeContents
+unfolding contents store_contents
 free c =
     let above = c.before.before in
     let surveyed = above.before.before in

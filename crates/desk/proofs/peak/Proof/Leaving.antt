@@ -82,13 +82,13 @@ use denote.Triple.Statement.{Triple}
 use denote.Triple.Call.{calls_at}
 use denote.Triple.Clauses.{ensured, lasts}
 use denote.Triple.Walked.{says, ends_at}
-use Rattle.numbers.specs.Limits.{maxTasks}
-use Rattle.peaks.specs.Desk.{deskAnswer, desk}
+use Rattle.numbers.specs.Limits.{max_tasks}
+use Rattle.peaks.specs.Desk.{desk_answer, desk}
 use Rattle.words.specs.Layout.{words}
 use Rattle.desk.specs.declared.TaskRecord.{TaskRecord}
 use Rattle.desk.specs.declared.DeskAnswer.{DeskAnswer}
-use Rattle.desk.specs.Records.{stepRecords, answer_of}
-use Rattle.desk.specs.Columns.{columnTasks}
+use Rattle.desk.specs.Records.{step_records, answer_of}
+use Rattle.desk.specs.Columns.{column_tasks}
 use Rattle.desk.proofs.Columns.{filled, length-filled}
 use Rattle.desk.proofs.Answers.{answers}
 use Rattle.desk.proofs.Arrays.{words_val, words-whole}
@@ -136,7 +136,7 @@ module _ {M : Type 1} {𝓤 : Ura M} (𝓛 : Logic 𝓤) (mem : Memory → SProp
 
   exits :
       (r : DeskAnswer) (u : Val) (ws : List ℕ)
-      → (desk (stepRecords ys) order.now ≡ answer_of r) × (ws ≡ replicate words 0)
+      → (desk (step_records ys) order.now ≡ answer_of r) × (ws ≡ replicate words 0)
       → ent 𝓤 (⋆ 𝓛 (Had r u ws)) (Post u)
   exits r u ws e =
       qed 𝓛 (Had r u ws) ∵
@@ -181,7 +181,7 @@ module _ {M : Type 1} {𝓤 : Ura M} (𝓛 : Logic 𝓤) (mem : Memory → SProp
 
     abbrev Assessed : DeskAnswer → List ℕ → Type 0
     Assessed r ws =
-        (deskAnswer (columnTasks n parents works outs) order.now ≡ answer_of r)
+        (desk_answer (column_tasks n parents works outs) order.now ≡ answer_of r)
         × (ws ≡ replicate words 0)
 
     -- what is bound of its parameters at its end: the last words, and nothing of the others
@@ -199,7 +199,7 @@ module _ {M : Type 1} {𝓤 : Ura M} (𝓛 : Logic 𝓤) (mem : Memory → SProp
           Shape.At 𝓛 mem run κ κ' κ'' q q₂ q₃ b o γ ys order room l₀ l₁ l₂ l₃ l₄ l₅ l₆ l₇ l₈ l₉ l₁₀ l₁₁ l₁₂ l₁₃ l₁₄ l₁₅ l₁₆ l₁₇ l₁₈ l₁₉ l₂₀ l₂₁ l₂₂ l₂₃ l₂₄ q' c i
 
       -- the rest of the body
-      pub leaves : Room R n → i ≡ min n maxTasks → Sq 𝓛 At (runs C Λ En code.t-8 (at_ret En Post))
+      pub leaves : Room R n → i ≡ min n max_tasks → Sq 𝓛 At (runs C Λ En code.t-8 (at_ret En Post))
       leaves fits all =
           -- the borrow of the records is shut
           move ! (0 ∷ 18 ∷ []) $ shuts_slice ! tt R q' ys b o $

@@ -83,7 +83,7 @@ use denote.Ref.{MutBor}
 use denote.Slice.{Room}
 use denote.Struct.Laws as LL
 use denote.Triple.Statement.{Triple}
-use Rattle.numbers.specs.Limits.{maxTasks}
+use Rattle.numbers.specs.Limits.{max_tasks}
 use Rattle.desk.specs.declared.TaskRecord.{TaskRecord}
 use Rattle.desk.proofs.Columns.{blank, filled, length-filled, filled_next}
 use Rattle.desk.proofs.Arrays.{word-put}
@@ -131,20 +131,20 @@ vals r = T'.lowered r ∷ []
 
 -- the numbers of a record fit where they are stored
 record Fields (r : TaskRecord) : Type 0 where
-  parent-fits : r.parent < 2 ^ 16
+  parent_fits : r.parent < 2 ^ 16
   work-fits : r.work < 2 ^ 16
   out-fits : r.out < 2 ^ 16
 
 fields : (r : TaskRecord) → Is R r (vals r) → Fields r
 fields r is =
     let are = LL.owed T.the_type T'.the_laws r (vals r) is in
-    record { parent-fits = are.0.1; work-fits = are.1.0.1; out-fits = are.1.1.0.1 }
+    record { parent_fits = are.0.1; work-fits = are.1.0.1; out-fits = are.1.1.0.1 }
 
 module _ {M : Type 1} {𝓤 : Ura M} (𝓛 : Logic 𝓤) (mem : Memory → SProp 𝓤) (run : Routine → Fun 𝓤)
     (κ κ' κ'' : Lft) (q q₂ q₃ : Share) (b o : ℕ) (γ : GName) (ys : List TaskRecord) (order room : MutBor (List ℕ))
     (l₀ l₁ l₂ l₃ l₄ l₅ l₆ l₇ l₈ l₉ l₁₀ l₁₁ l₁₂ l₁₃ l₁₄ l₁₅ l₁₆ l₁₇ l₁₈ l₁₉ l₂₀ l₂₁ l₂₂ l₂₃ l₂₄ : ℕ) (𝓣 : Tables 𝓤 𝓛.H)
     (fm : FmC 𝓤 𝓛.H 𝓛.laws 𝓣.C) (known : Triple 𝓤 (𝓣.C #desk·assess) (Assess 𝓛 mem run)) (q' : Share) (c : ℕ)
-    (fits : Room R (length ys)) (all : c ≡ min (length ys) maxTasks) where
+    (fits : Room R (length ys)) (all : c ≡ min (length ys) max_tasks) where
   open 𝓛 use {H}
 
   abbrev Post : Val → SProp 𝓤
@@ -180,7 +180,7 @@ module _ {M : Type 1} {𝓤 : Ura M} (𝓛 : Logic 𝓤) (mem : Memory → SProp
   copies i less =
       let k : ℕ = i.0 in
       let some : k < length ys = omega arith in
-      let small : k < maxTasks = omega arith in
+      let small : k < max_tasks = omega arith in
       let times-6 : k * 6 < 2 ^ 64 = omega arith in
       let next : k + 1 < 2 ^ 64 = omega arith in
       let times-2 : (k + 1) * 2 < 2 ^ 64 = omega arith in
@@ -205,8 +205,8 @@ module _ {M : Type 1} {𝓤 : Ura M} (𝓛 : Logic 𝓤) (mem : Memory → SProp
       rewrite ! 13 (λ (p : ℕ). ‵ (fat full_share ty_ptr l₁₆ 0 (vptr l₄ p))) (sym (place_is 2 0 (k + 1))) refl $
       move ! (1 ∷ []) $ elem_out ! u16 (Is u16) (shows 𝓛 u16) (uint_vals w16) (uint_Tells w16) full_share (filled parent ys k) (k + 1) 0 l₄ 0 in-parents (λ _.
       -- [parents[k + 1]; what it owns; the others; the records; works; outs; _8; _7; _1; _9; _11 to _20; …]
-      assigns ! (of_opd ! (load ! (from ! (fld ! refl (stop !))) (look_in ! 9 (sub ! 0 refl (whole !))))) (from ! (hop ! (look ! 15 refl) (stop !))) (store ! 0 refl (tt, record { fits = (fields r is).parent-fits })) $
-      word-put ! w16 (filled parent ys k) (k + 1) r.parent _ l₄ in-parents (fields r is).parent-fits $
+      assigns ! (of_opd ! (load ! (from ! (fld ! refl (stop !))) (look_in ! 9 (sub ! 0 refl (whole !))))) (from ! (hop ! (look ! 15 refl) (stop !))) (store ! 0 refl (tt, record { fits = (fields r is).parent_fits })) $
+      word-put ! w16 (filled parent ys k) (k + 1) r.parent _ l₄ in-parents (fields r is).parent_fits $
       rewrite ! 0 (λ (xs : List ℕ). ‵ (row u16 full_share xs l₄ 0)) (filled_next parent ys refl k some small) refl $
       -- the work: [parents; the records; works; outs; _8; _7; _1; _9; _11 to _20; …]
       assigns ! (bin ! (load ! (from ! (stop !)) (look ! 4 refl)) (lit ! tt) (record { fits = times-2 })) (from ! (stop !)) (store ! 9 refl (tt, record { fits = times-2 })) $
@@ -243,7 +243,7 @@ module _ {M : Type 1} {𝓤 : Ura M} (𝓛 : Logic 𝓤) (mem : Memory → SProp
       leaves 𝓛 mem run κ κ' κ'' q q₂ q₃ b o γ ys order room i.0 l₀ l₁ l₂ l₃ l₄ l₅ l₆ l₇ l₈ l₉ l₁₀ l₁₁ l₁₂ l₁₃ l₁₄ l₁₅ l₁₆ l₁₇ l₁₈ l₁₉ l₂₀ l₂₁ l₂₂ l₂₃ l₂₄
       𝓣.C 𝓣.Λ fm known q' c fits (every (nltb→le i.0 c over)))
     where
-      every : c ≤ i.0 → i.0 ≡ min (length ys) maxTasks
+      every : c ≤ i.0 → i.0 ≡ min (length ys) max_tasks
       every past = le_antisymm i.1 past ∙ all
 
   turns : (i : Upto) → Sq 𝓛 (At i) (runs 𝓣.C 𝓣.Λ En code.turn-1 (any_q (Turned i)))

@@ -5,7 +5,7 @@ use native.Mathlib.Omega.{arith}
 use borrow.Author.Rules.{rules}
 use lib.ListN.{length}
 use Rattle.numbers.specs.Lists.{at}
-use Rattle.numbers.specs.Limits.{maxTasks}
+use Rattle.numbers.specs.Limits.{max_tasks}
 use Rattle.numbers.proofs.Sums.{Task}
 use Rattle.words.specs.Contents.{contents}
 use Rattle.survey.proofs.Reading.{rank-at}
@@ -24,7 +24,7 @@ loop-holds : tie.Need-loop-init invariant-loop decreases-loop
 loop-holds c = seen_none _ _
 
 -- so many entries, each a task
-few : (c : tie.In-loop invariant-loop decreases-loop) → length c.before.before.before.args.activation.now ≤ maxTasks
+few : (c : tie.In-loop invariant-loop decreases-loop) → length c.before.before.before.args.activation.now ≤ max_tasks
 few c = c.before.before.before.requires.listed.few
 
 task :

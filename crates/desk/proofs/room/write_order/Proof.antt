@@ -3,7 +3,7 @@ use mathlib.Core.Path.{refl}
 use Prim.Native.Nat.{◌-◌, ◌≤◌}
 use native.Mathlib.Omega.{arith}
 use lib.ListN.{length}
-use Rattle.numbers.specs.Limits.{maxTasks}
+use Rattle.numbers.specs.Limits.{max_tasks}
 use Rattle.desk.proofs.Ranking.{Writing, writing-none, writing-task, writing-next, writing-all}
 use Rattle.desk.proofs.room.write_order.Statement.{statement}
 use Rattle.desk.proofs.room.write_order.Tie as tie
@@ -18,7 +18,7 @@ loop-holds : tie.Need-loop-init invariant-loop decreases-loop
 loop-holds c = writing-none c.before.requires
 
 -- so many entries
-few : (c : tie.In-loop invariant-loop decreases-loop) → length c.before.before.before.args.activation.now ≤ maxTasks
+few : (c : tie.In-loop invariant-loop decreases-loop) → length c.before.before.before.args.activation.now ≤ max_tasks
 few c = c.before.loop.invariant.may.listed.few
 
 mul-task : tie.Need-overflow-mul-task invariant-loop decreases-loop

@@ -4,7 +4,7 @@ use mathlib.Core.Bool.{false≢true}
 use Prim.Native.Nat.{◌-◌, ◌≤◌}
 use native.Mathlib.Omega.{arith}
 use borrow.Author.Tests.{not-true, not-false}
-use Rattle.numbers.specs.Limits.{maxTasks}
+use Rattle.numbers.specs.Limits.{max_tasks}
 use Rattle.desk.proofs.Rowing.{Rowing, rowing-none, rowing-at, rowing-next, rowing-stray, rowing-all}
 use Rattle.desk.proofs.room.write_rows.Statement.{statement}
 use Rattle.desk.proofs.room.write_rows.Tie as tie
@@ -19,7 +19,7 @@ loop-holds : tie.Need-loop-init invariant-loop decreases-loop
 loop-holds c = rowing-none c.requires.0 c.requires.1
 
 -- so many tasks
-few : (c : tie.In-loop invariant-loop decreases-loop) → c.before.before.args.n ≤ maxTasks
+few : (c : tie.In-loop invariant-loop decreases-loop) → c.before.before.args.n ≤ max_tasks
 few c = c.before.before.requires.0
 
 add-i : tie.Need-overflow-add-i invariant-loop decreases-loop

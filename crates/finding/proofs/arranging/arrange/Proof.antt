@@ -43,7 +43,7 @@ task c =
     let turn = c.before.before in
     let within = turn.before.loop.invariant.within in
     let h = some turn in
-    c.get.ensures.0 ∙ turn.before.loop.invariant.queue-is (turn.before.loop.k - 1) (omega arith)
+    c.get.ensures.0 ∙ turn.before.loop.invariant.queue_is (turn.before.loop.k - 1) (omega arith)
 
 join-requires : tie.Need-join-requires invariant-loop decreases-loop
 join-requires c κs =

@@ -1,7 +1,7 @@
 -- `write_order` meets its contract: the first k tasks of the order are written.
 use Prim.Native.Nat.{◌-◌, ◌≤◌}
 use native.Mathlib.Omega.{arith}
-use Rattle.numbers.specs.Limits.{maxTasks}
+use Rattle.numbers.specs.Limits.{max_tasks}
 use Rattle.finding.proofs.Written.{WrittenTo, written_none, as_long, written_low, written_next, written_all}
 use Rattle.finding.proofs.arranging.write_order.Statement.{statement}
 use Rattle.finding.proofs.arranging.write_order.Tie as tie
@@ -23,7 +23,7 @@ abbrev start : tie.At-loop invariant-loop decreases-loop → tie.Start invariant
 start c = c.before.before.before
 
 -- the next entry is a task
-low : (c : tie.In-loop invariant-loop decreases-loop) → c.before.loop.task ≤ maxTasks
+low : (c : tie.In-loop invariant-loop decreases-loop) → c.before.loop.task ≤ max_tasks
 low c = written_low _ _ _ _ (start c.before).pre _ _ _ c.before.loop.invariant c.loop-test.true
 
 cast-list : tie.Need-overflow-cast-list invariant-loop decreases-loop

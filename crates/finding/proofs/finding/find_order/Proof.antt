@@ -18,15 +18,15 @@ refused-requires : tie.Need-refused-requires
 refused-requires c κs = search rules
 
 -- the word read is the phase
-phase-is : (c : tie.After-cell) → c.cell.result ≡ (contents c.before.before.args.plan.now).phase
+phase_is : (c : tie.After-cell) → c.cell.result ≡ (contents c.before.before.args.plan.now).phase
 unfolding contents
-phase-is c = c.cell.ensures
+phase_is c = c.cell.ensures
 
 returns : tie.Need-returns
 returns c =
     let read = c.before.before in
     unwritten _ 3 _ c.refused.ensures
-    ∙ told-early _ read.before.before.requires _ (rw (phase-is read) at c.before.if1.true)
+    ∙ told-early _ read.before.before.requires _ (rw (phase_is read) at c.before.if1.true)
 
 cell-requires-2 : tie.Need-cell-requires-2
 cell-requires-2 c κs = search rules
@@ -36,7 +36,7 @@ cast-n c = search rules
 
 -- all tasks are given; the word read is n
 given : (c : tie.Else1) → Phase.orders ≤ (contents c.before.before.before.args.plan.now).phase
-given c = rw (phase-is c.before) at c.if1.false
+given c = rw (phase_is c.before) at c.if1.false
 
 size_is : (c : tie.After-cell2) → c.cell2.result ≡ (contents c.before.before.before.before.args.plan.now).size
 unfolding contents

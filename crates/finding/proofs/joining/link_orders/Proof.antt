@@ -2,8 +2,8 @@
 use native.Mathlib.Omega.{arith}
 use lib.ListN.{length}
 use Rattle.numbers.specs.Sums.{Task}
-use Rattle.numbers.specs.Limits.{maxTasks}
-use Rattle.children.specs.Linked.{linkedFrom}
+use Rattle.numbers.specs.Limits.{max_tasks}
+use Rattle.children.specs.Linked.{linked_from}
 use Rattle.children.proofs.Walking.{walking-task}
 use Rattle.finding.proofs.Linking.{Linking, linking-none, linking-low, linking-next, linking-less, linking-end}
 use Rattle.finding.proofs.joining.link_orders.Statement.{statement}
@@ -13,7 +13,7 @@ abbrev invariant-loop : tie.invariant-loop
 invariant-loop scratch₀ task last₀ child₀ scratch last child = Linking scratch₀ scratch task last child
 
 abbrev decreases-loop : tie.decreases-loop
-decreases-loop scratch₀ task last₀ child₀ scratch last child = length (linkedFrom scratch child)
+decreases-loop scratch₀ task last₀ child₀ scratch last child = length (linked_from scratch child)
 
 get-requires : tie.Need-get-requires invariant-loop decreases-loop
 get-requires c κs = let t = c.before.requires.0.task in omega arith
@@ -26,7 +26,7 @@ abbrev start : tie.At-loop invariant-loop decreases-loop → tie.Start invariant
 start c = c.before.before.before
 
 -- the child of this turn
-child : (c : tie.In-loop invariant-loop decreases-loop) → Task maxTasks c.before.loop.child
+child : (c : tie.In-loop invariant-loop decreases-loop) → Task max_tasks c.before.loop.child
 child c = walking-task _ _ _ c.before.loop.invariant.walk c.loop-test.true
 
 get-requires-2 : tie.Need-get-requires-2 invariant-loop decreases-loop

@@ -5,10 +5,10 @@ use native.Mathlib.Omega.{arith}
 use lib.ListN.{length}
 use Rattle.numbers.specs.Sums.{Task}
 use Rattle.numbers.specs.Lists.{at}
-use Rattle.numbers.specs.Limits.{maxTasks}
+use Rattle.numbers.specs.Limits.{max_tasks}
 use Rattle.words.specs.Layout.{chilled}
 use Rattle.words.specs.Contents.{contents}
-use Rattle.children.specs.Linked.{linkedFrom}
+use Rattle.children.specs.Linked.{linked_from}
 use Rattle.survey.proofs.Reading.{work-at, out_at}
 use Rattle.children.proofs.Walking.{walking-task, walking-falls}
 use Rattle.finding.proofs.Weighing.{Weighing, weighing-none, weighing-fits, weighing-next, weighing-end, weighing-last}
@@ -20,7 +20,7 @@ invariant-loop plan scratch task best₀ level₀ child₀ best level child =
     Weighing (at (contents plan).stores.chilled.works) (at (contents plan).stores.chilled.outs) scratch task best level child
 
 abbrev decreases-loop : tie.decreases-loop
-decreases-loop plan scratch task best₀ level₀ child₀ best level child = length (linkedFrom scratch child)
+decreases-loop plan scratch task best₀ level₀ child₀ best level child = length (linked_from scratch child)
 
 get-requires : tie.Need-get-requires invariant-loop decreases-loop
 get-requires c κs = let t = c.requires.linked.task in omega arith
@@ -29,7 +29,7 @@ loop-holds : tie.Need-loop-init invariant-loop decreases-loop
 loop-holds c = weighing-none _ _ _ _ c.before.requires _ c.get.ensures.0
 
 -- the child of this turn, and that its sums fit
-child : (c : tie.In-loop invariant-loop decreases-loop) → Task maxTasks c.before.loop.child
+child : (c : tie.In-loop invariant-loop decreases-loop) → Task max_tasks c.before.loop.child
 child c = walking-task _ _ _ c.before.loop.invariant.walk c.loop-test.true
 
 get-requires-2 : tie.Need-get-requires-2 invariant-loop decreases-loop
@@ -89,7 +89,7 @@ add-cell-2 : tie.Need-overflow-add-cell-2 invariant-loop decreases-loop
 add-cell-2 c = omega arith
 
 -- the task
-task : (c : tie.After-loop invariant-loop decreases-loop) → Task maxTasks c.before.before.before.args.task
+task : (c : tie.After-loop invariant-loop decreases-loop) → Task max_tasks c.before.before.before.args.task
 task c = c.before.before.before.requires.linked.task
 
 cell-requires-2 : tie.Need-cell-requires-2 invariant-loop decreases-loop

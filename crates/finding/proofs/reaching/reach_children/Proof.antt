@@ -1,7 +1,7 @@
 -- `reach_children` meets its contract: the children passed stand in the queue.
 use native.Mathlib.Omega.{arith}
 use lib.ListN.{length}
-use Rattle.children.specs.Linked.{linkedFrom}
+use Rattle.children.specs.Linked.{linked_from}
 use Rattle.children.proofs.Walking.{walking-task}
 use Rattle.finding.proofs.Queueing.{Queueing, queueing-none, queueing-room, queueing-next, queueing-less, queueing-end}
 use Rattle.finding.proofs.reaching.reach_children.Statement.{statement}
@@ -11,7 +11,7 @@ abbrev invariant-loop : tie.invariant-loop
 invariant-loop scratch₀ task count next₀ child₀ scratch next child = Queueing scratch₀ task count scratch next child
 
 abbrev decreases-loop : tie.decreases-loop
-decreases-loop scratch₀ task count next₀ child₀ scratch next child = length (linkedFrom scratch child)
+decreases-loop scratch₀ task count next₀ child₀ scratch next child = length (linked_from scratch child)
 
 get-requires : tie.Need-get-requires invariant-loop decreases-loop
 get-requires c κs = let t = c.before.requires.linked.task in omega arith

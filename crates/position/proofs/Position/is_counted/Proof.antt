@@ -7,7 +7,7 @@ use borrow.Author.Tests.{le-leb, lt-leb}
 use borrow.Author.Rules.{rules}
 use lib.Dec.{leb}
 use lib.ListN.{length}
-use Rattle.texts.specs.Printer.{maxOffset, isCounted}
+use Rattle.texts.specs.Printer.{max_offset, is_counted}
 use Rattle.numbers.proofs.Tests.{le-or-lt}
 use Rattle.position.proofs.Position.is_counted.Statement.{statement}
 use Rattle.position.proofs.Position.is_counted.Tie as tie
@@ -19,8 +19,8 @@ across a b most h =
     (λ high. lt-leb a (most - b) (omega arith) ∙ sym (lt-leb (a + b) most high)) (le-or-lt (a + b) most)
 
 returns : tie.Need-returns
-unfolding isCounted
-returns c = across c.before.args.self.offset (length c.before.args.buffer.now) maxOffset (omega arith)
+unfolding is_counted
+returns c = across c.before.args.self.offset (length c.before.args.buffer.now) max_offset (omega arith)
 
 pub is-counted-spec : {M : Type 1} → statement M
 is-counted-spec = tie.close (tie.spec (λ c. search rules) returns)

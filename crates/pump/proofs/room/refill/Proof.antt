@@ -45,7 +45,7 @@ returns c =
     let count = left_over (position_of start.args.position) front.to_front.ensures.0 left.filled.ensures in
     record {
       front =
-          front-stays _ _ _ _ _ _ start.requires.0.at-hand start.requires.0.in_Buffer count
+          front-stays _ _ _ _ _ _ start.requires.0.at_hand start.requires.0.in_Buffer count
           (rw left.filled.ensures front.to_front.ensures.1);
       size = same_length c;
       position =

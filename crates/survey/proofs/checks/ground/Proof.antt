@@ -4,8 +4,8 @@ use Rattle.numbers.specs.Lists.{at}
 use Rattle.tree.specs.Tree.{roots}
 use Rattle.words.specs.Contents.{contents}
 use Rattle.survey.proofs.Grounds.{ground-roots, ground-late, ground-none}
-use Rattle.survey.proofs.checks.ground.Statement.{statement}
-use Rattle.survey.proofs.checks.ground.Tie as tie
+use Rattle.survey.proofs.checks.ground_for.Statement.{statement}
+use Rattle.survey.proofs.checks.ground_for.Tie as tie
 
 roots-requires : tie.Need-roots-requires
 roots-requires c κs = c.requires.parented.small

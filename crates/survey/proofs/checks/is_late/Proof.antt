@@ -7,7 +7,7 @@ use borrow.Author.Tests.{eq-eqb, ne_eqb}
 use Rattle.numbers.specs.Lists.{at}
 use Rattle.words.specs.Layout.{row}
 use Rattle.words.specs.Contents.{contents}
-use Rattle.survey.specs.Checks.{isLate}
+use Rattle.survey.specs.Checks.{is_late}
 use Rattle.survey.proofs.Reading.{parent-at, rank-at}
 use Rattle.survey.proofs.checks.is_late.Statement.{statement}
 use Rattle.survey.proofs.checks.is_late.Tie as tie
@@ -24,7 +24,7 @@ parent :
 parent c = c.cell.ensures ∙ parent-at _ _ (omega arith)
 
 returns : tie.Need-returns
-unfolding isLate
+unfolding is_late
 returns c = rw (eq-eqb _ 0 (sym (parent c.before) ∙ c.if1.true))
 
 cell-requires-2 : tie.Need-cell-requires-2
@@ -34,7 +34,7 @@ cell-requires-3 : tie.Need-cell-requires-3
 cell-requires-3 c κs = search rules
 
 returns-2 : tie.Need-returns-2
-unfolding isLate
+unfolding is_late
 returns-2 c =
     let child = c.before.before in
     let start = child.before.before in

@@ -4,14 +4,14 @@ use Prim.Native.Nat.{◌+◌, ◌-◌}
 use native.Mathlib.Omega.{arith}
 use Rattle.numbers.specs.Lists.{at}
 use Rattle.words.specs.Contents.{contents}
-use Rattle.survey.specs.Checks.{isLate}
+use Rattle.survey.specs.Checks.{is_late}
 use Rattle.survey.proofs.Counting.{CountedTo, counted_none, counted-yes, counted-no, counted-all}
 use Rattle.survey.proofs.checks.late.Statement.{statement}
 use Rattle.survey.proofs.checks.late.Tie as tie
 
 abbrev invariant-loop : tie.invariant-loop
 invariant-loop plan n found₀ i₀ found i =
-    CountedTo (isLate (at (contents plan).parents) (at (contents plan).ranks)) n i found
+    CountedTo (is_late (at (contents plan).parents) (at (contents plan).ranks)) n i found
 
 abbrev decreases-loop : tie.decreases-loop
 decreases-loop plan n found₀ i₀ found i = n - i

@@ -58,7 +58,7 @@ add-add : tie.Need-overflow-add-add
 add-add c = search rules
 
 add-add-2 : tie.Need-overflow-add-add-2
-add-add-2 c = omega (arith, work c.before, out c.before, (start c.before).requires.own-fits)
+add-add-2 c = omega (arith, work c.before, out c.before, (start c.before).requires.own_fits)
 
 add-requires : tie.Need-add-requires
 add-requires c κs =

@@ -3,15 +3,15 @@ use mathlib.Core.Path.{◌≡◌, ◌∙◌}
 use Prim.Native.Nat.{◌+◌, ◌-◌, ◌≤◌}
 use native.Mathlib.Omega.{arith}
 use Rattle.numbers.specs.Lists.{at}
-use Rattle.numbers.specs.Limits.{maxTasks}
-use Rattle.words.specs.Contents.{contents, storeContents}
+use Rattle.numbers.specs.Limits.{max_tasks}
+use Rattle.words.specs.Contents.{contents, store_contents}
 use Rattle.survey.proofs.Reading.{parent-at, out_at}
 use Rattle.survey.proofs.Feeding.{Feeding, fed-none, fed-next, fed-all}
 use Rattle.survey.proofs.level.feed.Statement.{statement}
 use Rattle.survey.proofs.level.feed.Tie as tie
 
 abbrev invariant-loop : tie.invariant-loop
-invariant-loop plan store n fed₀ i₀ fed i = Feeding n (at (contents plan).parents) (at (storeContents store plan).outs) i fed
+invariant-loop plan store n fed₀ i₀ fed i = Feeding n (at (contents plan).parents) (at (store_contents store plan).outs) i fed
 
 abbrev decreases-loop : tie.decreases-loop
 decreases-loop plan store n fed₀ i₀ fed i = n - i
@@ -32,7 +32,7 @@ parent :
     ≡ at (contents c.before.before.before.args.plan.now).parents (c.before.before.loop.i + 1)
 parent c = let small = c.before.before.before.requires.parented.small in c.cell.ensures ∙ parent-at _ _ (omega arith)
 
-low : (c : tie.After-cell invariant-loop decreases-loop) → (c.cell.result ≤ c.before.before.before.args.n) × (c.before.before.before.args.n ≤ maxTasks)
+low : (c : tie.After-cell invariant-loop decreases-loop) → (c.cell.result ≤ c.before.before.before.args.n) × (c.before.before.before.args.n ≤ max_tasks)
 low c =
     let start = c.before.before.before in
     let parented = start.requires.parented in

@@ -5,10 +5,10 @@ use native.Mathlib.Omega.{arith}
 use lib.ListN.{length}
 use Rattle.numbers.specs.Sums.{Task}
 use Rattle.numbers.specs.Lists.{at}
-use Rattle.numbers.specs.Limits.{maxTasks}
+use Rattle.numbers.specs.Limits.{max_tasks}
 use Rattle.tree.specs.Tree.{children}
 use Rattle.tree.proofs.Peaks.{kept}
-use Rattle.words.specs.Contents.{contents, storeContents}
+use Rattle.words.specs.Contents.{contents, store_contents}
 use Rattle.words.proofs.Contents.{lengths}
 use Rattle.survey.specs.Level.{meant}
 use Rattle.survey.proofs.Reading.{activation-at}
@@ -18,7 +18,7 @@ use Rattle.survey.proofs.level.highest.Tie as tie
 
 abbrev invariant-loop : tie.invariant-loop
 invariant-loop plan store n fed first best₀ level₀ k₀ best level k =
-    RunSoFar n (at (contents plan).parents) (at (storeContents store plan).works) (at (storeContents store plan).outs)
+    RunSoFar n (at (contents plan).parents) (at (store_contents store plan).works) (at (store_contents store plan).outs)
     (contents plan).activation k level (meant best)
 
 abbrev decreases-loop : tie.decreases-loop
@@ -29,7 +29,7 @@ abbrev start : tie.After-entry2 invariant-loop decreases-loop → tie.Start inva
 start c = c.before.before.before.before
 
 -- the order has an entry for each task
-long : (c : tie.Start invariant-loop decreases-loop) → (c.args.n ≤ maxTasks) × (c.args.n ≤ length (contents c.args.plan.now).activation)
+long : (c : tie.Start invariant-loop decreases-loop) → (c.args.n ≤ max_tasks) × (c.args.n ≤ length (contents c.args.plan.now).activation)
 long c =
     let small = c.requires.order.parented.small in
     let whole = (lengths c.args.plan.now).activation in
@@ -68,7 +68,7 @@ task : (c : tie.After-entry2 invariant-loop decreases-loop) → Task (start c).a
 task c = ran-task _ _ _ (start c).requires.order.valid (long (start c)).1 _ (omega arith) _ (sym (entry-is c))
 
 -- the level is far from the end of its numbers
-low : (c : tie.After-entry2 invariant-loop decreases-loop) → c.before.before.loop.level ≤ maxTasks * 2 ^ 32
+low : (c : tie.After-entry2 invariant-loop decreases-loop) → c.before.before.loop.level ≤ max_tasks * 2 ^ 32
 low c =
     let small = (long (start c)).0 in
     let fits = c.before.before.loop.invariant.fits in
@@ -82,7 +82,7 @@ sum-requires c κs =
     let is = task c in
     let small = long (start c) in
     let level = low c in
-    (record { offset = (start c).requires.order.offset; task-in = omega arith }, omega arith)
+    (record { offset = (start c).requires.order.offset; task_in = omega arith }, omega arith)
 
 cast-highest-of : tie.Need-overflow-cast-highest-of invariant-loop decreases-loop
 cast-highest-of c = let read = c.before in omega (arith, task read, long (start read))
@@ -95,7 +95,7 @@ kept-out-requires c κs =
     let read = c.before.before in
     let is = task read in
     let small = long (start read) in
-    record { offset = (start read).requires.order.offset; task-in = omega arith }
+    record { offset = (start read).requires.order.offset; task_in = omega arith }
 
 add-level : tie.Need-overflow-add-level invariant-loop decreases-loop
 add-level c = omega (arith, low c.before.before.before, c.kept_out.ensures.1)
@@ -111,7 +111,7 @@ taken :
     (c : tie.After-entry2 invariant-loop decreases-loop)
     → at (start c).args.fed.now c.entry2.result
     ≡ children (start c).args.n (at (contents (start c).args.plan.now).parents)
-    (at (storeContents (start c).args.store (start c).args.plan.now).outs) c.entry2.result
+    (at (store_contents (start c).args.store (start c).args.plan.now).outs) c.entry2.result
 taken c = (start c).requires.sums c.entry2.result (task c).high
 
 sub-level : tie.Need-overflow-sub-level invariant-loop decreases-loop

@@ -4,7 +4,7 @@ use native.Mathlib.Omega.{arith}
 use borrow.Author.Rules.{rules}
 use borrow.Author.Tests.{eq-eqb, ne_eqb}
 use Rattle.numbers.specs.Lists.{at}
-use Rattle.words.specs.Contents.{contents, storeContents}
+use Rattle.words.specs.Contents.{contents, store_contents}
 use Rattle.survey.proofs.Reading.{parent-at, out_at}
 use Rattle.survey.proofs.level.kept_out.Statement.{statement}
 use Rattle.survey.proofs.level.kept_out.Tie as tie
@@ -24,7 +24,7 @@ cell-requires-2 c κs = search rules
 -- the words read are the out and the parent
 out :
     (c : tie.After-cell)
-    → c.cell.result ≡ at (storeContents c.before.args.store c.before.args.plan.now).outs c.before.args.task
+    → c.cell.result ≡ at (store_contents c.before.args.store c.before.args.plan.now).outs c.before.args.task
 out c = c.cell.ensures ∙ out_at c.before.args.plan.now c.before.args.task (omega arith) c.before.args.store
 
 parent :

@@ -2,14 +2,14 @@
 use mathlib.Core.Path.{◌≡◌, sym, ap, ◌∙◌}
 use borrow.Author.Rules.{rules}
 use Rattle.codec.specs.declared.Command.{Command}
-use Rattle.codec.specs.Meaning.{commandOf}
-use Rattle.cephlouk.specs.FlatCommand.{flatCommand}
+use Rattle.codec.specs.Meaning.{command_of}
+use Rattle.cephlouk.specs.FlatCommand.{flat_command}
 use Rattle.cephlouk.proofs.command.FlatCommand.of.Statement.{statement}
 use Rattle.cephlouk.proofs.command.FlatCommand.of.Tie as tie
 
 -- the numbers of a command that is known
-of-case : {a b : Command} → a ≡ b → flatCommand (commandOf b) ≡ flatCommand (commandOf a)
-of-case e = sym (ap (λ x. flatCommand (commandOf x)) e)
+of-case : {a b : Command} → a ≡ b → flat_command (command_of b) ≡ flat_command (command_of a)
+of-case e = sym (ap (λ x. flat_command (command_of x)) e)
 
 plan : tie.Need-returns
 plan c = rw c.bare.ensures (of-case c.before.before.command.given.1)
