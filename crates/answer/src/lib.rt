@@ -1,11 +1,13 @@
 // What a command answers, and what a tool that writes into a lent list does.
+#![tactic(auto)]
+
 ghost use Rattle.std.specs.Prelude.{◌≡◌};
 
 // "An accepted command answers number 0, the bytes used and how many steps it starts. The peak is
 // answered by BEGIN only, offers by DONE only; elsewhere both are 0." "The peak shall always come with
 // its step": `by` is the task that sets it, and 0 where no peak is answered.
 #[repr(C)]
-#[derive(Drop)]
+#[derive(Clone, Copy)]
 pub struct Answer {
     pub number: u8,
     pub used: usize,
@@ -48,7 +50,7 @@ impl Answer {
 // What is answered by a tool that writes to the front of a lent list: how many entries it wrote, bytes of
 // a plan or step numbers of an order.
 #[repr(C)]
-#[derive(Drop)]
+#[derive(Clone, Copy)]
 pub struct Wrote {
     pub number: u8,
     pub count: usize,

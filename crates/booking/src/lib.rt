@@ -1,4 +1,6 @@
 // Booking ahead: the next tasks of the activation order get the memory that they miss.
+#![tactic(auto)]
+
 ghost use Rattle.words.specs.Contents.{contents};
 ghost use Rattle.store.specs.Kept.{Kept};
 ghost use Rattle.booking.specs.Booked.{MayActivate, DidActivate, SomeWait, BookedNext, BookedAhead};

@@ -1,4 +1,6 @@
 // One word of a plan: of a row, and of an order. All other functions speak of rows and columns.
+#![tactic(auto)]
+
 ghost use Rattle.std.specs.Prelude.{◌≡◌, ◌+◌, ◌*◌, ◌≤◌, ◌<◌, set};
 ghost use Rattle.numbers.specs.Lists.{at};
 ghost use Rattle.words.specs.Layout.{row, rows, words};

@@ -11,7 +11,7 @@ use codec::{Command, Decoded, decode, encode};
 // The byte of a command, and its operands by their names. What a command does not have is 0 where it is
 // told, and not looked at where it is given.
 #[repr(C)]
-#[derive(Drop)]
+#[derive(Clone, Copy)]
 pub struct FlatCommand {
     pub byte: u8,
     pub p: u8,
@@ -26,7 +26,7 @@ pub struct FlatCommand {
 // What stands at a place of a stream: the ground of a refusal, or 0, the bytes used and the command. In a
 // refusal all but the number is 0.
 #[repr(C)]
-#[derive(Drop)]
+#[derive(Clone, Copy)]
 pub struct FlatDecoded {
     pub number: u8,
     pub used: usize,

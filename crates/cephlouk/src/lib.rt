@@ -1,4 +1,6 @@
 // The library for programs in C, C++ and Rust: a plan that the caller keeps as an array of words.
+#![tactic(auto)]
+
 mod abi;
 mod command;
 mod records;
@@ -89,7 +91,7 @@ pub extern "C" fn cephlouk_thousandths(booked: u32, bound: u32) -> u32
 
 // "The standing of the day is four counts": waiting, booked, running and ended.
 #[repr(C)]
-#[derive(Drop)]
+#[derive(Clone, Copy)]
 pub struct Standing {
     pub counts: [u32; 4],
 }
@@ -107,7 +109,7 @@ pub extern "C" fn cephlouk_plan_standing(plan: &[u32; Plan::WORDS]) -> Standing
 // the order in which they are tried; the task that it names; and the places that are lacking. What a
 // reason does not tell is 0.
 #[repr(C)]
-#[derive(Drop)]
+#[derive(Clone, Copy)]
 pub struct FlatReason {
     pub number: u8,
     pub kind: u8,

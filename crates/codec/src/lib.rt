@@ -1,10 +1,12 @@
 // Bytes to commands and back: "A command is one byte and operands of fixed width, lowest byte first."
+#![tactic(auto)]
+
 ghost use Rattle.std.specs.Prelude.{◌≡◌, ◌∷◌, ◌+◌, ◌*◌, drop};
 ghost use Rattle.format.specs.Command as rules;
 ghost use Rattle.put.specs.Put.{Put};
 ghost use Rattle.codec.specs.Meaning.{command_of, decoded};
 
-#[derive(Drop)]
+#[derive(Clone, Copy)]
 pub enum Command {
     // PLAN: n, p and M
     Plan { n: u16, p: u8, bound: u32 },
@@ -23,7 +25,7 @@ pub enum Command {
 }
 
 // What stands at a place of a stream.
-#[derive(Drop)]
+#[derive(Clone, Copy)]
 pub enum Decoded {
     // the number of the ground for refusing
     Refused(u8),

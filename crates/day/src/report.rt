@@ -17,7 +17,7 @@ use measure::is_within;
 use words::plan::Plan;
 
 // What is counted of a report that is accepted.
-#[derive(Drop)]
+#[derive(Clone, Copy)]
 pub(crate) struct Counted {
     pub(crate) starts: usize,
     pub(crate) offers: usize,

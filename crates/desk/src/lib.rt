@@ -1,6 +1,8 @@
 // The planners' desk: the peak of the caller's own records, with the task that sets it. The records
 // are only read: they are copied once into flat columns, and these into the rows of a plan, which is
 // surveyed as at BEGIN.
+#![tactic(auto)]
+
 mod room;
 
 ghost use Rattle.std.specs.Prelude.{◌≡◌, min, replicate};
@@ -17,7 +19,7 @@ use words::plan::Plan;
 
 // "A record is parent, work and out": one task (step).
 #[repr(C)]
-#[derive(Drop)]
+#[derive(Clone, Copy)]
 pub struct TaskRecord {
     pub parent: u16,
     pub work: u16,
@@ -27,7 +29,7 @@ pub struct TaskRecord {
 // What the desk is answered: the number of a ground, or 0, the peak, and `by`, the task that sets it.
 // Both are 0 on a refusal.
 #[repr(C)]
-#[derive(Drop)]
+#[derive(Clone, Copy)]
 pub struct DeskAnswer {
     pub number: u8,
     pub peak: u64,

@@ -1,4 +1,6 @@
 // Sharing out: a task ends, and what it held goes up from parent to parent.
+#![tactic(auto)]
+
 ghost use Rattle.std.specs.Prelude.{◌≡◌};
 ghost use Rattle.words.specs.Contents.{contents};
 ghost use Rattle.dispatch.specs.Climb.{MayClimb, DidClimb};
@@ -10,7 +12,7 @@ use ready::insert;
 use store::{free, hold_alone, pass, release, rest};
 use words::plan::Plan;
 
-#[derive(Drop)]
+#[derive(Clone, Copy)]
 pub(crate) struct Passed {
     // the tasks on the way, each one offer
     pub(crate) offers: usize,

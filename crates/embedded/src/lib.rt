@@ -1,4 +1,6 @@
 // An embedder in Rattle, the example of docs/EMBEDDING.md: what a new plan answers to one command.
+#![tactic(auto)]
+
 ghost use Rattle.std.specs.Prelude.{◌≡◌, replicate};
 ghost use Rattle.numbers.specs.Limits.{least_starts};
 ghost use Rattle.rules.specs.State.{none};

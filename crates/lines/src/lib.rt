@@ -1,5 +1,7 @@
 // The lines of the day printer. Each is written to the front of a lent buffer, as much of it as
 // there is room for, and the answer is the number of bytes written.
+#![tactic(auto)]
+
 mod tail;
 
 ghost use Rattle.std.specs.Prelude.{take};

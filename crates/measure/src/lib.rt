@@ -1,4 +1,6 @@
 // Small functions on numbers that every layer uses.
+#![tactic(auto)]
+
 mod thousandths;
 
 ghost use Rattle.std.specs.Prelude.{◌≡◌, min};

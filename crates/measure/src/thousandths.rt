@@ -12,7 +12,7 @@ const WHOLE: u32 = 1000;
 const BITS: u32 = 10;
 
 // A number of trays, divided by the bound. The remainder is kept below the bound.
-#[derive(Drop)]
+#[derive(Clone, Copy)]
 struct Divided {
     quotient: u32,
     remainder: u32,

@@ -1,4 +1,6 @@
 // PLAN and STEP: a plan is opened, and its tasks are given.
+#![tactic(auto)]
+
 ghost use Rattle.std.specs.Prelude.{◌≡◌, cond, eqb};
 ghost use Rattle.rules.specs.Phase;
 ghost use Rattle.format.specs.Command as rules;

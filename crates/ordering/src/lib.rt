@@ -1,5 +1,7 @@
 // 03 and 04: the next task in the activation order, and in the execution order; and the execution order that BEGIN
 // makes where no 04 was given.
+#![tactic(auto)]
+
 ghost use Rattle.std.specs.Prelude.{◌≡◌, true, take};
 ghost use Rattle.numbers.specs.Lists.{mem};
 ghost use Rattle.words.specs.Layout.{entries};

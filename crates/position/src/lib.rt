@@ -1,5 +1,7 @@
 // Where the day printer stands in its input: the bytes at hand, the next command among them, and
 // its offset.
+#![tactic(auto)]
+
 ghost use Rattle.std.specs.Prelude.{◌≡◌, ◌+◌, ◌^◌, ◌<◌, length, drop};
 ghost use Rattle.std.proofs.Math.Seq.{paste};
 ghost use Rattle.texts.specs.Printer as rules;
@@ -7,7 +9,7 @@ ghost use Rattle.position.specs.Standing.{position_of, Stands};
 
 // The bytes at hand are the first `filled` of a buffer. The next command is at `place` among them,
 // `offset` bytes from the start of the input, and `is_last` says that the input ends with them.
-#[derive(Drop)]
+#[derive(Clone, Copy)]
 pub struct Position {
     place: usize,
     filled: usize,

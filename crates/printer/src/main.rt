@@ -1,4 +1,6 @@
 // The day printer.
+#![tactic(auto)]
+
 fn main() {
     pump::run();
 }

@@ -1,4 +1,6 @@
 // One turn of the day printer over the part of its input that has come so far.
+#![tactic(auto)]
+
 mod accepted;
 
 ghost use Rattle.std.specs.Prelude.{◌≡◌};
@@ -16,7 +18,7 @@ use words::plan::Plan;
 
 // What a turn answers: the bytes of the input that it used, the bytes of the buffer that it wrote,
 // and its verdict.
-#[derive(Drop)]
+#[derive(Clone, Copy)]
 pub struct Turned {
     pub used: usize,
     pub written: usize,

@@ -1,5 +1,7 @@
 // The day printer on standard input and standard output. What is printed is decided by `step`; here
 // bytes are read and written.
+#![tactic(auto)]
+
 mod room;
 
 use libc::{STDERR_FILENO, STDOUT_FILENO};

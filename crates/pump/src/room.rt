@@ -7,7 +7,7 @@ use libc::STDIN_FILENO;
 use position::{Position, to_front};
 
 // What one read answered, and where the day printer stands afterwards.
-#[derive(Drop)]
+#[derive(Clone, Copy)]
 pub(crate) struct Refilled {
     pub got: isize,
     pub position: Position,

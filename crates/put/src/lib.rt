@@ -1,5 +1,7 @@
 // Pieces of a list of bytes. Each is put into a lent buffer from a place on, as much of it as there
 // is room for, and answers the place behind it.
+#![tactic(auto)]
+
 ghost use Rattle.std.specs.Prelude.{[], ◌∷◌};
 ghost use Rattle.format.specs.Command.{little};
 ghost use Rattle.texts.specs.Text.{decimal};

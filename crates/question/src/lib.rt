@@ -1,4 +1,6 @@
 // What may be asked of a plan at any time.
+#![tactic(auto)]
+
 ghost use Rattle.std.specs.Prelude.{◌≡◌};
 ghost use Rattle.numbers.specs.Sums.{only};
 ghost use Rattle.rules.specs.Phase;

@@ -1,5 +1,7 @@
 // "A reader keeps the lent command stream and how far it has come, and hands out one command after
 // another."
+#![tactic(auto)]
+
 ghost use Rattle.std.specs.Prelude.{◌≡◌};
 ghost use Rattle.format.specs.Command as rules;
 ghost use Rattle.codec.specs.Meaning.{decoded};
@@ -8,7 +10,7 @@ ghost use Rattle.reader.specs.Onward.{onward};
 use codec::{Decoded, decode};
 
 // A stream that is lent, and the place of the next command in it.
-#[derive(Drop)]
+#[derive(Clone, Copy)]
 pub struct Reader<'a> {
     bytes: &'a [u8],
     place: usize,

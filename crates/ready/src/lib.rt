@@ -1,5 +1,7 @@
 // The ready set: a bit for each place of the execution order. The first place of the set is found by
 // two looks.
+#![tactic(auto)]
+
 ghost use Rattle.std.specs.Prelude.{◌≡◌, true, false, ◌^◌, ◌<◌};
 ghost use Rattle.std.specs.Int.Count.{count_trailing_zeros};
 ghost use Rattle.words.specs.Layout.{bits};

@@ -1,4 +1,6 @@
 // Why a task is not starting. The plan is only read, in at most one pass over its tasks.
+#![tactic(auto)]
+
 ghost use Rattle.std.specs.Prelude.{◌≡◌, ◌≤◌};
 ghost use Rattle.numbers.specs.Limits.{max_tasks};
 ghost use Rattle.numbers.specs.Lists.{at};
@@ -17,7 +19,7 @@ use store::{missing, shortage};
 use words::plan::Plan;
 
 // What the cook is told of a task.
-#[derive(Drop)]
+#[derive(Clone, Copy)]
 pub enum Reason {
     // the number of the ground
     Refused(u8),

@@ -1,4 +1,6 @@
 // Starting: while a processor is free, the first ready task in the execution order runs.
+#![tactic(auto)]
+
 ghost use Rattle.words.specs.Contents.{contents};
 ghost use Rattle.starting.specs.Started.{MayRun, OneStarted, MayStart, Started};
 

@@ -1,4 +1,6 @@
 // One step of the day printer over the bytes at hand.
+#![tactic(auto)]
+
 ghost use Rattle.std.specs.Prelude.{length, take};
 ghost use Rattle.texts.specs.Printer as rules;
 ghost use Rattle.answer.specs.Meaning.{plan_of};
@@ -13,7 +15,7 @@ use words::plan::Plan;
 
 // What a step answers: the place of the next command, the bytes of the buffer that it wrote, and its
 // verdict, which is one of `Turned`.
-#[derive(Drop)]
+#[derive(Clone, Copy)]
 pub struct Stepped {
     pub position: Position,
     pub written: usize,

@@ -1,4 +1,6 @@
 // One store of a plan, by its offset in a row. A second store is another offset.
+#![tactic(auto)]
+
 ghost use Rattle.std.specs.Prelude.{◌≡◌, ◌+◌, ◌-◌, ◌^◌, ◌≤◌, ◌<◌, leb};
 ghost use Rattle.numbers.specs.Lists.{at};
 ghost use Rattle.words.specs.Layout.{words};

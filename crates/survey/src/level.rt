@@ -13,7 +13,7 @@ use words::plan::Plan;
 const ROWS: usize = Plan::MAX_TASKS + 1;
 
 // A sum, and the task that runs then.
-#[derive(Drop)]
+#[derive(Clone, Copy)]
 pub(crate) struct Peaked {
     pub(crate) trays: u64,
     pub(crate) task: u16,

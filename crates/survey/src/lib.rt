@@ -1,4 +1,6 @@
 // The survey of a plan's activation order, and the figures that its day begins with.
+#![tactic(auto)]
+
 mod checks;
 mod figures;
 mod level;
@@ -13,7 +15,7 @@ pub use figures::prepare;
 use words::plan::Plan;
 
 // What a survey answers: the number of a ground, and where it is 0 the peak and its task.
-#[derive(Drop)]
+#[derive(Clone, Copy)]
 pub struct Surveyed {
     pub number: u8,
     pub peak: u64,

@@ -1,6 +1,8 @@
 // A plan written back out: "PLAN, the steps, the activation order, the execution order, without BEGIN,
 // into a lent list of bytes". The plan is only read, in one pass over its tasks and one over each
 // order.
+#![tactic(auto)]
+
 ghost use Rattle.std.specs.Prelude.{◌≡◌, take};
 ghost use mathlib.Core.List.{map, flat_map};
 ghost use Rattle.format.specs.Command as rules;
