@@ -77,6 +77,8 @@ numbers_fit (width ∷ widths) given all =
 pub numbers-littles : (widths x rest : List ℕ) → Fit widths x → numbers widths (littles widths x ++ rest) ≡ x
 unfolding numbers littles
 numbers-littles [] [] rest h = refl
+numbers-littles [] (x ∷ later) rest h = elim h [ ]
+numbers-littles (width ∷ widths) [] rest h = elim h [ ]
 numbers-littles (width ∷ widths) (x ∷ later) rest h =
     let more = littles widths later ++ rest in
     rw (append_assoc (little width x) (littles widths later) rest, number-little width x more h.0)
