@@ -13,7 +13,7 @@ import sys
 KEPT = {"flatMap", "getD", "in_Buffer", "is_Within", "mut_Tells", "shr_slice_Lawful", "shr_slice_Tells", "uint_Lawful", "uint_Makes",
         "uint_Tells", "walk_Meets"}
 # names that would fall together with another
-OTHER = {"goesOn": "going_on", "peak-of": "peak_apart"}
+OTHER = {"goesOn": "continues", "peak-of": "peak_apart"}
 
 WORD = re.compile(r"[A-Za-z_][A-Za-z0-9_']*")
 NAME = re.compile(r"[A-Za-z_][A-Za-z0-9_'-]*")

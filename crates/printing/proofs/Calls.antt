@@ -55,7 +55,7 @@ module _ (w : List ℕ) (asking : answers.Asking) (offset : ℕ) (is_last : Bool
   stops d =
       taken.verdict
       ∙ ap (λ (t : rules.Turn). t.verdict) turn_is
-      ∙ ap (λ (b : Bool). cond b rules.going_on rules.stops) (ne_eqb a.answer.number 0 d)
+      ∙ ap (λ (b : Bool). cond b rules.continues rules.stops) (ne_eqb a.answer.number 0 d)
 
   -- all that its caller receives is what the command function ensures
   pub turn-call : Commanded w asking (given a.answer) w' list

@@ -10,7 +10,7 @@ use Rattle.numbers.specs.Limits.{max_processors}
 use Rattle.format.specs.Command.{Decoded, decode}
 use Rattle.rules.specs.Answer as rules
 use Rattle.texts.specs.Text.{accepted_line, refused_line}
-use Rattle.texts.specs.Printer.{going_on, waits, stops, idle, said, answered, is_awaited, turn}
+use Rattle.texts.specs.Printer.{continues, waits, stops, idle, said, answered, is_awaited, turn}
 use Rattle.theorem.proofs.Askings.{asking_holds}
 use Rattle.rules.proofs.Reaching.{lives}
 use Rattle.words.specs.Contents.{contents}
@@ -65,7 +65,7 @@ module _ {w : List ℕ} {a : rules.Asking} {r : Answer} {w' list' : List ℕ} (h
       → r.starts ≤ max_processors
       → Line (accepted_line d (answered_of r (contents w') list')) r.starts buffer buffer' n
       → Taken w (answered d offset (answered_of r (contents w') list')) buffer
-      (record { used = r.used; written = n; verdict = going_on }) w' list' buffer'
+      (record { used = r.used; written = n; verdict = continues }) w' list' buffer'
   unfolding answered said
   after-acceptance accepted few line =
       let e = eq-eqb r.number 0 accepted in
@@ -128,5 +128,5 @@ module _ (w : List ℕ) (a : rules.Asking) (offset : ℕ) (is_last : Bool) {d : 
         → r.number ≡ 0
         → Line (accepted_line d (answered_of r (contents w') list)) r.starts buffer buffer' n
         → Taken w (turn (plan_of w) a offset is_last) buffer
-        (record { used = r.used; written = n; verdict = going_on }) w' list buffer'
+        (record { used = r.used; written = n; verdict = continues }) w' list buffer'
     accepting valid accepted line = asked (after-acceptance commanded d offset accepted (few valid) line)

@@ -13,7 +13,7 @@ use Rattle.format.specs.Command.{Command, Form, forms, room, Decoded, refused, r
 use Rattle.rules.specs.Grounds.{ground_for}
 use Rattle.rules.specs.Obey.{obey}
 use Rattle.rules.specs.Answer.{Asking, refuse, accept, judge, respond, command}
-use Rattle.texts.specs.Printer.{going_on, waits, stops, idle, answered, is_awaited, turn}
+use Rattle.texts.specs.Printer.{continues, waits, stops, idle, answered, is_awaited, turn}
 use Rattle.format.proofs.Bytes.{Reading, nothing_left, no_line, cut_short, in-full, reading, read-by, All, found}
 use Rattle.answer.specs.Meaning.{plan_of}
 use Rattle.printing.specs.declared.Turned.{Turned}
@@ -98,7 +98,7 @@ awaited false d e = e
 stopped : stops ≡ waits → ⊥
 stopped e = omega arith
 
-answers : (t : Bool) → cond t going_on stops ≡ waits → ⊥
+answers : (t : Bool) → cond t continues stops ≡ waits → ⊥
 answers true e = omega arith
 answers false e = stopped e
 

@@ -21,4 +21,4 @@ pub record Taken (w : List ℕ) (t : rules.Turn) (buffer : List ℕ) (r : Turned
   -- commands led to the plan that is left
   pub valid : ValidPlan w'
   -- the very words are left, unless a command was accepted
-  pub kept : (r.verdict ≡ rules.going_on → ⊥) → w' ≡ w
+  pub kept : (r.verdict ≡ rules.continues → ⊥) → w' ≡ w

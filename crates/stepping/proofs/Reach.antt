@@ -14,7 +14,7 @@ use Rattle.rules.specs.Answer.{Asking}
 use Rattle.texts.specs.Text.{longest_line}
 use Rattle.texts.specs.Printer as rules
 use Rattle.rules.specs.Reachable.{Reachable}
-use Rattle.texts.specs.Printer.{going_on, waits, stops, Turn, idle, turn, behind, turns, step}
+use Rattle.texts.specs.Printer.{continues, waits, stops, Turn, idle, turn, behind, turns, step}
 use Rattle.numbers.proofs.Tests.{decide, le-or-lt}
 use Rattle.texts.proofs.Stepped.{Way, waiting, stopping, going_on, turn-kept, no_room, last_turn, next-turn}
 use Rattle.texts.proofs.Printed.{going}
@@ -25,9 +25,9 @@ pub record Reach (stream : List ℕ) (place : ℕ) (is_last : Bool) (t : Turn) :
   pub within : place + t.used ≤ length stream
   pub few : t.verdict ≡ waits → length stream < place + t.used + 8
   pub awaited : t.verdict ≡ waits → is_last ≡ false
-  pub third : (t.verdict ≡ waits → ⊥) → (t.verdict ≡ stops → ⊥) → t.verdict ≡ going_on
+  pub third : (t.verdict ≡ waits → ⊥) → (t.verdict ≡ stops → ⊥) → t.verdict ≡ continues
 
-reach-idle : (stream : List ℕ) (place : ℕ) (is_last : Bool) (s : State) (list : List ℕ) → place ≤ length stream → Reach stream place is_last (idle going_on s list)
+reach-idle : (stream : List ℕ) (place : ℕ) (is_last : Bool) (s : State) (list : List ℕ) → place ≤ length stream → Reach stream place is_last (idle continues s list)
 unfolding idle
 reach-idle stream place is_last s list h =
     record { within = omega arith; few = λ e. absurd (omega arith); awaited = λ e. absurd (omega arith); third = λ _ _. refl }
@@ -51,7 +51,7 @@ module _ (s : State) (a : Asking) (offset : ℕ) (is_last : Bool) (r : Reachable
       third : Way s a.list (turn s a offset is_last)
           → ((turn s a offset is_last).verdict ≡ waits → ⊥)
           → ((turn s a offset is_last).verdict ≡ stops → ⊥)
-          → (turn s a offset is_last).verdict ≡ going_on
+          → (turn s a offset is_last).verdict ≡ continues
       third (waiting e) w q = absurd (w (ap (λ (t : Turn). t.verdict) e))
       third (stopping e) w q = absurd (q e)
       third (going_on e) w q = e
@@ -69,15 +69,15 @@ turns-reach (suc more) room s a offset is_last r inside =
     (λ enough.
     ⊎_elim
     (λ e.
-    subst (Reach a.stream a.place is_last) (sym (next-turn s a offset is_last more room enough (eqb-true t.verdict going_on e)))
+    subst (Reach a.stream a.place is_last) (sym (next-turn s a offset is_last more room enough (eqb-true t.verdict continues e)))
     (reach-behind a.stream a.place t.used is_last t.text _
     (turns-reach more (room - length t.text) t.state
     (record { stream = a.stream; place = a.place + t.used; list = t.list }) (offset + t.used) is_last
     (turn-kept s a offset is_last r).reached one.within)))
     (λ e.
     subst (Reach a.stream a.place is_last)
-    (sym (last_turn s a offset is_last more room enough (eqb-false t.verdict going_on e))) one)
-    (decide (eqb t.verdict going_on)))
+    (sym (last_turn s a offset is_last more room enough (eqb-false t.verdict continues e))) one)
+    (decide (eqb t.verdict continues)))
     (λ few.
     subst (Reach a.stream a.place is_last) (sym (no_room s a offset is_last (suc more) room few))
     (reach-idle a.stream a.place is_last s a.list inside))
@@ -94,7 +94,7 @@ step-reach s part list room x r inside =
 -- a step with room for a line goes on only where it has used a byte
 pub step-some : (s : State) (part list : List ℕ) (room : ℕ) (x : rules.Position)
     → longest_line ≤ room
-    → (step s part list room x).verdict ≡ going_on
+    → (step s part list room x).verdict ≡ continues
     → 0 < (step s part list room x).used
 unfolding step behind
 step-some s part list room x enough goes =
@@ -102,10 +102,10 @@ step-some s part list room x enough goes =
     let t = turn s a x.offset x.is_last in
     ⊎_elim
     (λ e.
-    let on = eqb-true t.verdict going_on e in
+    let on = eqb-true t.verdict continues e in
     rw (next-turn s a x.offset x.is_last (length part) room enough on)
     (omega (arith, (going s list part x.place x.offset x.is_last on).1)))
     (λ e.
-    let stays = eqb-false t.verdict going_on e in
+    let stays = eqb-false t.verdict continues e in
     absurd (stays (sym (ap (λ (u : Turn). u.verdict) (last_turn s a x.offset x.is_last (length part) room enough stays)) ∙ goes)))
-    (decide (eqb t.verdict going_on))
+    (decide (eqb t.verdict continues))

@@ -10,7 +10,7 @@ use Rattle.rules.specs.State.{State}
 use Rattle.rules.specs.Answer.{Asking}
 use Rattle.texts.specs.Text.{longest_line}
 use Rattle.texts.specs.Printer as rules
-use Rattle.texts.specs.Printer.{going_on, Turn, idle, turn, behind, turns, moved, step}
+use Rattle.texts.specs.Printer.{continues, Turn, idle, turn, behind, turns, moved, step}
 use Rattle.texts.proofs.Stepped.{turn-kept, no_room, last_turn, next-turn}
 use Rattle.texts.proofs.Printed.{going}
 use Rattle.answer.specs.Meaning.{plan_of}
@@ -166,7 +166,7 @@ module _ (part list₀ output₀ w₀ : List ℕ) (x₀ : Position) where
 
     -- there is no room for another line
     pub filled-up : length output - written < longest_line
-        → Step x₀ goal output₀ (record { position = x; written = written; verdict = going_on }) w list output
+        → Step x₀ goal output₀ (record { position = x; written = written; verdict = continues }) w list output
     unfolding idle
     filled-up few =
         let full : length output₀ - length h.text < longest_line = omega (arith, size, h.told) in
@@ -234,7 +234,7 @@ module _ (part list₀ output₀ w₀ : List ℕ) (x₀ : Position) where
 
       module _ {x' : Position} (position : position_of x' ≡ moved r.used (position_of x)) where
         -- it was the last
-        pub ended : (r.verdict ≡ going_on → ⊥)
+        pub ended : (r.verdict ≡ continues → ⊥)
             → Step x₀ goal output₀
             (record { position = x'; written = written + r.written; verdict = r.verdict }) w' list' output'
         ended stays =
@@ -272,7 +272,7 @@ module _ (part list₀ output₀ w₀ : List ℕ) (x₀ : Position) where
             ∙ ap (from m (length output₀ - length (h.text ++ next.text)) (plan_of w') list') at
 
         -- a byte is used
-        pub some : r.verdict ≡ going_on → x.place < x'.place
+        pub some : r.verdict ≡ continues → x.place < x'.place
         some goes =
             omega (
               arith,
@@ -282,7 +282,7 @@ module _ (part list₀ output₀ w₀ : List ℕ) (x₀ : Position) where
             )
 
         -- the turns go on
-        pub onward : r.verdict ≡ going_on → StepLoop w' x' list' output' (written + r.written)
+        pub onward : r.verdict ≡ continues → StepLoop w' x' list' output' (written + r.written)
         onward goes =
             let m = one_more in
             record {

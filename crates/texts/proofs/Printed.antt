@@ -16,7 +16,7 @@ use Rattle.rules.specs.Grounds.{ground_for}
 use Rattle.rules.specs.Obey.{Outcome, obey}
 use Rattle.rules.specs.Answer.{Answered, Asking, refuse, front, accept, judge, respond, command}
 use Rattle.texts.specs.Text.{line, accepted_line}
-use Rattle.texts.specs.Printer.{going_on, waits, stops, Turn, idle, said, answered, is_awaited, turn, print_from, print, said_of, Part, over, Prints, goes_on, waits_for, stops_at}
+use Rattle.texts.specs.Printer.{continues, waits, stops, Turn, idle, said, answered, is_awaited, turn, print_from, print, said_of, Part, over, Prints, goes_on, waits_for, stops_at}
 use Rattle.streams.specs.Stream.{asking, askings_from, askings}
 use Rattle.numbers.proofs.Tests.{clash, same_or_not, le-or-lt}
 use Rattle.format.proofs.Bytes.{Counts, decode-counts}
@@ -116,10 +116,10 @@ turn-alike s stream place list list' offset room room' = go (leb (length stream)
     go true = record { verdict = refl; used = refl; text = refl; state = refl }
     go false = answered-alike (decode stream place) offset (responded-alike s (decode stream place) list list' room room')
 
-stopped : stops ≡ going_on → ⊥
+stopped : stops ≡ continues → ⊥
 stopped e = omega arith
 
-chosen : (t : Bool) → cond t going_on stops ≡ going_on → t ≡ true
+chosen : (t : Bool) → cond t continues stops ≡ continues → t ≡ true
 chosen true e = refl
 chosen false e = absurd (stopped e)
 
@@ -153,7 +153,7 @@ module _ (s : State) (list : List ℕ) where
 
   -- a turn that goes on has used a byte
   pub going : (stream : List ℕ) (place offset : ℕ) (is_last : Bool)
-      → (turn s (record { stream = stream; place = place; list = list }) offset is_last).verdict ≡ going_on
+      → (turn s (record { stream = stream; place = place; list = list }) offset is_last).verdict ≡ continues
       → (place < length stream) × (0 < (turn s (record { stream = stream; place = place; list = list }) offset is_last).used)
   unfolding turn idle answered command
   going stream place offset is_last = go (is_awaited is_last (decode stream place))
@@ -166,7 +166,7 @@ module _ (s : State) (list : List ℕ) where
           cond t (idle waits s list)
           (cond (leb (length stream) place) (idle stops s list) (answered (decode stream place) offset (command s a)))
 
-      go : (t : Bool) → (taken t).verdict ≡ going_on → (place < length stream) × (0 < (taken t).used)
+      go : (t : Bool) → (taken t).verdict ≡ continues → (place < length stream) × (0 < (taken t).used)
       go true e = absurd (omega arith)
       go false e =
           ⊎_elim (λ out. absurd (stopped (rw (le-leb (length stream) place out) at e)))
@@ -197,7 +197,7 @@ nothing_left : (s : State) (stream : List ℕ) (place : ℕ) → length stream �
 unfolding turn is_awaited idle
 nothing_left s stream place out = rw (le-leb (length stream) place out)
 
-goes-not-waits : {v : ℕ} → v ≡ going_on → v ≡ waits → ⊥
+goes-not-waits : {v : ℕ} → v ≡ continues → v ≡ waits → ⊥
 goes-not-waits e e' = omega arith
 
 stops-not-waits : {v : ℕ} → v ≡ stops → v ≡ waits → ⊥

@@ -13,7 +13,7 @@ use Rattle.format.specs.Command.{decode}
 use Rattle.rules.specs.Answer.{Asking, command}
 use Rattle.rules.specs.Reachable.{Reachable, start, next}
 use Rattle.texts.specs.Text.{longest_line}
-use Rattle.texts.specs.Printer.{going_on, waits, stops, Turn, idle, answered, is_awaited, turn, behind, turns, step, print, Part, over, Prints, goes_on, stops_at, Steps, steps_on, last_step}
+use Rattle.texts.specs.Printer.{continues, waits, stops, Turn, idle, answered, is_awaited, turn, behind, turns, step, print, Part, over, Prints, goes_on, stops_at, Steps, steps_on, last_step}
 use Rattle.numbers.proofs.Tests.{decide, le-or-lt}
 use Rattle.rules.proofs.Reaching.{lives}
 use Rattle.theorem.proofs.Askings.{asking_holds}
@@ -23,7 +23,7 @@ use Rattle.texts.proofs.Printed.{prints}
 pub data Way (s : State) (list : List ℕ) (t : Turn) : Type 0 where
   waiting : t ≡ idle waits s list → Way s list t
   stopping : t.verdict ≡ stops → Way s list t
-  going_on : t.verdict ≡ going_on → Way s list t
+  going_on : t.verdict ≡ continues → Way s list t
 
 -- what holds of a turn of a plan that commands led to: they led to the plan that is left too, and the start list keeps its length
 pub record Kept (s : State) (list : List ℕ) (t : Turn) : Type 0 where
@@ -35,7 +35,7 @@ pub turn-kept : (s : State) (a : Asking) (offset : ℕ) (is_last : Bool) → Rea
 unfolding turn idle answered command
 turn-kept s a offset is_last r = go (is_awaited is_last (decode a.stream a.place)) (leb (length a.stream) a.place)
   where
-    chosen : (t : Bool) → Way s a.list (record { verdict = cond t going_on stops; used = (command s a).answer.used; text = (answered (decode a.stream a.place) offset (command s a)).text; state = (command s a).state; list = (command s a).list })
+    chosen : (t : Bool) → Way s a.list (record { verdict = cond t continues stops; used = (command s a).answer.used; text = (answered (decode a.stream a.place) offset (command s a)).text; state = (command s a).state; list = (command s a).list })
     chosen true = going_on refl
     chosen false = stopping refl
 
@@ -60,26 +60,26 @@ module _ (s : State) (a : Asking) (offset : ℕ) (is_last : Bool) where
   abbrev later : Asking
   later = record { stream = a.stream; place = a.place + first.used; list = first.list }
 
-  pub no_room : (more room : ℕ) → room < longest_line → turns more room s a offset is_last ≡ idle going_on s a.list
+  pub no_room : (more room : ℕ) → room < longest_line → turns more room s a offset is_last ≡ idle continues s a.list
   unfolding turns
   no_room zero room h = refl
   no_room (suc more) room h = rw (lt-ltb room longest_line h, turns)
 
   pub last_turn : (more room : ℕ)
       → longest_line ≤ room
-      → (first.verdict ≡ going_on → ⊥)
+      → (first.verdict ≡ continues → ⊥)
       → turns (suc more) room s a offset is_last ≡ first
   unfolding turns
-  last_turn more room h e = rw (le-ltb room longest_line h, ne_eqb first.verdict going_on e, turns)
+  last_turn more room h e = rw (le-ltb room longest_line h, ne_eqb first.verdict continues e, turns)
 
   pub next-turn : (more room : ℕ)
       → longest_line ≤ room
-      → first.verdict ≡ going_on
+      → first.verdict ≡ continues
       → turns (suc more) room s a offset is_last
       ≡ behind first.used first.text
       (turns more (room - length first.text) first.state later (offset + first.used) is_last)
   unfolding turns
-  next-turn more room h e = rw (le-ltb room longest_line h, eq-eqb first.verdict going_on e, turns)
+  next-turn more room h e = rw (le-ltb room longest_line h, eq-eqb first.verdict continues e, turns)
 
 -- what a step leaves, and what it means for all that is printed
 record Ends (stream : List ℕ) (s : State) (place : ℕ) (t : Turn) : Type 0 where
@@ -124,7 +124,7 @@ asking p = record { stream = p.part; place = p.start; list = p.list }
 
 -- a turn that goes on, and the turns behind it
 ends-behind : {stream : List ℕ} {s : State} {place : ℕ} (p : Part stream place) (t : Turn)
-    → (over p s).verdict ≡ going_on
+    → (over p s).verdict ≡ continues
     → Ends stream (over p s).state (place + (over p s).used) t
     → Ends stream s place (behind (over p s).used (over p s).text t)
 unfolding behind
@@ -141,7 +141,7 @@ ends-behind {stream} {s} {place} p t goes h =
 
 ends_last : {stream : List ℕ} {s : State} {place : ℕ} (p : Part stream place)
     → Reachable s
-    → ((over p s).verdict ≡ going_on → ⊥)
+    → ((over p s).verdict ≡ continues → ⊥)
     → Kept s p.list (over p s)
     → Ends stream s place (over p s)
 ends_last {stream} {s} {place} p r not kept = go kept.way
@@ -155,24 +155,24 @@ turns-end : (more room : ℕ) {stream : List ℕ} {s : State} {place : ℕ} (p :
     → Reachable s
     → Ends stream s place (turns more room s (asking p) place p.is_last)
 unfolding turns onward
-turns-end zero room p r = ends-idle going_on p.list (λ q. omega arith) r
+turns-end zero room p r = ends-idle continues p.list (λ q. omega arith) r
 turns-end (suc more) room {stream} {s} {place} p r =
     let kept = turn-kept s (asking p) place p.is_last r in
     ⊎_elim
     (λ enough.
     ⊎_elim
     (λ e.
-    let goes = eqb-true (over p s).verdict going_on e in
+    let goes = eqb-true (over p s).verdict continues e in
     subst (Ends stream s place) (sym (next-turn s (asking p) place p.is_last more room enough goes))
     (ends-behind p _ goes
     (turns-end more (room - length (over p s).text) (onward p (over p s).used (over p s).list kept.long) kept.reached)))
     (λ e.
-    let stays = eqb-false (over p s).verdict going_on e in
+    let stays = eqb-false (over p s).verdict continues e in
     subst (Ends stream s place) (sym (last_turn s (asking p) place p.is_last more room enough stays)) (ends_last p r stays kept))
-    (decide (eqb (over p s).verdict going_on)))
+    (decide (eqb (over p s).verdict continues)))
     (λ few.
     subst (Ends stream s place) (sym (no_room s (asking p) place p.is_last (suc more) room few))
-    (ends-idle going_on p.list (λ q. omega arith) r))
+    (ends-idle continues p.list (λ q. omega arith) r))
     (le-or-lt longest_line room)
 
 -- steps are turns

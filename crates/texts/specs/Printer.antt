@@ -9,8 +9,8 @@ use Rattle.rules.specs.Answer.{Answered, Asking, command}
 use Rattle.texts.specs.Text.{longest_line, accepted_line, refused_line}
 
 -- what a turn decides: to go on with the next command, to wait for more input, or to stop
-abbrev pub going_on : ℕ
-going_on = 0
+abbrev pub continues : ℕ
+continues = 0
 
 abbrev pub waits : ℕ
 waits = 1
@@ -38,7 +38,7 @@ said d offset a = cond (eqb a.answer.number 0) (accepted_line d a) (refused_line
 unfoldable pub answered : Decoded → ℕ → Answered → Turn
 answered d offset a =
     record {
-      verdict = cond (eqb a.answer.number 0) going_on stops;
+      verdict = cond (eqb a.answer.number 0) continues stops;
       used = a.answer.used;
       text = said d offset a;
       state = a.state;
@@ -72,13 +72,13 @@ behind used text t =
 
 -- turns over the part that has come, one after another, until one waits or stops, or there is no room left for the longest line
 unfoldable pub turns : ℕ → ℕ → State → Asking → ℕ → Bool → Turn
-turns zero room s a offset is_last = idle going_on s a.list
+turns zero room s a offset is_last = idle continues s a.list
 turns (suc more) room s a offset is_last =
     elim (ltb room longest_line) [
-      | true ↦ idle going_on s a.list
+      | true ↦ idle continues s a.list
       | false ↦
           let t = turn s a offset is_last in
-          elim (eqb t.verdict going_on) [
+          elim (eqb t.verdict continues) [
             | true ↦
                 behind t.used t.text
                 (turns more (room - length t.text) t.state
@@ -145,7 +145,7 @@ print_from zero s stream place = []
 print_from (suc turns) s stream place =
     let t = turn s (record { stream = stream; place = place; list = replicate least_starts 0 }) place true in
     t.text
-    ++ elim (eqb t.verdict going_on) [
+    ++ elim (eqb t.verdict continues) [
       | true ↦ print_from turns t.state stream (place + t.used)
       | false ↦ []
     ]
@@ -180,7 +180,7 @@ over {place = place} p s = turn s (record { stream = p.part; place = p.start; li
 -- what turns over parts of the stream print, however it is cut: where one waits, another part is taken
 pub data Prints (stream : List ℕ) : State → ℕ → List ℕ → Type 0 where
   goes_on : {s : State} {place : ℕ} {text : List ℕ} (p : Part stream place)
-      → (over p s).verdict ≡ going_on
+      → (over p s).verdict ≡ continues
       → Prints stream (over p s).state (place + (over p s).used) text
       → Prints stream s place ((over p s).text ++ text)
   waits_for : {s : State} {place : ℕ} {text : List ℕ} (p : Part stream place)

@@ -7,21 +7,21 @@ use Rattle.codec.proofs.Free.{free}
 use Rattle.codec.proofs.decode.Statement.{statement}
 use Rattle.codec.proofs.decode.Tie as tie
 
-returns : tie.Need-returns
+returns : tie.Need-returns-then-stream-place
 unfolding decode
-returns c = rw (le-leb _ _ c.if1.true)
+returns c = rw (le-leb _ _ c.if-stream-place.true)
 
-shared-slice-read-table : tie.Need-shared-slice-read-table
+shared-slice-read-table : tie.Need-bounds-stream-place
 shared-slice-read-table c = search rules
 
-add-after : tie.Need-overflow-add-after
+add-after : tie.Need-overflow_add-place
 add-after c = search rules
 
-returns-2 : tie.Need-returns-2
+returns-2 : tie.Need-returns
 unfolding decode
 returns-2 c =
     let operands = rw add-one at c.before.after.ensures in
-    rw (lt-leb _ _ c.before.before.before.if1.false, ← operands) c.table.ensures
+    rw (lt-leb _ _ c.before.before.before.if-stream-place.false, ← operands) c.table.ensures
 
-pub decode-spec : {M : Type 1} → statement M
-decode-spec = tie.close (tie.spec returns shared-slice-read-table add-after free free returns-2)
+pub decode_spec : {M : Type 1} → statement M
+decode_spec = tie.close (tie.spec returns shared-slice-read-table add-after free free returns-2)

@@ -5,56 +5,56 @@ use Rattle.put.proofs.Pieces.{◌then◌}
 use Rattle.codec.proofs.encode.Statement.{statement}
 use Rattle.codec.proofs.encode.Tie as tie
 
-plan : tie.Need-returns
+plan : tie.Need-returns-in-Plan
 unfolding bytes byte_of operands_of widths_of find forms littles little
 plan c =
     let bound = c.before.before in
     let p = bound.before.before.before.before in
     let n = p.before.before.before.before in
-    rw n.before.before.before.command.given.1 (n.start.ensures then p.little.ensures then bound.little2.ensures)
+    rw n.before.before.before.command-1.given.1 (n.start-next.ensures then p.little-next.ensures then bound.little.ensures)
 
-task : tie.Need-returns-2
+task : tie.Need-returns-in-Task
 task c =
     let i = c.before.before in
-    rw i.before.before.before.command2.given.1 i.encode-task.ensures
+    rw i.before.before.before.command-in-Task-1.given.1 i.encode_task.ensures
 
-activation : tie.Need-returns-3
+activation : tie.Need-returns-in-Activation
 activation c =
     let i = c.before.before in
-    rw i.before.before.before.command3.given.1 i.encode-activation.ensures
+    rw i.before.before.before.command-in-Activation-1.given.1 i.encode_activation.ensures
 
-execution : tie.Need-returns-4
+execution : tie.Need-returns-in-Execution
 execution c =
     let i = c.before.before in
-    rw i.before.before.before.command4.given.1 i.encode-execution.ensures
+    rw i.before.before.before.command-in-Execution-1.given.1 i.encode_execution.ensures
 
-begin : tie.Need-returns-5
+begin : tie.Need-returns-in-Begin
 unfolding bytes byte_of operands_of widths_of find forms littles little
 begin c =
     let byte = c.before.before in
-    rw byte.before.before.enum_told.given.1 byte.byte.ensures
+    rw byte.before.before.enum_told-1.given.1 byte.byte.ensures
 
-done : tie.Need-returns-6
+done : tie.Need-returns-in-Done
 unfolding bytes byte_of operands_of widths_of find forms littles little
 done c =
     let i = c.before.before in
-    rw i.before.before.before.command5.given.1 i.start2.ensures
+    rw i.before.before.before.command-in-Done-1.given.1 i.start.ensures
 
-fetch : tie.Need-returns-7
+fetch : tie.Need-returns-in-Fetch
 unfolding bytes byte_of operands_of widths_of find forms littles little
 fetch c =
     let byte = c.before.before in
-    rw byte.before.before.enum-told2.given.1 byte.byte2.ensures
+    rw byte.before.before.enum_told-in-Fetch-1.given.1 byte.byte-in-Fetch.ensures
 
-places : tie.Need-returns-8
+places : tie.Need-returns-in-Places
 unfolding bytes byte_of operands_of widths_of find forms littles little
 places c =
     let bound = c.before.before in
     let byte = bound.before.before.before.before in
-    rw byte.before.before.before.command6.given.1 (byte.byte3.ensures then bound.little3.ensures)
+    rw byte.before.before.before.command-in-Places-1.given.1 (byte.byte-next.ensures then bound.little-in-Places.ensures)
 
-pub encode-spec : {M : Type 1} → statement M
-encode-spec =
+pub encode_spec : {M : Type 1} → statement M
+encode_spec =
     tie.close
     (tie.spec
     (λ c. search rules)

@@ -8,5 +8,5 @@ returns : tie.Need-returns
 unfolding bytes byte_of operands_of widths_of find forms littles little
 returns c = c.before.before.start.ensures
 
-pub encode-activation-spec : {M : Type 1} → statement M
-encode-activation-spec = tie.close (tie.spec (λ c κs. search rules) (λ c. search rules) returns)
+pub encode_activation_spec : {M : Type 1} → statement M
+encode_activation_spec = tie.close (tie.spec (λ c κs. search rules) (λ c. search rules) returns)

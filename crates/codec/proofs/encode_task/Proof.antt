@@ -11,9 +11,9 @@ returns c =
     let out = c.before.before in
     let work = out.before.before.before.before in
     let parent = work.before.before.before.before in
-    parent.start.ensures then work.little.ensures then out.little2.ensures
+    parent.start-next.ensures then work.little-next.ensures then out.little.ensures
 
-pub encode-task-spec : {M : Type 1} → statement M
-encode-task-spec =
+pub encode_task_spec : {M : Type 1} → statement M
+encode_task_spec =
     tie.close
     (tie.spec (λ c κs. search rules) (λ c κs. search rules) (λ c κs. search rules) (λ c. search rules) returns)

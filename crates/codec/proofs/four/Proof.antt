@@ -8,9 +8,9 @@ use Rattle.codec.proofs.four.Tie as tie
 returns : tie.Need-returns
 returns c =
     let given = c.before.before.before.before.before.args.given.now in
-    rw (c.before.before.before.two.ensures, c.before.two2.ensures, c.before.before.after.ensures)
+    rw (c.before.before.before.two.ensures, c.before.two-2.ensures, c.before.before.after.ensures)
     at c.join4.ensures
     ∙ sym (number-join 2 2 given)
 
-pub four-spec : {M : Type 1} → statement M
-four-spec = tie.close (tie.spec free free free free returns)
+pub four_spec : {M : Type 1} → statement M
+four_spec = tie.close (tie.spec free free free free returns)

@@ -6,16 +6,16 @@ use Rattle.format.specs.Command.{number}
 use Rattle.codec.proofs.one.Statement.{statement}
 use Rattle.codec.proofs.one.Tie as tie
 
-shared-slice-read-result : tie.Need-shared-slice-read-result
+shared-slice-read-result : tie.Need-bounds-given-0
 shared-slice-read-result c = search rules
 
-returns : tie.Need-returns
+returns : tie.Need-returns-then-given-gt0
 unfolding number
 returns c = omega arith
 
-returns-2 : tie.Need-returns-2
+returns-2 : tie.Need-returns-else-given-gt0
 unfolding number
-returns-2 c = omega (arith, get_or-eq_default c.before.args.given.now 0 c.if1.false)
+returns-2 c = omega (arith, get_or-eq_default c.before.args.given.now 0 c.if-given-gt0.false)
 
 pub one_spec : {M : Type 1} → statement M
 one_spec = tie.close (tie.spec shared-slice-read-result returns returns-2)

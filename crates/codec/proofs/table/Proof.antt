@@ -7,51 +7,51 @@ use Rattle.codec.proofs.Lines.{plan-line, task-line, activation-line, execution-
 use Rattle.codec.proofs.table.Statement.{statement}
 use Rattle.codec.proofs.table.Tie as tie
 
-plan : tie.Need-returns
+plan : tie.Need-returns-in-1
 plan c =
-    rw (c.before.before.before.before.before.before.match.keys1, plan-line)
+    rw (c.before.before.before.before.before.before.in_default.keys1, plan-line)
     (rw (
       c.before.before.before.before.before.two.ensures,
       c.before.before.before.one.ensures,
       c.before.before.before.before.after.ensures,
       c.before.four.ensures,
-      c.before.before.after2.ensures,
+      c.before.before.after-in-1.ensures,
     ) at c.whole.ensures)
 
-task : tie.Need-returns-2
+task : tie.Need-returns-in-2
 task c =
-    rw (c.before.before.before.before.before.before.match.keys2, task-line)
+    rw (c.before.before.before.before.before.before.in_default.keys2, task-line)
     (rw (
-      c.before.before.before.before.before.two2.ensures,
-      c.before.before.before.two3.ensures,
-      c.before.before.before.before.after3.ensures,
-      c.before.two4.ensures,
-      c.before.before.after4.ensures,
-    ) at c.whole2.ensures)
+      c.before.before.before.before.before.two-in-2.ensures,
+      c.before.before.before.two-in-2-2.ensures,
+      c.before.before.before.before.after-in-2.ensures,
+      c.before.two-in-2-3.ensures,
+      c.before.before.after-in-2-2.ensures,
+    ) at c.whole-in-2.ensures)
 
-activation : tie.Need-returns-3
-activation c = rw (c.before.before.match.keys3, activation-line) (rw c.before.two5.ensures at c.whole3.ensures)
+activation : tie.Need-returns-in-3
+activation c = rw (c.before.before.in_default.keys3, activation-line) (rw c.before.two-in-3.ensures at c.whole-in-3.ensures)
 
-execution : tie.Need-returns-4
-execution c = rw (c.before.before.match.keys4, execution-line) (rw c.before.two6.ensures at c.whole4.ensures)
+execution : tie.Need-returns-in-4
+execution c = rw (c.before.before.in_default.keys4, execution-line) (rw c.before.two-in-4.ensures at c.whole-in-4.ensures)
 
-begin : tie.Need-returns-5
-begin c = rw (c.before.match.keys5, begin-line) c.whole5.ensures
+begin : tie.Need-returns-in-5
+begin c = rw (c.before.in_default.keys5, begin-line) c.whole-in-5.ensures
 
-done : tie.Need-returns-6
-done c = rw (c.before.before.match.keys6, done-line) (rw c.before.two7.ensures at c.whole6.ensures)
+done : tie.Need-returns-in-6
+done c = rw (c.before.before.in_default.keys6, done-line) (rw c.before.two-in-6.ensures at c.whole-in-6.ensures)
 
-fetch : tie.Need-returns-7
-fetch c = rw (c.before.match.keys7, fetch-line) c.whole7.ensures
+fetch : tie.Need-returns-in-7
+fetch c = rw (c.before.in_default.keys7, fetch-line) c.whole-in-7.ensures
 
-places : tie.Need-returns-8
-places c = rw (c.before.before.match.keys8, places-line) (rw c.before.four2.ensures at c.whole8.ensures)
+places : tie.Need-returns-in-8
+places c = rw (c.before.before.in_default.keys8, places-line) (rw c.before.four-in-8.ensures at c.whole-in-8.ensures)
 
 -- the byte is none of the arms': the last arm's fact stands outermost
-unknown : tie.Need-returns-9
+unknown : tie.Need-returns-in_default
 unfolding forms find
 unknown c =
-    let rest = c.match.rest in
+    let rest = c.in_default.rest in
     sym
     (no_line _ _
     (simp (
@@ -66,8 +66,8 @@ unknown c =
     )))
 
 -- one line a command: what its callees require
-pub table-spec : {M : Type 1} → statement M
-table-spec =
+pub table_spec : {M : Type 1} → statement M
+table_spec =
     tie.close
     (tie.spec
     free free free free free free

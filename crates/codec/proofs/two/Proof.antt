@@ -8,9 +8,9 @@ use Rattle.codec.proofs.two.Tie as tie
 returns : tie.Need-returns
 returns c =
     let given = c.before.before.before.before.before.args.given.now in
-    rw (c.before.before.before.one.ensures, c.before.one2.ensures, c.before.before.after.ensures)
+    rw (c.before.before.before.one.ensures, c.before.one-2.ensures, c.before.before.after.ensures)
     at c.join2.ensures
     ∙ sym (number-join 1 1 given)
 
-pub two-spec : {M : Type 1} → statement M
-two-spec = tie.close (tie.spec free free free free returns)
+pub two_spec : {M : Type 1} → statement M
+two_spec = tie.close (tie.spec free free free free returns)

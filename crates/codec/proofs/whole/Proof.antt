@@ -4,14 +4,14 @@ use borrow.Author.Tests.{lt-ltb, le-ltb}
 use Rattle.codec.proofs.whole.Statement.{statement}
 use Rattle.codec.proofs.whole.Tie as tie
 
-returns : tie.Need-returns
-returns c = rw (lt-ltb _ _ c.if1.true)
+returns : tie.Need-returns-then-given-width
+returns c = rw (lt-ltb _ _ c.if-given-width.true)
 
-add-used : tie.Need-overflow-add-used
+add-used : tie.Need-overflow_add-used
 add-used c = search rules
 
-returns-2 : tie.Need-returns-2
-returns-2 c = rw (le-ltb _ _ c.if1.false)
+returns-2 : tie.Need-returns
+returns-2 c = rw (le-ltb _ _ c.if-given-width.false)
 
-pub whole-spec : {M : Type 1} → statement M
-whole-spec = tie.close (tie.spec returns add-used returns-2)
+pub whole_spec : {M : Type 1} → statement M
+whole_spec = tie.close (tie.spec returns add-used returns-2)

@@ -3,11 +3,11 @@ use native.Mathlib.Omega.{arith}
 use Rattle.measure.proofs.least.Statement.{statement}
 use Rattle.measure.proofs.least.Tie as tie
 
-returns : tie.Need-returns
-returns c = let h = c.if1.true in omega arith
+returns : tie.Need-returns-then-a-b
+returns c = let h = c.if-a-b.true in omega arith
 
-returns-2 : tie.Need-returns-2
-returns-2 c = let h = c.if1.false in omega arith
+returns-2 : tie.Need-returns-else-a-b
+returns-2 c = let h = c.if-a-b.false in omega arith
 
-pub least-spec : {M : Type 1} → statement M
-least-spec = tie.close (tie.spec returns returns-2)
+pub least_spec : {M : Type 1} → statement M
+least_spec = tie.close (tie.spec returns returns-2)

@@ -10,33 +10,33 @@ use Rattle.position.proofs.Fronting.{one_more}
 use Rattle.position.proofs.to_front.Statement.{statement}
 use Rattle.position.proofs.to_front.Tie as tie
 
-abbrev invariant-loop : tie.invariant-loop
+abbrev invariant-loop : tie.invariant-loop-i
 invariant-loop buffer₀ position place count i₀ buffer i =
     (buffer ≡ paste buffer₀ 0 (drop place buffer₀) i) × (length buffer ≡ length buffer₀) × (i ≤ count)
 
-abbrev decreases-loop : tie.decreases-loop
+abbrev decreases-loop : tie.decreases-loop-i
 decreases-loop buffer₀ position place count i₀ buffer i = count - i
 
-loop-holds : tie.Need-loop-init invariant-loop decreases-loop
+loop-holds : tie.Need-loop-i-init invariant-loop decreases-loop
 loop-holds c = (refl, refl, search rules)
 
-loop-again : tie.Need-loop-preserved invariant-loop decreases-loop
+loop-again : tie.Need-loop-i-preserved invariant-loop decreases-loop
 loop-again c =
-    let loop = c.before.before.loop in
+    let loop = c.before.before.loop-i in
     (one_more _ _ _ (omega arith) loop.invariant.0, simp length-set loop.invariant.1, search rules)
 
-same_length : tie.Need-same-length invariant-loop decreases-loop
-same_length c = c.before.loop.invariant.1
+same_length : tie.Need-shape_of-buffer invariant-loop decreases-loop
+same_length c = c.before.loop-i.invariant.1
 
 returns : tie.Need-returns invariant-loop decreases-loop
 unfolding fronted
 returns c =
     let position = c.before.before.before.args.position in
-    let all : c.before.loop.i ≡ position.filled - position.place = omega arith in
-    (refl, rw all at c.before.loop.invariant.0)
+    let all : c.before.loop-i.i ≡ position.filled - position.place = omega arith in
+    (refl, rw all at c.before.loop-i.invariant.0)
 
-pub to-front-spec : {M : Type 1} → statement M
-to-front-spec =
+pub to_front_spec : {M : Type 1} → statement M
+to_front_spec =
     tie.close
     (tie.spec
     invariant-loop

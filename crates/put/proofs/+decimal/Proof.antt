@@ -23,19 +23,19 @@ given t = and 1 kinds.ps (is 1 kinds.ps μ t) decimal.Pre
 abbrev below : ℕ → In 1 kinds.ps
 below t = and 1 kinds.ps (falls 1 kinds.ps ◌<◌ μ t) decimal.Pre
 
-returns : (t : ℕ) → lts.Need-returns (byte.Asked, byte.Learnt, below t, decimal.Post) (given t) decimal.Post
+returns : (t : ℕ) → lts.Need-returns-then-x-lt10 (byte.Asked, byte.Learnt, below t, decimal.Post) (given t) decimal.Post
 returns t c =
     let last = c.before.before in
-    rw (one-digit _ last.before.before.if1.true) last.byte.ensures
+    rw (one-digit _ last.before.before.if-x-lt10.true) last.byte.ensures
 
-returns-2 : (t : ℕ) → lts.Need-returns-2 (byte.Asked, byte.Learnt, below t, decimal.Post) (given t) decimal.Post
+returns-2 : (t : ℕ) → lts.Need-returns (byte.Asked, byte.Learnt, below t, decimal.Post) (given t) decimal.Post
 returns-2 t c =
     let last = c.before.before in
     let tenth = last.before.before.before.before in
-    rw (more-digits _ tenth.before.before.if1.false) (tenth.decimal.ensures then last.byte2.ensures)
+    rw (more-digits _ tenth.before.before.if-x-lt10.false) (tenth.decimal-next.ensures then last.byte-2.ensures)
 
-pub +decimal-spec : {M : Type 1} → statement M
-+decimal-spec =
+pub +decimal_spec : {M : Type 1} → statement M
++decimal_spec =
     close μ λ t. lts.spec (byte.Asked, byte.Learnt, below t, decimal.Post) (given t) decimal.Post
     (λ c. search rules)
     (λ c. search rules)

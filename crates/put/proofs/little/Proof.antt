@@ -23,34 +23,34 @@ unfolding little
 none_left zero rest h = refl
 none_left (suc left) rest h = absurd (omega arith)
 
-abbrev invariant-loop : tie.invariant-loop
+abbrev invariant-loop : tie.invariant-loop-left
 invariant-loop buffer₀ place width x next₀ rest₀ left₀ buffer next rest left =
     (done : List ℕ) × Put done place buffer₀ buffer next × (little width x ≡ done ++ little left rest)
 
-abbrev decreases-loop : tie.decreases-loop
+abbrev decreases-loop : tie.decreases-loop-left
 decreases-loop buffer₀ place width x next₀ rest₀ left₀ buffer next rest left = left
 
-loop-holds : tie.Need-loop-init invariant-loop decreases-loop
+loop-holds : tie.Need-loop-left-init invariant-loop decreases-loop
 loop-holds c = ([], nothing _ _, refl)
 
-loop-again : tie.Need-loop-preserved invariant-loop decreases-loop
+loop-again : tie.Need-loop-left-preserved invariant-loop decreases-loop
 loop-again c =
     let put = c.before.before in
     let test = put.before.before in
-    let inv = test.before.loop.invariant in
-    let low = lowest _ test.before.loop.rest test.loop-test.true in
-    (_, inv.1 then put.byte.ensures, rw low at inv.2 ∙ sym (append_assoc inv.0 _ _))
+    let inv = test.before.loop-left.invariant in
+    let low = lowest _ test.before.loop-left.rest test.loop-left-test.true in
+    (_, inv.1 then put.byte-next.ensures, rw low at inv.2 ∙ sym (append_assoc inv.0 _ _))
 
-same_length : tie.Need-same-length invariant-loop decreases-loop
-same_length c = kept c.before.loop.invariant.1
+same_length : tie.Need-shape_of-buffer invariant-loop decreases-loop
+same_length c = kept c.before.loop-left.invariant.1
 
 returns : tie.Need-returns invariant-loop decreases-loop
 returns c =
-    let inv = c.before.loop.invariant in
-    rw (inv.2, none_left _ c.before.loop.rest c.loop-test.false, append-nil) inv.1
+    let inv = c.before.loop-left.invariant in
+    rw (inv.2, none_left _ c.before.loop-left.rest c.loop-left-test.false, append-nil) inv.1
 
-pub little-spec : {M : Type 1} → statement M
-little-spec =
+pub little_spec : {M : Type 1} → statement M
+little_spec =
     tie.close
     (tie.spec
     invariant-loop

@@ -9,29 +9,29 @@ use Rattle.put.proofs.Pieces.{nothing, turn, kept}
 use Rattle.put.proofs.text.Statement.{statement}
 use Rattle.put.proofs.text.Tie as tie
 
-abbrev invariant-loop : tie.invariant-loop
+abbrev invariant-loop : tie.invariant-loop-i
 invariant-loop buffer₀ place bytes next₀ i₀ buffer next i = Put (take i bytes) place buffer₀ buffer next × (i ≤ length bytes)
 
-abbrev decreases-loop : tie.decreases-loop
+abbrev decreases-loop : tie.decreases-loop-i
 decreases-loop buffer₀ place bytes next₀ i₀ buffer next i = length bytes - i
 
-loop-holds : tie.Need-loop-init invariant-loop decreases-loop
+loop-holds : tie.Need-loop-i-init invariant-loop decreases-loop
 loop-holds c = (nothing _ _, search rules)
 
-loop-again : tie.Need-loop-preserved invariant-loop decreases-loop
+loop-again : tie.Need-loop-i-preserved invariant-loop decreases-loop
 loop-again c =
     let put = c.before.before in
     let test = put.before.before.before in
-    (turn (λ l. l) (λ l x. refl) _ _ test.loop-test.true test.before.loop.invariant.0 put.byte.ensures, search rules)
+    (turn (λ l. l) (λ l x. refl) _ _ test.loop-i-test.true test.before.loop-i.invariant.0 put.byte-next.ensures, search rules)
 
-same_length : tie.Need-same-length invariant-loop decreases-loop
-same_length c = kept c.before.loop.invariant.0
+same_length : tie.Need-shape_of-buffer invariant-loop decreases-loop
+same_length c = kept c.before.loop-i.invariant.0
 
 returns : tie.Need-returns invariant-loop decreases-loop
-returns c = rw (take_all _ _ c.loop-test.false) at c.before.loop.invariant.0
+returns c = rw (take_all _ _ c.loop-i-test.false) at c.before.loop-i.invariant.0
 
-pub text-spec : {M : Type 1} → statement M
-text-spec =
+pub text_spec : {M : Type 1} → statement M
+text_spec =
     tie.close
     (tie.spec
     invariant-loop

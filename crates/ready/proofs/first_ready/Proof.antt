@@ -12,65 +12,65 @@ use Rattle.ready.proofs.Marks.{word_in, bit_in, first-none, first-lowest}
 use Rattle.ready.proofs.first_ready.Statement.{statement}
 use Rattle.ready.proofs.first_ready.Tie as tie
 
-entry-requires : tie.Need-entry-requires
+entry-requires : tie.Need-entry-filled-requires
 entry-requires c κs = search rules
 
-returns : tie.Need-returns
+returns : tie.Need-returns-then-filled-eq0
 unfolding contents
 returns c =
     let start = c.before.before in
-    first-none start.args.none (contents start.args.plan.now) (sym c.before.entry.ensures ∙ c.if1.true)
+    first-none start.args.none (contents start.args.plan.now) (sym c.before.entry-filled.ensures ∙ c.if-filled-eq0.true)
 
-lowest-requires : tie.Need-lowest-requires
+lowest-requires : tie.Need-lowest-block-requires
 lowest-requires c κs = search rules
 
 -- the first word that is not 0
-abbrev plan_of : tie.After-lowest → Contents
+abbrev plan_of : tie.After-lowest-block → Contents
 plan_of c = contents c.before.before.before.args.plan.now
 
-full : (c : tie.After-lowest) → (plan_of c).filled ≡ 0 → ⊥
+full : (c : tie.After-lowest-block) → (plan_of c).filled ≡ 0 → ⊥
 unfolding contents
-full c e = c.before.if1.false (c.before.before.entry.ensures ∙ e)
+full c e = c.before.if-filled-eq0.false (c.before.before.entry-filled.ensures ∙ e)
 
-block : (c : tie.After-lowest) → c.lowest.result ≡ count_trailing_zeros bits (plan_of c).filled
+block : (c : tie.After-lowest-block) → c.lowest-block.result ≡ count_trailing_zeros bits (plan_of c).filled
 unfolding contents
-block c = c.lowest.ensures ∙ ap (count_trailing_zeros bits) c.before.before.entry.ensures
+block c = c.lowest-block.ensures ∙ ap (count_trailing_zeros bits) c.before.before.entry-filled.ensures
 
-block_in : (c : tie.After-lowest) → c.lowest.result < blocks
+block_in : (c : tie.After-lowest-block) → c.lowest-block.result < blocks
 block_in c = word_in c.before.before.before.requires.marks (full c) (block c)
 
 -- and its lowest bit
-bit : (c : tie.After-lowest2) → c.lowest2.result ≡ count_trailing_zeros bits (at (plan_of c.before.before).ready c.before.before.lowest.result)
+bit : (c : tie.After-lowest) → c.lowest.result ≡ count_trailing_zeros bits (at (plan_of c.before.before).ready c.before.before.lowest-block.result)
 unfolding contents
 bit c =
-    c.lowest2.ensures
+    c.lowest.ensures
     ∙ ap (count_trailing_zeros bits)
-    (c.before.entry2.ensures
-    ∙ part_at ready_base blocks c.before.before.before.before.before.args.plan.now c.before.before.lowest.result
+    (c.before.entry-word.ensures
+    ∙ part_at ready_base blocks c.before.before.before.before.before.args.plan.now c.before.before.lowest-block.result
     (block_in c.before.before))
 
-entry-requires-2 : tie.Need-entry-requires-2
+entry-requires-2 : tie.Need-entry-word-requires
 entry-requires-2 c κs = omega (arith, block_in c)
 
-mul-result : tie.Need-overflow-mul-result
+mul-result : tie.Need-overflow_mul-result
 mul-result c = omega (arith, block_in c.before)
 
-lowest-requires-2 : tie.Need-lowest-requires-2
+lowest-requires-2 : tie.Need-lowest-requires
 lowest-requires-2 c κs = search rules
 
-add-result : tie.Need-overflow-add-result
+add-result : tie.Need-overflow_add-result
 add-result c =
     let word = c.before.before in
     omega (arith, block_in word, bit_in word.before.before.before.requires.marks (full word) (block word) (bit c))
 
-returns-2 : tie.Need-returns-2
+returns-2 : tie.Need-returns
 returns-2 c =
     let word = c.before.before in
-    first-lowest word.before.before.before.args.none (plan_of word) word.lowest.result c.lowest2.result
+    first-lowest word.before.before.before.args.none (plan_of word) word.lowest-block.result c.lowest.result
     (full word) (block word) (bit c)
 
-pub first-ready-spec : {M : Type 1} → statement M
-first-ready-spec =
+pub first_ready_spec : {M : Type 1} → statement M
+first_ready_spec =
     tie.close
     (tie.spec
     entry-requires

@@ -4,63 +4,63 @@ use Rattle.ready.proofs.Changing.{more-fits, filled-fits, added, added-first}
 use Rattle.ready.proofs.insert.Statement.{statement}
 use Rattle.ready.proofs.insert.Tie as tie
 
-entry-requires : tie.Need-entry-requires
+entry-requires : tie.Need-entry-word-requires
 entry-requires c κs = search rules
 
 bit-requires : tie.Need-bit-requires
 bit-requires c κs = search rules
 
-add-set-entry : tie.Need-overflow-add-set-entry
+add-set-entry : tie.Need-overflow_add-word
 add-set-entry c =
     let start = c.before.before.before.before in
     record {
       fits =
-          more-fits start.args.plan.now start.args.place start.requires c.before.before.entry.ensures
+          more-fits start.args.plan.now start.args.place start.requires c.before.before.entry-word.ensures
           c.bit.ensures;
     }
 
-set-entry-requires : tie.Need-set-entry-requires
+set-entry-requires : tie.Need-set_entry-requires
 set-entry-requires c κs = search rules
 
-entry-requires-2 : tie.Need-entry-requires-2
+entry-requires-2 : tie.Need-entry-filled-requires
 entry-requires-2 c κs = search rules
 
-bit-requires-2 : tie.Need-bit-requires-2
+bit-requires-2 : tie.Need-bit-requires-then-word-eq0
 bit-requires-2 c κs = search rules
 
-add-set-entry-2 : tie.Need-overflow-add-set-entry-2
+add-set-entry-2 : tie.Need-overflow_add-filled
 add-set-entry-2 c =
     let empty = c.before.before.before.before in
     let word = empty.before.before in
     let start = word.before.before.before.before in
     record {
       fits =
-          filled-fits start.args.plan.now start.args.place start.requires word.before.before.entry.ensures
-          word.bit.ensures empty.before.set-entry.ensures empty.if1.true c.before.before.entry2.ensures
-          c.bit2.ensures;
+          filled-fits start.args.plan.now start.args.place start.requires word.before.before.entry-word.ensures
+          word.bit.ensures empty.before.set_entry.ensures empty.if-word-eq0.true c.before.before.entry-filled.ensures
+          c.bit-then-word-eq0.ensures;
     }
 
-set-entry-requires-2 : tie.Need-set-entry-requires-2
+set-entry-requires-2 : tie.Need-set_entry-requires-then-word-eq0
 set-entry-requires-2 c κs = search rules
 
-returns : tie.Need-returns
+returns : tie.Need-returns-then-word-eq0
 returns c =
     let empty = c.before.before.before.before.before in
     let word = empty.before.before in
     let start = word.before.before.before.before in
-    added-first start.args.plan.now start.args.place start.requires word.before.before.entry.ensures
-    word.bit.ensures empty.before.set-entry.ensures empty.if1.true c.before.before.before.entry2.ensures
-    c.before.bit2.ensures c.set-entry2.ensures
+    added-first start.args.plan.now start.args.place start.requires word.before.before.entry-word.ensures
+    word.bit.ensures empty.before.set_entry.ensures empty.if-word-eq0.true c.before.before.before.entry-filled.ensures
+    c.before.bit-then-word-eq0.ensures c.set_entry-then-word-eq0.ensures
 
-returns-2 : tie.Need-returns-2
+returns-2 : tie.Need-returns-else-word-eq0
 returns-2 c =
     let word = c.before.before in
     let start = word.before.before.before.before in
-    added start.args.plan.now start.args.place start.requires word.before.before.entry.ensures
-    word.bit.ensures c.before.set-entry.ensures c.if1.false
+    added start.args.plan.now start.args.place start.requires word.before.before.entry-word.ensures
+    word.bit.ensures c.before.set_entry.ensures c.if-word-eq0.false
 
-pub insert-spec : {M : Type 1} → statement M
-insert-spec =
+pub insert_spec : {M : Type 1} → statement M
+insert_spec =
     tie.close
     (tie.spec
     entry-requires

@@ -4,55 +4,55 @@ use Rattle.ready.proofs.Changing.{word-has, filled-has, taken, taken-last}
 use Rattle.ready.proofs.remove.Statement.{statement}
 use Rattle.ready.proofs.remove.Tie as tie
 
-entry-requires : tie.Need-entry-requires
+entry-requires : tie.Need-entry-word-requires
 entry-requires c κs = search rules
 
 bit-requires : tie.Need-bit-requires
 bit-requires c κs = search rules
 
-sub-rest : tie.Need-overflow-sub-rest
+sub-rest : tie.Need-overflow_sub-rest
 sub-rest c =
     let start = c.before.before.before in
-    word-has start.args.plan.now start.args.place start.requires c.before.entry.ensures c.bit.ensures
+    word-has start.args.plan.now start.args.place start.requires c.before.entry-word.ensures c.bit.ensures
 
-set-entry-requires : tie.Need-set-entry-requires
+set-entry-requires : tie.Need-set_entry-requires
 set-entry-requires c κs = search rules
 
-entry-requires-2 : tie.Need-entry-requires-2
+entry-requires-2 : tie.Need-entry-filled-requires
 entry-requires-2 c κs = search rules
 
-bit-requires-2 : tie.Need-bit-requires-2
+bit-requires-2 : tie.Need-bit-requires-then-rest-eq0
 bit-requires-2 c κs = search rules
 
-sub-set-entry : tie.Need-overflow-sub-set-entry
+sub-set-entry : tie.Need-overflow_sub-filled
 sub-set-entry c =
     let empty = c.before.before.before.before in
     let word = empty.before.before.before in
     let start = word.before.before.before in
-    filled-has start.args.plan.now start.args.place start.requires word.before.entry.ensures word.bit.ensures
-    empty.before.set-entry.ensures empty.if1.true c.before.before.entry2.ensures c.bit2.ensures
+    filled-has start.args.plan.now start.args.place start.requires word.before.entry-word.ensures word.bit.ensures
+    empty.before.set_entry.ensures empty.if-rest-eq0.true c.before.before.entry-filled.ensures c.bit-then-rest-eq0.ensures
 
-set-entry-requires-2 : tie.Need-set-entry-requires-2
+set-entry-requires-2 : tie.Need-set_entry-requires-then-rest-eq0
 set-entry-requires-2 c κs = search rules
 
-returns : tie.Need-returns
+returns : tie.Need-returns-then-rest-eq0
 returns c =
     let empty = c.before.before.before.before.before in
     let word = empty.before.before.before in
     let start = word.before.before.before in
-    taken-last start.args.plan.now start.args.place start.requires word.before.entry.ensures word.bit.ensures
-    empty.before.set-entry.ensures empty.if1.true c.before.before.before.entry2.ensures
-    c.before.bit2.ensures c.set-entry2.ensures
+    taken-last start.args.plan.now start.args.place start.requires word.before.entry-word.ensures word.bit.ensures
+    empty.before.set_entry.ensures empty.if-rest-eq0.true c.before.before.before.entry-filled.ensures
+    c.before.bit-then-rest-eq0.ensures c.set_entry-then-rest-eq0.ensures
 
-returns-2 : tie.Need-returns-2
+returns-2 : tie.Need-returns-else-rest-eq0
 returns-2 c =
     let word = c.before.before.before in
     let start = word.before.before.before in
-    taken start.args.plan.now start.args.place start.requires word.before.entry.ensures word.bit.ensures
-    c.before.set-entry.ensures c.if1.false
+    taken start.args.plan.now start.args.place start.requires word.before.entry-word.ensures word.bit.ensures
+    c.before.set_entry.ensures c.if-rest-eq0.false
 
-pub remove-spec : {M : Type 1} → statement M
-remove-spec =
+pub remove_spec : {M : Type 1} → statement M
+remove_spec =
     tie.close
     (tie.spec
     entry-requires

@@ -9,12 +9,12 @@ use Rattle.store.proofs.Writing.{head_at, holds, total-written}
 use Rattle.store.proofs.free.Statement.{statement}
 use Rattle.store.proofs.free.Tie as tie
 
-sub-set-cell : tie.Need-overflow-sub-set-cell
+sub-set-cell : tie.Need-overflow_sub-total
 sub-set-cell c =
     let start = c.before.before.before in
     let r = head_at start.args.plan.now start.requires.0.offset in
     let enough = start.requires.2 in
-    let total = c.before.cell.ensures in
+    let total = c.before.cell-total.ensures in
     omega arith
 
 returns : tie.Need-returns
@@ -22,9 +22,9 @@ unfolding freed
 returns c =
     let start = c.before.before.before.before in
     let r = head_at start.args.plan.now start.requires.0.offset in
-    let total = c.before.before.cell.ensures in
+    let total = c.before.before.cell-total.ensures in
     (total-written (holds _ (kind_at start.args.store) start.requires.1) start.requires.0.offset
-    ((store_at start.args.store (contents start.args.plan.now)).total - start.args.left) (omega arith) c.set-cell.ensures).same
+    ((store_at start.args.store (contents start.args.plan.now)).total - start.args.left) (omega arith) c.set_cell.ensures).same
 
 pub free_spec : {M : Type 1} → statement M
 free_spec =

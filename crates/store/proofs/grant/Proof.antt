@@ -18,7 +18,7 @@ row c = row_at _ c.requires.at_task
 head : (c : tie.Start) → HeadAt c.args.plan.now c.args.store
 head c = head_at _ c.requires.at_task.offset
 
-abbrev first : tie.After-cell4 → tie.Start
+abbrev first : tie.After-cell → tie.Start
 first c = c.before.before.before.before.before.before.before.before
 
 -- the plan and its store as they were
@@ -29,44 +29,44 @@ abbrev was : tie.Start → StoreContents
 was c = store_at c.args.store (old c)
 
 -- what is read
-figure-read : (c : tie.After-cell4) → c.cell4.result ≡ at (was (first c)).figures (first c).args.task
-figure-read c = c.cell4.ensures ∙ (row (first c)).figure
+figure-read : (c : tie.After-cell) → c.cell.result ≡ at (was (first c)).figures (first c).args.task
+figure-read c = c.cell.ensures ∙ (row (first c)).figure
 
 booked-read :
-    (c : tie.After-cell4)
-    → c.before.before.cell3.result ≡ at (was (first c)).booked (first c).args.task
-booked-read c = c.before.before.cell3.ensures ∙ (row (first c)).booked
+    (c : tie.After-cell)
+    → c.before.before.cell-booked.result ≡ at (was (first c)).booked (first c).args.task
+booked-read c = c.before.before.cell-booked.ensures ∙ (row (first c)).booked
 
-total-read : (c : tie.After-cell4) → c.before.before.before.before.cell2.result ≡ (was (first c)).total
-total-read c = c.before.before.before.before.cell2.ensures ∙ (head (first c)).total
+total-read : (c : tie.After-cell) → c.before.before.before.before.cell-total.result ≡ (was (first c)).total
+total-read c = c.before.before.before.before.cell-total.ensures ∙ (head (first c)).total
 
 parent-read :
-    (c : tie.After-cell4)
-    → c.before.before.before.before.before.before.cell.result ≡ at (old (first c)).parents (first c).args.task
-parent-read c = c.before.before.before.before.before.before.cell.ensures ∙ (row (first c)).parent
+    (c : tie.After-cell)
+    → c.before.before.before.before.before.before.cell-parent.result ≡ at (old (first c)).parents (first c).args.task
+parent-read c = c.before.before.before.before.before.before.cell-parent.ensures ∙ (row (first c)).parent
 
-add-figure : tie.Need-overflow-add-figure
+add-figure : tie.Need-overflow_add-figure
 add-figure c = let f = figure-read c in let p = (first c).requires in omega arith
 
-add-set-cell-2 : tie.Need-overflow-add-set-cell-2
+add-set-cell-2 : tie.Need-overflow_add-total
 add-set-cell-2 c = let t = total-read c.before in let p = (first c.before).requires in omega arith
 
-abbrev second : tie.After-set-cell → tie.After-cell4
+abbrev second : tie.After-set_cell → tie.After-cell
 second c = c.before.before
 
-add-set-cell-4 : tie.Need-overflow-add-set-cell-4
+add-set-cell-4 : tie.Need-overflow_add-booked
 add-set-cell-4 c = let b = booked-read (second c.before) in let p = (first (second c.before)).requires in omega arith
 
 -- the words after the three writes before the parent's figure
-abbrev third : tie.After-set-cell3 → tie.After-cell4
+abbrev third : tie.After-set_cell-3 → tie.After-cell
 third c = c.before.before.before.before.before.before
 
-abbrev begin : tie.After-set-cell3 → tie.Start
+abbrev begin : tie.After-set_cell-3 → tie.Start
 begin c = first (third c)
 
 written :
-    (c : tie.After-set-cell3)
-    → Held c.set-cell3.new.0 (old (begin c)) (kind_at (begin c).args.store)
+    (c : tie.After-set_cell-3)
+    → Held c.set_cell-3.new.0 (old (begin c)) (kind_at (begin c).args.store)
     ((was (begin c)).total + (begin c).args.units) (was (begin c)).used
     (set (was (begin c)).booked (begin c).args.task (at (was (begin c)).booked (begin c).args.task + (begin c).args.units))
     (set (was (begin c)).figures (begin c).args.task (at (was (begin c)).figures (begin c).args.task + (begin c).args.units))
@@ -78,13 +78,13 @@ written c =
     figure-written
     (booked-written
     (total-written (holds s.args.plan.now (kind_at s.args.store) at_task.long) at_task.offset ((was s).total + m)
-    (ap (λ (v : ℕ). v + m) (total-read (third c))) c.before.before.before.before.set-cell.ensures)
+    (ap (λ (v : ℕ). v + m) (total-read (third c))) c.before.before.before.before.set_cell.ensures)
     at_task.offset (at (was s).booked x + m) (ap (λ (v : ℕ). v + m) (booked-read (third c))) x
-    at_task.task_in c.before.before.set-cell2.ensures)
+    at_task.task_in c.before.before.set_cell-2.ensures)
     at_task.offset (at (was s).figures x + m) (ap (λ (v : ℕ). v + m) (figure-read (third c))) x
-    at_task.task_in c.set-cell3.ensures
+    at_task.task_in c.set_cell-3.ensures
 
-parent-small : (c : tie.After-cell4) → c.before.before.before.before.before.before.cell.result < rows
+parent-small : (c : tie.After-cell) → c.before.before.before.before.before.before.cell-parent.result < rows
 parent-small c = let e = parent-read c in let h = (first c).requires.parent_in in omega arith
 
 grow-requires : tie.Need-grow-requires
@@ -115,8 +115,8 @@ returns c =
     (at (was s).figures s.args.task + s.args.units) (parent-read before)
     (ap (λ (v : ℕ). v + s.args.units) (figure-read before)) s.pre.parent_in c.grow.ensures).same
 
-pub grant-spec : {M : Type 1} → statement M
-grant-spec =
+pub grant_spec : {M : Type 1} → statement M
+grant_spec =
     tie.close
     (tie.spec (λ c κs. search rules) (λ c. search rules) (λ c. search rules) (λ c κs. search rules) (λ c. search rules)
     (λ c κs. search rules) (λ c. search rules) (λ c κs. search rules) add-figure (λ c. search rules) add-set-cell-2

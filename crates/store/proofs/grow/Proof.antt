@@ -6,19 +6,19 @@ use borrow.Author.Tests.{eq-eqb, ne_eqb}
 use Rattle.store.proofs.grow.Statement.{statement}
 use Rattle.store.proofs.grow.Tie as tie
 
-add-set-cell : tie.Need-overflow-add-set-cell
+add-set-cell : tie.Need-overflow_add-old
 add-set-cell c =
-    let h = c.before.before.before.before.requires.fits c.before.before.before.if1.true in
-    let e = c.before.cell.ensures in
+    let h = c.before.before.before.before.requires.fits c.before.before.before.if-task-ne0.true in
+    let e = c.before.cell-old.ensures in
     omega arith
 
-returns : tie.Need-returns
+returns : tie.Need-returns-then-task-ne0
 returns c =
-    let e = c.before.before.cell.ensures in
-    simp (ne_eqb _ _ c.before.before.before.before.if1.true) (c.set-cell.ensures ∙ rw e)
+    let e = c.before.before.cell-old.ensures in
+    simp (ne_eqb _ _ c.before.before.before.before.if-task-ne0.true) (c.set_cell.ensures ∙ rw e)
 
-returns-2 : tie.Need-returns-2
-returns-2 c = simp (eq-eqb _ _ c.if1.false)
+returns-2 : tie.Need-returns-else-task-ne0
+returns-2 c = simp (eq-eqb _ _ c.if-task-ne0.false)
 
 pub grow_spec : {M : Type 1} → statement M
 grow_spec = tie.close (tie.spec (λ c κs. search rules) add-set-cell (λ c κs. search rules) returns returns-2)

@@ -12,13 +12,13 @@ use Rattle.store.proofs.Writing.{head_at}
 use Rattle.store.proofs.has_room.Statement.{statement}
 use Rattle.store.proofs.has_room.Tie as tie
 
-sub-result : tie.Need-overflow-sub-result
+sub-result : tie.Need-overflow_sub-result
 sub-result c =
     let start = c.before.before in
     let r = head_at start.args.plan.now start.requires.0.offset in
     let fits = start.requires.1 in
-    let bound = c.before.cell.ensures in
-    let total = c.cell2.ensures in
+    let bound = c.before.cell-bound.ensures in
+    let total = c.cell-total.ensures in
     omega arith
 
 returns : tie.Need-returns
@@ -26,14 +26,14 @@ returns c =
     let start = c.before.before in
     let r = head_at start.args.plan.now start.requires.0.offset in
     let fits = start.requires.1 in
-    let bound = c.before.cell.ensures in
-    let total = c.cell2.ensures in
+    let bound = c.before.cell-bound.ensures in
+    let total = c.cell-total.ensures in
     let all = (store_at start.args.store (contents start.args.plan.now)).total + start.args.units in
     let most = (store_at start.args.store (contents start.args.plan.now)).bound in
     ⊎_elim (λ h. le-leb _ _ h ∙ sym (le-leb all most (omega arith))) (λ h. lt-leb _ _ h ∙ sym (lt-leb all most (omega arith)))
-    (le-or-lt start.args.units (c.before.cell.result - c.cell2.result))
+    (le-or-lt start.args.units (c.before.cell-bound.result - c.cell-total.result))
 
-pub has-room-spec : {M : Type 1} → statement M
-has-room-spec =
+pub has_room_spec : {M : Type 1} → statement M
+has_room_spec =
     tie.close
     (tie.spec (λ c. search rules) (λ c κs. search rules) (λ c. search rules) (λ c κs. search rules) sub-result returns)

@@ -15,11 +15,11 @@ returns c =
     (used-written
     (total-written
     (booked-written (holds _ (kind_at start.args.store) here.long) here.offset start.args.units refl start.args.task
-    here.task_in c.before.before.before.before.set-cell.ensures) here.offset start.args.units refl
-    c.before.before.set-cell2.ensures) here.offset start.args.units refl c.set-cell3.ensures).same
+    here.task_in c.before.before.before.before.set_cell.ensures) here.offset start.args.units refl
+    c.before.before.set_cell-2.ensures) here.offset start.args.units refl c.set_cell-3.ensures).same
 
-pub hold-alone-spec : {M : Type 1} → statement M
-hold-alone-spec =
+pub hold_alone_spec : {M : Type 1} → statement M
+hold_alone_spec =
     tie.close
     (tie.spec
     (λ c. search rules)

@@ -10,7 +10,7 @@ use Rattle.store.proofs.Writing.{RowAt, HeadAt, row_at, head_at, holds, used-wri
 use Rattle.store.proofs.load.Statement.{statement}
 use Rattle.store.proofs.load.Tie as tie
 
-abbrev start : tie.After-cell3 → tie.Start
+abbrev start : tie.After-cell-used → tie.Start
 start c = c.before.before.before.before.before.before
 
 -- the store as it was
@@ -23,22 +23,22 @@ row c = row_at _ c.requires.0
 head : (c : tie.Start) → HeadAt c.args.plan.now c.args.store
 head c = head_at _ c.requires.0.offset
 
-add-set-cell-2 : tie.Need-overflow-add-set-cell-2
+add-set-cell-2 : tie.Need-overflow_add-work
 add-set-cell-2 c =
     let r = row (start c.before) in
     let fits = (start c.before).requires.1 in
-    let work = c.before.before.before.before.before.cell.ensures in
-    let out = c.before.before.before.cell2.ensures in
+    let work = c.before.before.before.before.before.cell-work.ensures in
+    let out = c.before.before.before.cell-out.ensures in
     omega arith
 
-add-set-cell-3 : tie.Need-overflow-add-set-cell-3
+add-set-cell-3 : tie.Need-overflow_add-used
 add-set-cell-3 c =
     let r = row (start c.before) in
     let h = head (start c.before) in
     let fits = (start c.before).requires.1 in
-    let work = c.before.before.before.before.before.cell.ensures in
-    let out = c.before.before.before.cell2.ensures in
-    let used = c.before.cell3.ensures in
+    let work = c.before.before.before.before.before.cell-work.ensures in
+    let out = c.before.before.before.cell-out.ensures in
+    let used = c.before.cell-used.ensures in
     omega arith
 
 returns : tie.Need-returns
@@ -47,11 +47,11 @@ returns c =
     let s : tie.Start = start c.before.before in
     let r = row s in
     let h = head s in
-    let work = c.before.before.before.before.before.before.cell.ensures in
-    let out = c.before.before.before.before.cell2.ensures in
-    let used = c.before.before.cell3.ensures in
+    let work = c.before.before.before.before.before.before.cell-work.ensures in
+    let out = c.before.before.before.before.cell-out.ensures in
+    let used = c.before.before.cell-used.ensures in
     (used-written (holds _ (kind_at s.args.store) s.pre.0.long) s.pre.0.offset
-    ((was s).used + (at (was s).works s.args.task + at (was s).outs s.args.task)) (omega arith) c.set-cell.ensures).same
+    ((was s).used + (at (was s).works s.args.task + at (was s).outs s.args.task)) (omega arith) c.set_cell.ensures).same
 
 pub load_spec : {M : Type 1} → statement M
 load_spec =

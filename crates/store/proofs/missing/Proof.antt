@@ -10,12 +10,12 @@ returns c =
     let start = c.before.before.before in
     let r = row_at start.args.plan.now start.requires in
     let need = c.before.before.cell.ensures in
-    let figure = c.before.cell2.ensures in
+    let figure = c.before.cell-2.ensures in
     let rest = c.less.ensures in
     omega arith
 
-pub missing-spec : {M : Type 1} → statement M
-missing-spec =
+pub missing_spec : {M : Type 1} → statement M
+missing_spec =
     tie.close
     (tie.spec (λ c. search rules) (λ c κs. search rules) (λ c. search rules) (λ c κs. search rules)
     (λ c κs. search rules) returns)

@@ -18,7 +18,7 @@ was c = store_at c.args.store (contents c.args.plan.now)
 row : (c : tie.Start) → RowAt c.args.plan.now c.args.store c.args.task
 row c = row_at _ c.requires.at_task
 
-sub-figure : tie.Need-overflow-sub-figure
+sub-figure : tie.Need-overflow_sub-figure
 sub-figure c =
     let r = row c.before.before in
     let e = c.cell.ensures in
@@ -26,36 +26,36 @@ sub-figure c =
     omega arith
 
 -- what is read
-abbrev start : tie.After-cell3 → tie.Start
+abbrev start : tie.After-cell-booked → tie.Start
 start c = c.before.before.before.before.before.before.before
 
 figure-read :
-    (c : tie.After-cell3)
+    (c : tie.After-cell-booked)
     → c.before.before.before.before.before.cell.result ≡ at (was (start c)).figures (start c).args.task
 figure-read c = c.before.before.before.before.before.cell.ensures ∙ (row (start c)).figure
 
 gift-read :
-    (c : tie.After-cell3)
-    → c.before.before.less.result ≡ gift (start c).args.task (start c).args.left (was (start c))
+    (c : tie.After-cell-booked)
+    → c.before.before.less-gift.result ≡ gift (start c).args.task (start c).args.left (was (start c))
 unfolding gift
 gift-read c =
-    c.before.before.less.ensures
-    ∙ ap₂ (λ (a b : ℕ). a - (b - (start c).args.left)) (c.before.before.before.cell2.ensures ∙ (row (start c)).need) (figure-read c)
+    c.before.before.less-gift.ensures
+    ∙ ap₂ (λ (a b : ℕ). a - (b - (start c).args.left)) (c.before.before.before.cell-2.ensures ∙ (row (start c)).need) (figure-read c)
 
-booked-read : (c : tie.After-cell3) → c.cell3.result ≡ at (was (start c)).booked (start c).args.task
-booked-read c = c.cell3.ensures ∙ (row (start c)).booked
+booked-read : (c : tie.After-cell-booked) → c.cell-booked.result ≡ at (was (start c)).booked (start c).args.task
+booked-read c = c.cell-booked.ensures ∙ (row (start c)).booked
 
-add-set-cell-2 : tie.Need-overflow-add-set-cell-2
+add-set-cell-2 : tie.Need-overflow_add-booked
 add-set-cell-2 c =
     let b = booked-read c.before in
     let g = gift-read c.before in
     let fits = (start c.before).requires.booked_fits in
     omega arith
 
-abbrev last : tie.After-set-cell2 → tie.After-cell3
+abbrev last : tie.After-set_cell-2 → tie.After-cell-booked
 last c = c.before.before.before.before
 
-sub-result : tie.Need-overflow-sub-result
+sub-result : tie.Need-overflow_sub-result
 sub-result c = let g = gift-read (last c) in let small = (start (last c)).requires.gift_small in omega arith
 
 returns : tie.Need-returns
@@ -67,9 +67,9 @@ returns c =
     let given = gift x s.args.left (was s) in (
       (figure-written
           (booked-written (holds s.args.plan.now (kind_at s.args.store) here.long) here.offset (at (was s).booked x + given)
-          (ap₂ (λ (a b : ℕ). a + b) (booked-read (last c)) (gift-read (last c))) x here.task_in c.before.before.set-cell.ensures)
+          (ap₂ (λ (a b : ℕ). a + b) (booked-read (last c)) (gift-read (last c))) x here.task_in c.before.before.set_cell.ensures)
           here.offset (at (was s).figures x - s.args.left + given)
-          (ap₂ (λ (a b : ℕ). a - s.args.left + b) (figure-read (last c)) (gift-read (last c))) x here.task_in c.set-cell2.ensures).same,
+          (ap₂ (λ (a b : ℕ). a - s.args.left + b) (figure-read (last c)) (gift-read (last c))) x here.task_in c.set_cell-2.ensures).same,
       ap (λ (v : ℕ). s.args.left - v) (gift-read (last c)),
     )
 

@@ -26,7 +26,7 @@ head : (c : tie.Start) → HeadAt c.args.plan.now c.args.store
 head c = head_at _ c.requires.at_task.offset
 
 -- what is read
-abbrev start : tie.After-cell5 → tie.Start
+abbrev start : tie.After-cell-used → tie.Start
 start c = c.before.before.before.before.before.before.before.before.before.before
 
 abbrev parent : tie.Start → ℕ
@@ -36,34 +36,34 @@ abbrev keeps : tie.Start → ℕ
 keeps c = at (was c).outs c.args.task
 
 parent-read :
-    (c : tie.After-cell5)
-    → c.before.before.before.before.before.before.before.before.cell.result ≡ parent (start c)
-parent-read c = c.before.before.before.before.before.before.before.before.cell.ensures ∙ (row (start c)).parent
+    (c : tie.After-cell-used)
+    → c.before.before.before.before.before.before.before.before.cell-parent.result ≡ parent (start c)
+parent-read c = c.before.before.before.before.before.before.before.before.cell-parent.ensures ∙ (row (start c)).parent
 
 held-read :
-    (c : tie.After-cell5)
-    → c.before.before.before.before.before.before.cell2.result ≡ at (was (start c)).booked (start c).args.task
-held-read c = c.before.before.before.before.before.before.cell2.ensures ∙ (row (start c)).booked
+    (c : tie.After-cell-used)
+    → c.before.before.before.before.before.before.cell-held.result ≡ at (was (start c)).booked (start c).args.task
+held-read c = c.before.before.before.before.before.before.cell-held.ensures ∙ (row (start c)).booked
 
-out-read : (c : tie.After-cell5) → c.before.before.before.before.cell3.result ≡ keeps (start c)
-out-read c = c.before.before.before.before.cell3.ensures ∙ (row (start c)).out
+out-read : (c : tie.After-cell-used) → c.before.before.before.before.cell-out.result ≡ keeps (start c)
+out-read c = c.before.before.before.before.cell-out.ensures ∙ (row (start c)).out
 
 need-read :
-    (c : tie.After-cell5)
-    → c.before.before.cell4.result ≡ at (was (start c)).needs (start c).args.task
-need-read c = c.before.before.cell4.ensures ∙ (row (start c)).need
+    (c : tie.After-cell-used)
+    → c.before.before.cell-need.result ≡ at (was (start c)).needs (start c).args.task
+need-read c = c.before.before.cell-need.ensures ∙ (row (start c)).need
 
-used-read : (c : tie.After-cell5) → c.cell5.result ≡ (was (start c)).used
-used-read c = c.cell5.ensures ∙ (head (start c)).used
+used-read : (c : tie.After-cell-used) → c.cell-used.result ≡ (was (start c)).used
+used-read c = c.cell-used.ensures ∙ (head (start c)).used
 
-sub-set-cell : tie.Need-overflow-sub-set-cell
+sub-set-cell : tie.Need-overflow_sub-used
 sub-set-cell c =
     let u = used-read c.before in
     let n = need-read c.before in
     let enough = (start c.before).requires.used_has in
     omega arith
 
-add-set-cell-2 : tie.Need-overflow-add-set-cell-2
+add-set-cell-2 : tie.Need-overflow_add-used
 add-set-cell-2 c =
     let u = used-read c.before in
     let n = need-read c.before in
@@ -72,15 +72,15 @@ add-set-cell-2 c =
     omega arith
 
 -- the words after the three writes before the parent's booked trays
-abbrev third : tie.After-set-cell3 → tie.After-cell5
+abbrev third : tie.After-set_cell-3 → tie.After-cell-used
 third c = c.before.before.before.before.before.before
 
-abbrev begin : tie.After-set-cell3 → tie.Start
+abbrev begin : tie.After-set_cell-3 → tie.Start
 begin c = start (third c)
 
 written :
-    (c : tie.After-set-cell3)
-    → Held c.set-cell3.new.0 (old (begin c)) (kind_at (begin c).args.store) (was (begin c)).total
+    (c : tie.After-set_cell-3)
+    → Held c.set_cell-3.new.0 (old (begin c)) (kind_at (begin c).args.store) (was (begin c)).total
     ((was (begin c)).used - at (was (begin c)).needs (begin c).args.task + keeps (begin c))
     (set (was (begin c)).booked (begin c).args.task 0) (set (was (begin c)).figures (begin c).args.task 0)
 written c =
@@ -93,11 +93,11 @@ written c =
     figure-written
     (booked-written
     (used-written (holds s.args.plan.now (kind_at s.args.store) here.long) here.offset
-    ((was s).used - at (was s).needs x + keeps s) (omega arith) c.before.before.before.before.set-cell.ensures)
-    here.offset 0 refl x here.task_in c.before.before.set-cell2.ensures)
-    here.offset 0 refl x here.task_in c.set-cell3.ensures
+    ((was s).used - at (was s).needs x + keeps s) (omega arith) c.before.before.before.before.set_cell.ensures)
+    here.offset 0 refl x here.task_in c.before.before.set_cell-2.ensures)
+    here.offset 0 refl x here.task_in c.set_cell-3.ensures
 
-parent-small : (c : tie.After-cell5) → c.before.before.before.before.before.before.before.before.cell.result < rows
+parent-small : (c : tie.After-cell-used) → c.before.before.before.before.before.before.before.before.cell-parent.result < rows
 parent-small c = let e = parent-read c in let h = (start c).requires.parent_in in omega arith
 
 grow-requires : tie.Need-grow-requires
@@ -118,7 +118,7 @@ grow-requires c κs =
           omega arith;
     }
 
-sub-result : tie.Need-overflow-sub-result
+sub-result : tie.Need-overflow_sub-result
 sub-result c =
     let before = third c.before.before in
     let h = held-read before in

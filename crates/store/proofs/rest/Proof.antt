@@ -10,13 +10,13 @@ use Rattle.store.proofs.Writing.{row_at, holds, figure-written}
 use Rattle.store.proofs.rest.Statement.{statement}
 use Rattle.store.proofs.rest.Tie as tie
 
-sub-set-cell : tie.Need-overflow-sub-set-cell
+sub-set-cell : tie.Need-overflow_sub-figure
 sub-set-cell c =
     let start = c.before.before.before in
     let here = start.requires.0 in
     let r = row_at start.args.plan.now here in
     let enough = start.requires.1 in
-    let figure = c.before.cell.ensures in
+    let figure = c.before.cell-figure.ensures in
     omega arith
 
 returns : tie.Need-returns
@@ -25,12 +25,12 @@ returns c =
     let start = c.before.before.before.before in
     let here = start.requires.0 in
     let r = row_at start.args.plan.now here in
-    let figure = c.before.before.cell.ensures in
+    let figure = c.before.before.cell-figure.ensures in
     (figure-written (holds _ (kind_at start.args.store) here.long) here.offset
     (at (store_at start.args.store (contents start.args.plan.now)).figures start.args.task - start.args.left) (omega arith)
-    start.args.task here.task_in c.set-cell.ensures).same
+    start.args.task here.task_in c.set_cell.ensures).same
 
-pub rest-spec : {M : Type 1} → statement M
-rest-spec =
+pub rest_spec : {M : Type 1} → statement M
+rest_spec =
     tie.close
     (tie.spec (λ c. search rules) (λ c κs. search rules) (λ c. search rules) sub-set-cell (λ c κs. search rules) returns)

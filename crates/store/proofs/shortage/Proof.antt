@@ -5,13 +5,13 @@ use Rattle.store.proofs.Writing.{head_at}
 use Rattle.store.proofs.shortage.Statement.{statement}
 use Rattle.store.proofs.shortage.Tie as tie
 
-sub-less : tie.Need-overflow-sub-less
+sub-less : tie.Need-overflow_sub-bound
 sub-less c =
     let start = c.before.before in
     let r = head_at start.args.plan.now start.requires.0.offset in
     let fits = start.requires.1 in
-    let bound = c.before.cell.ensures in
-    let total = c.cell2.ensures in
+    let bound = c.before.cell-bound.ensures in
+    let total = c.cell-total.ensures in
     omega arith
 
 returns : tie.Need-returns
@@ -19,12 +19,12 @@ returns c =
     let start = c.before.before.before in
     let r = head_at start.args.plan.now start.requires.0.offset in
     let fits = start.requires.1 in
-    let bound = c.before.before.cell.ensures in
-    let total = c.before.cell2.ensures in
+    let bound = c.before.before.cell-bound.ensures in
+    let total = c.before.cell-total.ensures in
     let rest = c.less.ensures in
     omega arith
 
-pub shortage-spec : {M : Type 1} → statement M
-shortage-spec =
+pub shortage_spec : {M : Type 1} → statement M
+shortage_spec =
     tie.close
     (tie.spec (λ c. search rules) (λ c κs. search rules) (λ c. search rules) (λ c κs. search rules) sub-less (λ c κs. search rules) returns)

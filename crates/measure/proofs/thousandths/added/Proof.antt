@@ -3,11 +3,11 @@ use borrow.Author.Rules.{rules}
 use Rattle.measure.proofs.thousandths.added.Statement.{statement}
 use Rattle.measure.proofs.thousandths.added.Tie as tie
 
-below : tie.Need-returns
+below : tie.Need-returns-then-booked-to_bound
 below c = search rules
 
-past : tie.Need-returns-2
+past : tie.Need-returns-else-booked-to_bound
 past c = search rules
 
-pub added-spec : {M : Type 1} → statement M
-added-spec = tie.close (tie.spec (λ c. search rules) (λ c. search rules) (λ c. search rules) below past)
+pub added_spec : {M : Type 1} → statement M
+added_spec = tie.close (tie.spec (λ c. search rules) (λ c. search rules) (λ c. search rules) below past)

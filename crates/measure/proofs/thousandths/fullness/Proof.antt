@@ -5,17 +5,17 @@ use Rattle.rules.specs.Question.{fullness_of}
 use Rattle.measure.proofs.thousandths.fullness.Statement.{statement}
 use Rattle.measure.proofs.thousandths.fullness.Tie as tie
 
-empty : tie.Need-returns
+empty : tie.Need-returns-then-bound-eq0
 unfolding fullness_of
-empty c = rw (eq-eqb _ _ c.if1.true)
+empty c = rw (eq-eqb _ _ c.if-bound-eq0.true)
 
-full : tie.Need-returns-2
+full : tie.Need-returns-then-bound-booked
 unfolding fullness_of
-full c = rw (ne_eqb _ _ c.before.if1.false, le-leb _ _ c.if2.true)
+full c = rw (ne_eqb _ _ c.before.if-bound-eq0.false, le-leb _ _ c.if-bound-booked.true)
 
-between : tie.Need-returns-3
+between : tie.Need-returns
 unfolding fullness_of
-between c = rw (ne_eqb _ _ c.before.before.if1.false, lt-leb _ _ c.before.if2.false) c.thousandths.ensures
+between c = rw (ne_eqb _ _ c.before.before.if-bound-eq0.false, lt-leb _ _ c.before.if-bound-booked.false) c.thousandths.ensures
 
-pub fullness-spec : {M : Type 1} → statement M
-fullness-spec = tie.close (tie.spec empty full (λ c κs. search rules) between)
+pub fullness_spec : {M : Type 1} → statement M
+fullness_spec = tie.close (tie.spec empty full (λ c κs. search rules) between)

@@ -1,6 +1,6 @@
 -- `thousandths` meets its contract: the trays so far are the booked ones times the bits of 1,000 that were taken.
 use mathlib.Core.Path.{◌≡◌, sym, ap, ◌∙◌}
-use Prim.Native.Nat.{ℕ, suc, ◌+◌, ◌-◌, ◌*◌, ◌/◌, ◌%◌, ◌^◌, ◌≤◌, ◌<◌}
+use Prim.Native.Nat.{ℕ, zero, suc, ◌+◌, ◌-◌, ◌*◌, ◌/◌, ◌%◌, ◌^◌, ◌≤◌, ◌<◌}
 use native.Mathlib.Nat.{add-mul, mul_assoc, mul-le-mul_right, lt_of_mul-lt-mul_right, div-div-eq-div-mul, div-le_self, div-eq_of_lt-le, pow-suc}
 use native.Mathlib.Omega.{arith}
 use lib.Bits.{bit_and, and_mask}
@@ -14,6 +14,7 @@ one_less k = omega arith
 
 -- the bits of a factor down to one of them are twice those above it, and that one
 next_bit : (factor left : ℕ) → 0 < left → factor / 2 ^ (left - 1) ≡ 2 * (factor / 2 ^ left) + factor / 2 ^ (left - 1) % 2
+next_bit factor zero h = absurd (omega arith)
 next_bit factor (suc k) h = rw (one_less k, pow-suc 2 k, ← div-div-eq-div-mul factor (2 ^ k) 2) (omega arith)
 
 -- a number whose lowest bit is not set is even
@@ -66,59 +67,59 @@ module _ (booked bound : ℕ) (h : booked < bound) where
           bits = omega (arith, t.bits);
         }
 
-abbrev invariant-loop : tie.invariant-loop
+abbrev invariant-loop : tie.invariant-loop-left
 invariant-loop booked bound trays₀ left₀ trays left = Taken booked bound trays left
 
-abbrev decreases-loop : tie.decreases-loop
+abbrev decreases-loop : tie.decreases-loop-left
 decreases-loop booked bound trays₀ left₀ trays left = left
 
-loop-holds : tie.Need-loop-init invariant-loop decreases-loop
+loop-holds : tie.Need-loop-left-init invariant-loop decreases-loop
 loop-holds c = record { times = omega arith; below = omega arith; bits = omega arith }
 
-sub-left : tie.Need-overflow-sub-left invariant-loop decreases-loop
+sub-left : tie.Need-overflow_sub-left invariant-loop decreases-loop
 sub-left c = omega arith
 
-doubled-requires : tie.Need-doubled-requires invariant-loop decreases-loop
+doubled-requires : tie.Need-doubled-trays-requires invariant-loop decreases-loop
 doubled-requires c κs =
-    let t = c.before.loop.invariant in
-    (t.below, few _ _ c.before.before.requires _ _ (div-le_self 1000 (2 ^ c.before.loop.left)) t.times)
+    let t = c.before.loop-left.invariant in
+    (t.below, few _ _ c.before.before.requires _ _ (div-le_self 1000 (2 ^ c.before.loop-left.left)) t.times)
 
-shr-if1 : tie.Need-overflow-shr-if1 invariant-loop decreases-loop
-shr-if1 c = omega (arith, c.before.before.loop.invariant.bits)
+shr-if1 : tie.Need-overflow_shr-left invariant-loop decreases-loop
+shr-if1 c = omega (arith, c.before.before.loop-left.invariant.bits)
 
-added-requires : tie.Need-added-requires invariant-loop decreases-loop
+added-requires : tie.Need-added-trays-requires invariant-loop decreases-loop
 added-requires c κs =
     let in-loop = c.before.before in
     let h = in-loop.before.before.requires in
-    let d = c.before.doubled.ensures in
-    (d.1, few-doubled _ _ h _ _ _ in-loop.before.loop.invariant in-loop.loop-test.true d.0, h)
+    let d = c.before.doubled-trays.ensures in
+    (d.1, few-doubled _ _ h _ _ _ in-loop.before.loop-left.invariant in-loop.loop-left-test.true d.0, h)
 
-loop-less : tie.Need-loop-smaller invariant-loop decreases-loop
+loop-less : tie.Need-loop-left-smaller-then-left-eq1 invariant-loop decreases-loop
 loop-less c = omega arith
 
-with-booked : tie.Need-loop-preserved invariant-loop decreases-loop
+with-booked : tie.Need-loop-left-preserved-then-left-eq1 invariant-loop decreases-loop
 with-booked c =
     let in-loop = c.before.before.before in
-    let odd = sym (and_mask (1000 / 2 ^ (in-loop.before.loop.left - 1)) 1) ∙ c.before.if1.true in
-    let a = c.added.ensures in
-    step _ _ in-loop.before.before.requires _ _ _ in-loop.before.loop.invariant in-loop.loop-test.true
-    (rw odd (omega (arith, a.0, c.before.before.doubled.ensures.0))) a.1
+    let odd = sym (and_mask (1000 / 2 ^ (in-loop.before.loop-left.left - 1)) 1) ∙ c.before.if-left-eq1.true in
+    let a = c.added-trays.ensures in
+    step _ _ in-loop.before.before.requires _ _ _ in-loop.before.loop-left.invariant in-loop.loop-left-test.true
+    (rw odd (omega (arith, a.0, c.before.before.doubled-trays.ensures.0))) a.1
 
-loop-less-2 : tie.Need-loop-smaller-2 invariant-loop decreases-loop
+loop-less-2 : tie.Need-loop-left-smaller invariant-loop decreases-loop
 loop-less-2 c = omega arith
 
-without : tie.Need-loop-preserved-2 invariant-loop decreases-loop
+without : tie.Need-loop-left-preserved invariant-loop decreases-loop
 without c =
     let in-loop = c.before.before in
-    let d = c.before.doubled.ensures in
-    step _ _ in-loop.before.before.requires _ _ _ in-loop.before.loop.invariant in-loop.loop-test.true
-    (rw (even (1000 / 2 ^ (in-loop.before.loop.left - 1)) c.if1.false) (omega (arith, d.0))) d.1
+    let d = c.before.doubled-trays.ensures in
+    step _ _ in-loop.before.before.requires _ _ _ in-loop.before.loop-left.invariant in-loop.loop-left-test.true
+    (rw (even (1000 / 2 ^ (in-loop.before.loop-left.left - 1)) c.if-left-eq1.false) (omega (arith, d.0))) d.1
 
 returns : tie.Need-returns invariant-loop decreases-loop
-returns c = all _ _ c.before.before.requires _ _ c.before.loop.invariant c.loop-test.false
+returns c = all _ _ c.before.before.requires _ _ c.before.loop-left.invariant c.loop-left-test.false
 
-pub thousandths-spec : {M : Type 1} → statement M
-thousandths-spec =
+pub thousandths_spec : {M : Type 1} → statement M
+thousandths_spec =
     tie.close
     (tie.spec
     invariant-loop

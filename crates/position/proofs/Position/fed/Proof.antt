@@ -9,5 +9,5 @@ returns : tie.Need-returns
 unfolding fed
 returns c = refl
 
-pub fed-spec : {M : Type 1} → statement M
-fed-spec = tie.close (tie.spec (λ c. search rules) returns)
+pub fed_spec : {M : Type 1} → statement M
+fed_spec = tie.close (tie.spec (λ c. search rules) returns)

@@ -22,5 +22,5 @@ returns : tie.Need-returns
 unfolding is_counted
 returns c = across c.before.args.self.offset (length c.before.args.buffer.now) max_offset (omega arith)
 
-pub is-counted-spec : {M : Type 1} → statement M
-is-counted-spec = tie.close (tie.spec (λ c. search rules) returns)
+pub is_counted_spec : {M : Type 1} → statement M
+is_counted_spec = tie.close (tie.spec (λ c. search rules) returns)

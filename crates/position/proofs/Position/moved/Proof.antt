@@ -9,5 +9,5 @@ returns : tie.Need-returns
 unfolding moved
 returns c = refl
 
-pub moved-spec : {M : Type 1} → statement M
-moved-spec = tie.close (tie.spec (λ c. search rules) (λ c. search rules) returns)
+pub moved_spec : {M : Type 1} → statement M
+moved_spec = tie.close (tie.spec (λ c. search rules) (λ c. search rules) returns)

@@ -4,13 +4,13 @@ use Rattle.rules.specs.Phase.{holds_trays}
 use Rattle.words.proofs.plan.Plan.holds_trays.Statement.{statement}
 use Rattle.words.proofs.plan.Plan.holds_trays.Tie as tie
 
-runs : tie.Need-returns
+runs : tie.Need-returns-then-phase-eq-RUNNING
 unfolding holds_trays
-runs c = rw (eq-eqb _ _ c.if1.true)
+runs c = rw (eq-eqb _ _ c.if-phase-eq-RUNNING.true)
 
-stands : tie.Need-returns-2
+stands : tie.Need-returns
 unfolding holds_trays
-stands c = rw (ne_eqb _ _ c.if1.false)
+stands c = rw (ne_eqb _ _ c.if-phase-eq-RUNNING.false)
 
-pub holds-trays-spec : {M : Type 1} → statement M
-holds-trays-spec = tie.close (tie.spec runs stands)
+pub holds_trays_spec : {M : Type 1} → statement M
+holds_trays_spec = tie.close (tie.spec runs stands)
