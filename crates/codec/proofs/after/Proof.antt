@@ -21,11 +21,11 @@ slice-aggregate-result c = search rules
 
 returns : tie.Need-returns-then-count-given
 returns c =
-    let a = c.before.before.args in
+    let a = c.args in
     take_all _ _ (le_of_eq (length-drop a.count a.given.now))
 
 returns-2 : tie.Need-returns-else-count-given
-returns-2 c = sym (drop_of_length-le _ (le_of_lt c.before.if-count-given.false))
+returns-2 c = sym (drop_of_length-le _ (le_of_lt c.if-count-given.false))
 
 pub after_spec : {M : Type 1} → statement M
 after_spec =

@@ -20,8 +20,8 @@ add-after c = search rules
 returns-2 : tie.Need-returns
 unfolding decode
 returns-2 c =
-    let operands = rw add-one at c.before.after.ensures in
-    rw (lt-leb _ _ c.before.before.before.if-stream-place.false, ← operands) c.table.ensures
+    let operands = rw add-one at c.after.ensures in
+    rw (lt-leb _ _ c.if-stream-place.false, ← operands) c.table.ensures
 
 pub decode_spec : {M : Type 1} → statement M
 decode_spec = tie.close (tie.spec returns shared-slice-read-table add-after free free returns-2)

@@ -8,9 +8,9 @@ use Rattle.codec.proofs.encode_task.Tie as tie
 returns : tie.Need-returns
 unfolding bytes byte_of operands_of widths_of find forms littles little
 returns c =
-    let out = c.before.before in
-    let work = out.before.before.before.before in
-    let parent = work.before.before.before.before in
+    let out = c in
+    let work = out in
+    let parent = work in
     parent.start-next.ensures then work.little-next.ensures then out.little.ensures
 
 pub encode_task_spec : {M : Type 1} → statement M

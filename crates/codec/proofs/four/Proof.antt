@@ -7,8 +7,8 @@ use Rattle.codec.proofs.four.Tie as tie
 
 returns : tie.Need-returns
 returns c =
-    let given = c.before.before.before.before.before.args.given.now in
-    rw (c.before.before.before.two.ensures, c.before.two-2.ensures, c.before.before.after.ensures)
+    let given = c.args.given.now in
+    rw (c.two.ensures, c.two-2.ensures, c.after.ensures)
     at c.join4.ensures
     ∙ sym (number-join 2 2 given)
 

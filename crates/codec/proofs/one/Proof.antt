@@ -15,7 +15,7 @@ returns c = omega arith
 
 returns-2 : tie.Need-returns-else-given-gt0
 unfolding number
-returns-2 c = omega (arith, get_or-eq_default c.before.args.given.now 0 c.if-given-gt0.false)
+returns-2 c = omega (arith, get_or-eq_default c.args.given.now 0 c.if-given-gt0.false)
 
 pub one_spec : {M : Type 1} → statement M
 one_spec = tie.close (tie.spec shared-slice-read-result returns returns-2)

@@ -6,8 +6,8 @@ use Rattle.codec.proofs.start.Tie as tie
 
 returns : tie.Need-returns
 returns c =
-    let operand = c.before.before in
-    operand.before.before.before.before.byte-next.ensures then operand.little.ensures
+    let operand = c in
+    operand.byte-next.ensures then operand.little.ensures
 
 pub start_spec : {M : Type 1} → statement M
 start_spec = tie.close (tie.spec (λ c κs. search rules) (λ c κs. search rules) (λ c. search rules) returns)

@@ -7,8 +7,8 @@ use Rattle.codec.proofs.two.Tie as tie
 
 returns : tie.Need-returns
 returns c =
-    let given = c.before.before.before.before.before.args.given.now in
-    rw (c.before.before.before.one.ensures, c.before.one-2.ensures, c.before.before.after.ensures)
+    let given = c.args.given.now in
+    rw (c.one.ensures, c.one-2.ensures, c.after.ensures)
     at c.join2.ensures
     ∙ sym (number-join 1 1 given)
 

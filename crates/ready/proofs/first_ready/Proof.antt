@@ -18,26 +18,26 @@ entry-requires c κs = search rules
 returns : tie.Need-returns-then-filled-eq0
 unfolding contents
 returns c =
-    let start = c.before.before in
-    first-none start.args.none (contents start.args.plan.now) (sym c.before.entry-filled.ensures ∙ c.if-filled-eq0.true)
+    let start = c in
+    first-none start.args.none (contents start.args.plan.now) (sym c.entry-filled.ensures ∙ c.if-filled-eq0.true)
 
 lowest-requires : tie.Need-lowest-block-requires
 lowest-requires c κs = search rules
 
 -- the first word that is not 0
 abbrev plan_of : tie.After-lowest-block → Contents
-plan_of c = contents c.before.before.before.args.plan.now
+plan_of c = contents c.args.plan.now
 
 full : (c : tie.After-lowest-block) → (plan_of c).filled ≡ 0 → ⊥
 unfolding contents
-full c e = c.before.if-filled-eq0.false (c.before.before.entry-filled.ensures ∙ e)
+full c e = c.if-filled-eq0.false (c.entry-filled.ensures ∙ e)
 
 block : (c : tie.After-lowest-block) → c.lowest-block.result ≡ count_trailing_zeros bits (plan_of c).filled
 unfolding contents
-block c = c.lowest-block.ensures ∙ ap (count_trailing_zeros bits) c.before.before.entry-filled.ensures
+block c = c.lowest-block.ensures ∙ ap (count_trailing_zeros bits) c.entry-filled.ensures
 
 block_in : (c : tie.After-lowest-block) → c.lowest-block.result < blocks
-block_in c = word_in c.before.before.before.requires.marks (full c) (block c)
+block_in c = word_in c.requires.marks (full c) (block c)
 
 -- and its lowest bit
 bit : (c : tie.After-lowest) → c.lowest.result ≡ count_trailing_zeros bits (at (plan_of c.before.before).ready c.before.before.lowest-block.result)
@@ -45,8 +45,8 @@ unfolding contents
 bit c =
     c.lowest.ensures
     ∙ ap (count_trailing_zeros bits)
-    (c.before.entry-word.ensures
-    ∙ part_at ready_base blocks c.before.before.before.before.before.args.plan.now c.before.before.lowest-block.result
+    (c.entry-word.ensures
+    ∙ part_at ready_base blocks c.args.plan.now c.lowest-block.result
     (block_in c.before.before))
 
 entry-requires-2 : tie.Need-entry-word-requires
@@ -60,14 +60,14 @@ lowest-requires-2 c κs = search rules
 
 add-result : tie.Need-overflow_add-result
 add-result c =
-    let word = c.before.before in
-    omega (arith, block_in word, bit_in word.before.before.before.requires.marks (full word) (block word) (bit c))
+    let word = c in
+    omega (arith, block_in word.before.before, bit_in word.requires.marks (full word.before.before) (block word.before.before) (bit c))
 
 returns-2 : tie.Need-returns
 returns-2 c =
-    let word = c.before.before in
-    first-lowest word.before.before.before.args.none (plan_of word) word.lowest-block.result c.lowest.result
-    (full word) (block word) (bit c)
+    let word = c in
+    first-lowest word.args.none (plan_of word.before.before) word.lowest-block.result c.lowest.result
+    (full word.before.before) (block word.before.before) (bit c)
 
 pub first_ready_spec : {M : Type 1} → statement M
 first_ready_spec =

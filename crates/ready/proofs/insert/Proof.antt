@@ -12,10 +12,10 @@ bit-requires c κs = search rules
 
 add-set-entry : tie.Need-overflow_add-word
 add-set-entry c =
-    let start = c.before.before.before.before in
+    let start = c in
     record {
       fits =
-          more-fits start.args.plan.now start.args.place start.requires c.before.before.entry-word.ensures
+          more-fits start.args.plan.now start.args.place start.requires c.entry-word.ensures
           c.bit.ensures;
     }
 
@@ -30,13 +30,13 @@ bit-requires-2 c κs = search rules
 
 add-set-entry-2 : tie.Need-overflow_add-filled
 add-set-entry-2 c =
-    let empty = c.before.before.before.before in
-    let word = empty.before.before in
-    let start = word.before.before.before.before in
+    let empty = c in
+    let word = empty in
+    let start = word in
     record {
       fits =
-          filled-fits start.args.plan.now start.args.place start.requires word.before.before.entry-word.ensures
-          word.bit.ensures empty.before.set_entry.ensures empty.if-word-eq0.true c.before.before.entry-filled.ensures
+          filled-fits start.args.plan.now start.args.place start.requires word.entry-word.ensures
+          word.bit.ensures empty.set_entry.ensures empty.if-word-eq0.true c.entry-filled.ensures
           c.bit-then-word-eq0.ensures;
     }
 
@@ -45,19 +45,19 @@ set-entry-requires-2 c κs = search rules
 
 returns : tie.Need-returns-then-word-eq0
 returns c =
-    let empty = c.before.before.before.before.before in
-    let word = empty.before.before in
-    let start = word.before.before.before.before in
-    added-first start.args.plan.now start.args.place start.requires word.before.before.entry-word.ensures
-    word.bit.ensures empty.before.set_entry.ensures empty.if-word-eq0.true c.before.before.before.entry-filled.ensures
-    c.before.bit-then-word-eq0.ensures c.set_entry-then-word-eq0.ensures
+    let empty = c in
+    let word = empty in
+    let start = word in
+    added-first start.args.plan.now start.args.place start.requires word.entry-word.ensures
+    word.bit.ensures empty.set_entry.ensures empty.if-word-eq0.true c.entry-filled.ensures
+    c.bit-then-word-eq0.ensures c.set_entry-then-word-eq0.ensures
 
 returns-2 : tie.Need-returns-else-word-eq0
 returns-2 c =
-    let word = c.before.before in
-    let start = word.before.before.before.before in
-    added start.args.plan.now start.args.place start.requires word.before.before.entry-word.ensures
-    word.bit.ensures c.before.set_entry.ensures c.if-word-eq0.false
+    let word = c in
+    let start = word in
+    added start.args.plan.now start.args.place start.requires word.entry-word.ensures
+    word.bit.ensures c.set_entry.ensures c.if-word-eq0.false
 
 pub insert_spec : {M : Type 1} → statement M
 insert_spec =

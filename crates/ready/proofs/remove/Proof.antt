@@ -12,8 +12,8 @@ bit-requires c κs = search rules
 
 sub-rest : tie.Need-overflow_sub-rest
 sub-rest c =
-    let start = c.before.before.before in
-    word-has start.args.plan.now start.args.place start.requires c.before.entry-word.ensures c.bit.ensures
+    let start = c in
+    word-has start.args.plan.now start.args.place start.requires c.entry-word.ensures c.bit.ensures
 
 set-entry-requires : tie.Need-set_entry-requires
 set-entry-requires c κs = search rules
@@ -26,30 +26,30 @@ bit-requires-2 c κs = search rules
 
 sub-set-entry : tie.Need-overflow_sub-filled
 sub-set-entry c =
-    let empty = c.before.before.before.before in
-    let word = empty.before.before.before in
-    let start = word.before.before.before in
-    filled-has start.args.plan.now start.args.place start.requires word.before.entry-word.ensures word.bit.ensures
-    empty.before.set_entry.ensures empty.if-rest-eq0.true c.before.before.entry-filled.ensures c.bit-then-rest-eq0.ensures
+    let empty = c in
+    let word = empty in
+    let start = word in
+    filled-has start.args.plan.now start.args.place start.requires word.entry-word.ensures word.bit.ensures
+    empty.set_entry.ensures empty.if-rest-eq0.true c.entry-filled.ensures c.bit-then-rest-eq0.ensures
 
 set-entry-requires-2 : tie.Need-set_entry-requires-then-rest-eq0
 set-entry-requires-2 c κs = search rules
 
 returns : tie.Need-returns-then-rest-eq0
 returns c =
-    let empty = c.before.before.before.before.before in
-    let word = empty.before.before.before in
-    let start = word.before.before.before in
-    taken-last start.args.plan.now start.args.place start.requires word.before.entry-word.ensures word.bit.ensures
-    empty.before.set_entry.ensures empty.if-rest-eq0.true c.before.before.before.entry-filled.ensures
-    c.before.bit-then-rest-eq0.ensures c.set_entry-then-rest-eq0.ensures
+    let empty = c in
+    let word = empty in
+    let start = word in
+    taken-last start.args.plan.now start.args.place start.requires word.entry-word.ensures word.bit.ensures
+    empty.set_entry.ensures empty.if-rest-eq0.true c.entry-filled.ensures
+    c.bit-then-rest-eq0.ensures c.set_entry-then-rest-eq0.ensures
 
 returns-2 : tie.Need-returns-else-rest-eq0
 returns-2 c =
-    let word = c.before.before.before in
-    let start = word.before.before.before in
-    taken start.args.plan.now start.args.place start.requires word.before.entry-word.ensures word.bit.ensures
-    c.before.set_entry.ensures c.if-rest-eq0.false
+    let word = c in
+    let start = word in
+    taken start.args.plan.now start.args.place start.requires word.entry-word.ensures word.bit.ensures
+    c.set_entry.ensures c.if-rest-eq0.false
 
 pub remove_spec : {M : Type 1} → statement M
 remove_spec =

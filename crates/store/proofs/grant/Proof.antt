@@ -19,7 +19,7 @@ head : (c : tie.Start) → HeadAt c.args.plan.now c.args.store
 head c = head_at _ c.requires.at_task.offset
 
 abbrev first : tie.After-cell → tie.Start
-first c = c.before.before.before.before.before.before.before.before
+first c = c.before.before.before.before
 
 -- the plan and its store as they were
 abbrev old : tie.Start → Contents
@@ -35,15 +35,15 @@ figure-read c = c.cell.ensures ∙ (row (first c)).figure
 booked-read :
     (c : tie.After-cell)
     → c.before.before.cell-booked.result ≡ at (was (first c)).booked (first c).args.task
-booked-read c = c.before.before.cell-booked.ensures ∙ (row (first c)).booked
+booked-read c = c.cell-booked.ensures ∙ (row (first c)).booked
 
 total-read : (c : tie.After-cell) → c.before.before.before.before.cell-total.result ≡ (was (first c)).total
-total-read c = c.before.before.before.before.cell-total.ensures ∙ (head (first c)).total
+total-read c = c.cell-total.ensures ∙ (head (first c)).total
 
 parent-read :
     (c : tie.After-cell)
     → c.before.before.before.before.before.before.cell-parent.result ≡ at (old (first c)).parents (first c).args.task
-parent-read c = c.before.before.before.before.before.before.cell-parent.ensures ∙ (row (first c)).parent
+parent-read c = c.cell-parent.ensures ∙ (row (first c)).parent
 
 add-figure : tie.Need-overflow_add-figure
 add-figure c = let f = figure-read c in let p = (first c).requires in omega arith
@@ -78,9 +78,9 @@ written c =
     figure-written
     (booked-written
     (total-written (holds s.args.plan.now (kind_at s.args.store) at_task.long) at_task.offset ((was s).total + m)
-    (ap (λ (v : ℕ). v + m) (total-read (third c))) c.before.before.before.before.set_cell.ensures)
+    (ap (λ (v : ℕ). v + m) (total-read (third c))) c.set_cell.ensures)
     at_task.offset (at (was s).booked x + m) (ap (λ (v : ℕ). v + m) (booked-read (third c))) x
-    at_task.task_in c.before.before.set_cell-2.ensures)
+    at_task.task_in c.set_cell-2.ensures)
     at_task.offset (at (was s).figures x + m) (ap (λ (v : ℕ). v + m) (figure-read (third c))) x
     at_task.task_in c.set_cell-3.ensures
 

@@ -8,14 +8,14 @@ use Rattle.store.proofs.grow.Tie as tie
 
 add-set-cell : tie.Need-overflow_add-old
 add-set-cell c =
-    let h = c.before.before.before.before.requires.fits c.before.before.before.if-task-ne0.true in
-    let e = c.before.cell-old.ensures in
+    let h = c.requires.fits c.if-task-ne0.true in
+    let e = c.cell-old.ensures in
     omega arith
 
 returns : tie.Need-returns-then-task-ne0
 returns c =
-    let e = c.before.before.cell-old.ensures in
-    simp (ne_eqb _ _ c.before.before.before.before.if-task-ne0.true) (c.set_cell.ensures ∙ rw e)
+    let e = c.cell-old.ensures in
+    simp (ne_eqb _ _ c.if-task-ne0.true) (c.set_cell.ensures ∙ rw e)
 
 returns-2 : tie.Need-returns-else-task-ne0
 returns-2 c = simp (eq-eqb _ _ c.if-task-ne0.false)

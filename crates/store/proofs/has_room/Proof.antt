@@ -14,24 +14,24 @@ use Rattle.store.proofs.has_room.Tie as tie
 
 sub-result : tie.Need-overflow_sub-result
 sub-result c =
-    let start = c.before.before in
+    let start = c in
     let r = head_at start.args.plan.now start.requires.0.offset in
     let fits = start.requires.1 in
-    let bound = c.before.cell-bound.ensures in
+    let bound = c.cell-bound.ensures in
     let total = c.cell-total.ensures in
     omega arith
 
 returns : tie.Need-returns
 returns c =
-    let start = c.before.before in
+    let start = c in
     let r = head_at start.args.plan.now start.requires.0.offset in
     let fits = start.requires.1 in
-    let bound = c.before.cell-bound.ensures in
+    let bound = c.cell-bound.ensures in
     let total = c.cell-total.ensures in
     let all = (store_at start.args.store (contents start.args.plan.now)).total + start.args.units in
     let most = (store_at start.args.store (contents start.args.plan.now)).bound in
     ⊎_elim (λ h. le-leb _ _ h ∙ sym (le-leb all most (omega arith))) (λ h. lt-leb _ _ h ∙ sym (lt-leb all most (omega arith)))
-    (le-or-lt start.args.units (c.before.cell-bound.result - c.cell-total.result))
+    (le-or-lt start.args.units (c.cell-bound.result - c.cell-total.result))
 
 pub has_room_spec : {M : Type 1} → statement M
 has_room_spec =

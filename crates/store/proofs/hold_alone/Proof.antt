@@ -10,13 +10,13 @@ use Rattle.store.proofs.hold_alone.Tie as tie
 returns : tie.Need-returns
 unfolding with_store with_holdings held_alone
 returns c =
-    let start = c.before.before.before.before.before.before in
+    let start = c in
     let here = start.requires in
     (used-written
     (total-written
     (booked-written (holds _ (kind_at start.args.store) here.long) here.offset start.args.units refl start.args.task
-    here.task_in c.before.before.before.before.set_cell.ensures) here.offset start.args.units refl
-    c.before.before.set_cell-2.ensures) here.offset start.args.units refl c.set_cell-3.ensures).same
+    here.task_in c.set_cell.ensures) here.offset start.args.units refl
+    c.set_cell-2.ensures) here.offset start.args.units refl c.set_cell-3.ensures).same
 
 pub hold_alone_spec : {M : Type 1} → statement M
 hold_alone_spec =

@@ -11,7 +11,7 @@ use Rattle.store.proofs.load.Statement.{statement}
 use Rattle.store.proofs.load.Tie as tie
 
 abbrev start : tie.After-cell-used → tie.Start
-start c = c.before.before.before.before.before.before
+start c = c.before.before.before
 
 -- the store as it was
 abbrev was : tie.Start → StoreContents
@@ -27,8 +27,8 @@ add-set-cell-2 : tie.Need-overflow_add-work
 add-set-cell-2 c =
     let r = row (start c.before) in
     let fits = (start c.before).requires.1 in
-    let work = c.before.before.before.before.before.cell-work.ensures in
-    let out = c.before.before.before.cell-out.ensures in
+    let work = c.cell-work.ensures in
+    let out = c.cell-out.ensures in
     omega arith
 
 add-set-cell-3 : tie.Need-overflow_add-used
@@ -36,9 +36,9 @@ add-set-cell-3 c =
     let r = row (start c.before) in
     let h = head (start c.before) in
     let fits = (start c.before).requires.1 in
-    let work = c.before.before.before.before.before.cell-work.ensures in
-    let out = c.before.before.before.cell-out.ensures in
-    let used = c.before.cell-used.ensures in
+    let work = c.cell-work.ensures in
+    let out = c.cell-out.ensures in
+    let used = c.cell-used.ensures in
     omega arith
 
 returns : tie.Need-returns
@@ -47,9 +47,9 @@ returns c =
     let s : tie.Start = start c.before.before in
     let r = row s in
     let h = head s in
-    let work = c.before.before.before.before.before.before.cell-work.ensures in
-    let out = c.before.before.before.before.cell-out.ensures in
-    let used = c.before.before.cell-used.ensures in
+    let work = c.cell-work.ensures in
+    let out = c.cell-out.ensures in
+    let used = c.cell-used.ensures in
     (used-written (holds _ (kind_at s.args.store) s.pre.0.long) s.pre.0.offset
     ((was s).used + (at (was s).works s.args.task + at (was s).outs s.args.task)) (omega arith) c.set_cell.ensures).same
 

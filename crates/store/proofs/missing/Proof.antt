@@ -7,10 +7,10 @@ use Rattle.store.proofs.missing.Tie as tie
 
 returns : tie.Need-returns
 returns c =
-    let start = c.before.before.before in
+    let start = c in
     let r = row_at start.args.plan.now start.requires in
-    let need = c.before.before.cell.ensures in
-    let figure = c.before.cell-2.ensures in
+    let need = c.cell.ensures in
+    let figure = c.cell-2.ensures in
     let rest = c.less.ensures in
     omega arith
 

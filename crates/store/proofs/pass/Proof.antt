@@ -20,27 +20,27 @@ row c = row_at _ c.requires.at_task
 
 sub-figure : tie.Need-overflow_sub-figure
 sub-figure c =
-    let r = row c.before.before in
+    let r = row c.before in
     let e = c.cell.ensures in
-    let enough = c.before.before.requires.figure_has in
+    let enough = c.requires.figure_has in
     omega arith
 
 -- what is read
 abbrev start : tie.After-cell-booked → tie.Start
-start c = c.before.before.before.before.before.before.before
+start c = c.before.before.before.before
 
 figure-read :
     (c : tie.After-cell-booked)
     → c.before.before.before.before.before.cell.result ≡ at (was (start c)).figures (start c).args.task
-figure-read c = c.before.before.before.before.before.cell.ensures ∙ (row (start c)).figure
+figure-read c = c.cell.ensures ∙ (row (start c)).figure
 
 gift-read :
     (c : tie.After-cell-booked)
     → c.before.before.less-gift.result ≡ gift (start c).args.task (start c).args.left (was (start c))
 unfolding gift
 gift-read c =
-    c.before.before.less-gift.ensures
-    ∙ ap₂ (λ (a b : ℕ). a - (b - (start c).args.left)) (c.before.before.before.cell-2.ensures ∙ (row (start c)).need) (figure-read c)
+    c.less-gift.ensures
+    ∙ ap₂ (λ (a b : ℕ). a - (b - (start c).args.left)) (c.cell-2.ensures ∙ (row (start c)).need) (figure-read c)
 
 booked-read : (c : tie.After-cell-booked) → c.cell-booked.result ≡ at (was (start c)).booked (start c).args.task
 booked-read c = c.cell-booked.ensures ∙ (row (start c)).booked
@@ -67,7 +67,7 @@ returns c =
     let given = gift x s.args.left (was s) in (
       (figure-written
           (booked-written (holds s.args.plan.now (kind_at s.args.store) here.long) here.offset (at (was s).booked x + given)
-          (ap₂ (λ (a b : ℕ). a + b) (booked-read (last c)) (gift-read (last c))) x here.task_in c.before.before.set_cell.ensures)
+          (ap₂ (λ (a b : ℕ). a + b) (booked-read (last c)) (gift-read (last c))) x here.task_in c.set_cell.ensures)
           here.offset (at (was s).figures x - s.args.left + given)
           (ap₂ (λ (a b : ℕ). a - s.args.left + b) (figure-read (last c)) (gift-read (last c))) x here.task_in c.set_cell-2.ensures).same,
       ap (λ (v : ℕ). s.args.left - v) (gift-read (last c)),

@@ -27,7 +27,7 @@ head c = head_at _ c.requires.at_task.offset
 
 -- what is read
 abbrev start : tie.After-cell-used → tie.Start
-start c = c.before.before.before.before.before.before.before.before.before.before
+start c = c.before.before.before.before.before
 
 abbrev parent : tie.Start → ℕ
 parent c = at (old c).parents c.args.task
@@ -38,20 +38,20 @@ keeps c = at (was c).outs c.args.task
 parent-read :
     (c : tie.After-cell-used)
     → c.before.before.before.before.before.before.before.before.cell-parent.result ≡ parent (start c)
-parent-read c = c.before.before.before.before.before.before.before.before.cell-parent.ensures ∙ (row (start c)).parent
+parent-read c = c.cell-parent.ensures ∙ (row (start c)).parent
 
 held-read :
     (c : tie.After-cell-used)
     → c.before.before.before.before.before.before.cell-held.result ≡ at (was (start c)).booked (start c).args.task
-held-read c = c.before.before.before.before.before.before.cell-held.ensures ∙ (row (start c)).booked
+held-read c = c.cell-held.ensures ∙ (row (start c)).booked
 
 out-read : (c : tie.After-cell-used) → c.before.before.before.before.cell-out.result ≡ keeps (start c)
-out-read c = c.before.before.before.before.cell-out.ensures ∙ (row (start c)).out
+out-read c = c.cell-out.ensures ∙ (row (start c)).out
 
 need-read :
     (c : tie.After-cell-used)
     → c.before.before.cell-need.result ≡ at (was (start c)).needs (start c).args.task
-need-read c = c.before.before.cell-need.ensures ∙ (row (start c)).need
+need-read c = c.cell-need.ensures ∙ (row (start c)).need
 
 used-read : (c : tie.After-cell-used) → c.cell-used.result ≡ (was (start c)).used
 used-read c = c.cell-used.ensures ∙ (head (start c)).used
@@ -93,8 +93,8 @@ written c =
     figure-written
     (booked-written
     (used-written (holds s.args.plan.now (kind_at s.args.store) here.long) here.offset
-    ((was s).used - at (was s).needs x + keeps s) (omega arith) c.before.before.before.before.set_cell.ensures)
-    here.offset 0 refl x here.task_in c.before.before.set_cell-2.ensures)
+    ((was s).used - at (was s).needs x + keeps s) (omega arith) c.set_cell.ensures)
+    here.offset 0 refl x here.task_in c.set_cell-2.ensures)
     here.offset 0 refl x here.task_in c.set_cell-3.ensures
 
 parent-small : (c : tie.After-cell-used) → c.before.before.before.before.before.before.before.before.cell-parent.result < rows

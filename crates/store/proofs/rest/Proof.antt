@@ -12,20 +12,20 @@ use Rattle.store.proofs.rest.Tie as tie
 
 sub-set-cell : tie.Need-overflow_sub-figure
 sub-set-cell c =
-    let start = c.before.before.before in
+    let start = c in
     let here = start.requires.0 in
     let r = row_at start.args.plan.now here in
     let enough = start.requires.1 in
-    let figure = c.before.cell-figure.ensures in
+    let figure = c.cell-figure.ensures in
     omega arith
 
 returns : tie.Need-returns
 unfolding rested
 returns c =
-    let start = c.before.before.before.before in
+    let start = c in
     let here = start.requires.0 in
     let r = row_at start.args.plan.now here in
-    let figure = c.before.before.cell-figure.ensures in
+    let figure = c.cell-figure.ensures in
     (figure-written (holds _ (kind_at start.args.store) here.long) here.offset
     (at (store_at start.args.store (contents start.args.plan.now)).figures start.args.task - start.args.left) (omega arith)
     start.args.task here.task_in c.set_cell.ensures).same

@@ -7,20 +7,20 @@ use Rattle.store.proofs.shortage.Tie as tie
 
 sub-less : tie.Need-overflow_sub-bound
 sub-less c =
-    let start = c.before.before in
+    let start = c in
     let r = head_at start.args.plan.now start.requires.0.offset in
     let fits = start.requires.1 in
-    let bound = c.before.cell-bound.ensures in
+    let bound = c.cell-bound.ensures in
     let total = c.cell-total.ensures in
     omega arith
 
 returns : tie.Need-returns
 returns c =
-    let start = c.before.before.before in
+    let start = c in
     let r = head_at start.args.plan.now start.requires.0.offset in
     let fits = start.requires.1 in
-    let bound = c.before.before.cell-bound.ensures in
-    let total = c.before.cell-total.ensures in
+    let bound = c.cell-bound.ensures in
+    let total = c.cell-total.ensures in
     let rest = c.less.ensures in
     omega arith
 
