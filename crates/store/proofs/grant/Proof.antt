@@ -34,15 +34,15 @@ figure-read c = c.cell.ensures ∙ (row (first c)).figure
 
 booked-read :
     (c : tie.After-cell)
-    → c.before.before.cell-booked.result ≡ at (was (first c)).booked (first c).args.task
+    → c.cell-booked.result ≡ at (was (first c)).booked (first c).args.task
 booked-read c = c.cell-booked.ensures ∙ (row (first c)).booked
 
-total-read : (c : tie.After-cell) → c.before.before.before.before.cell-total.result ≡ (was (first c)).total
+total-read : (c : tie.After-cell) → c.cell-total.result ≡ (was (first c)).total
 total-read c = c.cell-total.ensures ∙ (head (first c)).total
 
 parent-read :
     (c : tie.After-cell)
-    → c.before.before.before.before.before.before.cell-parent.result ≡ at (old (first c)).parents (first c).args.task
+    → c.cell-parent.result ≡ at (old (first c)).parents (first c).args.task
 parent-read c = c.cell-parent.ensures ∙ (row (first c)).parent
 
 add-figure : tie.Need-overflow_add-figure
@@ -66,7 +66,7 @@ begin c = first (third c)
 
 written :
     (c : tie.After-set_cell-3)
-    → Held c.set_cell-3.new.0 (old (begin c)) (kind_at (begin c).args.store)
+    → Held c.set_cell-3.new.plan (old (begin c)) (kind_at (begin c).args.store)
     ((was (begin c)).total + (begin c).args.units) (was (begin c)).used
     (set (was (begin c)).booked (begin c).args.task (at (was (begin c)).booked (begin c).args.task + (begin c).args.units))
     (set (was (begin c)).figures (begin c).args.task (at (was (begin c)).figures (begin c).args.task + (begin c).args.units))
@@ -74,7 +74,7 @@ written c =
     let s : tie.Start = begin c in
     let x = s.args.task in
     let m = s.args.units in
-    let at_task = s.pre.at_task in
+    let at_task = s.requires.at_task in
     figure-written
     (booked-written
     (total-written (holds s.args.plan.now (kind_at s.args.store) at_task.long) at_task.offset ((was s).total + m)
@@ -84,7 +84,7 @@ written c =
     at_task.offset (at (was s).figures x + m) (ap (λ (v : ℕ). v + m) (figure-read (third c))) x
     at_task.task_in c.set_cell-3.ensures
 
-parent-small : (c : tie.After-cell) → c.before.before.before.before.before.before.cell-parent.result < rows
+parent-small : (c : tie.After-cell) → c.cell-parent.result < rows
 parent-small c = let e = parent-read c in let h = (first c).requires.parent_in in omega arith
 
 grow-requires : tie.Need-grow-requires
@@ -97,11 +97,11 @@ grow-requires c κs =
     let f = figure-read (third c.before) in
     record {
       task_in = small;
-      column_in = (let o = s.pre.at_task.inside in omega arith);
+      column_in = (let o = s.requires.at_task.inside in omega arith);
       fits =
           λ d.
-          let most = s.pre.parent_fits (λ e. d (p ∙ e)) in
-          let is = (row_read h s.pre.at_task.offset _ small).figure in
+          let most = s.requires.parent_fits (λ e. d (p ∙ e)) in
+          let is = (row_read h s.requires.at_task.offset _ small).figure in
           let there = ap (at (set (was s).figures s.args.task (at (was s).figures s.args.task + s.args.units))) p in
           omega arith;
     }
@@ -111,9 +111,9 @@ unfolding with_store with_holdings granted
 returns c =
     let before = third c.before.before in
     let s : tie.Start = first before in
-    (figures-grown (written c.before.before) s.pre.at_task.offset (at (old s).parents s.args.task)
+    (figures-grown (written c.before.before) s.requires.at_task.offset (at (old s).parents s.args.task)
     (at (was s).figures s.args.task + s.args.units) (parent-read before)
-    (ap (λ (v : ℕ). v + s.args.units) (figure-read before)) s.pre.parent_in c.grow.ensures).same
+    (ap (λ (v : ℕ). v + s.args.units) (figure-read before)) s.requires.parent_in c.grow.ensures).same
 
 pub grant_spec : {M : Type 1} → statement M
 grant_spec =

@@ -50,7 +50,7 @@ returns c =
     let work = c.cell-work.ensures in
     let out = c.cell-out.ensures in
     let used = c.cell-used.ensures in
-    (used-written (holds _ (kind_at s.args.store) s.pre.0.long) s.pre.0.offset
+    (used-written (holds _ (kind_at s.args.store) s.requires.0.long) s.requires.0.offset
     ((was s).used + (at (was s).works s.args.task + at (was s).outs s.args.task)) (omega arith) c.set_cell.ensures).same
 
 pub load_spec : {M : Type 1} → statement M

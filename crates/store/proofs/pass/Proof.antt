@@ -31,12 +31,12 @@ start c = c.before.before.before.before
 
 figure-read :
     (c : tie.After-cell-booked)
-    → c.before.before.before.before.before.cell.result ≡ at (was (start c)).figures (start c).args.task
+    → c.cell.result ≡ at (was (start c)).figures (start c).args.task
 figure-read c = c.cell.ensures ∙ (row (start c)).figure
 
 gift-read :
     (c : tie.After-cell-booked)
-    → c.before.before.less-gift.result ≡ gift (start c).args.task (start c).args.left (was (start c))
+    → c.less-gift.result ≡ gift (start c).args.task (start c).args.left (was (start c))
 unfolding gift
 gift-read c =
     c.less-gift.ensures
@@ -63,7 +63,7 @@ unfolding with_store with_holdings passed
 returns c =
     let s : tie.Start = start (last c) in
     let x = s.args.task in
-    let here = s.pre.at_task in
+    let here = s.requires.at_task in
     let given = gift x s.args.left (was s) in (
       (figure-written
           (booked-written (holds s.args.plan.now (kind_at s.args.store) here.long) here.offset (at (was s).booked x + given)

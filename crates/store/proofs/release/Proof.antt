@@ -37,20 +37,20 @@ keeps c = at (was c).outs c.args.task
 
 parent-read :
     (c : tie.After-cell-used)
-    → c.before.before.before.before.before.before.before.before.cell-parent.result ≡ parent (start c)
+    → c.cell-parent.result ≡ parent (start c)
 parent-read c = c.cell-parent.ensures ∙ (row (start c)).parent
 
 held-read :
     (c : tie.After-cell-used)
-    → c.before.before.before.before.before.before.cell-held.result ≡ at (was (start c)).booked (start c).args.task
+    → c.cell-held.result ≡ at (was (start c)).booked (start c).args.task
 held-read c = c.cell-held.ensures ∙ (row (start c)).booked
 
-out-read : (c : tie.After-cell-used) → c.before.before.before.before.cell-out.result ≡ keeps (start c)
+out-read : (c : tie.After-cell-used) → c.cell-out.result ≡ keeps (start c)
 out-read c = c.cell-out.ensures ∙ (row (start c)).out
 
 need-read :
     (c : tie.After-cell-used)
-    → c.before.before.cell-need.result ≡ at (was (start c)).needs (start c).args.task
+    → c.cell-need.result ≡ at (was (start c)).needs (start c).args.task
 need-read c = c.cell-need.ensures ∙ (row (start c)).need
 
 used-read : (c : tie.After-cell-used) → c.cell-used.result ≡ (was (start c)).used
@@ -80,13 +80,13 @@ begin c = start (third c)
 
 written :
     (c : tie.After-set_cell-3)
-    → Held c.set_cell-3.new.0 (old (begin c)) (kind_at (begin c).args.store) (was (begin c)).total
+    → Held c.set_cell-3.new.plan (old (begin c)) (kind_at (begin c).args.store) (was (begin c)).total
     ((was (begin c)).used - at (was (begin c)).needs (begin c).args.task + keeps (begin c))
     (set (was (begin c)).booked (begin c).args.task 0) (set (was (begin c)).figures (begin c).args.task 0)
 written c =
     let s : tie.Start = begin c in
     let x = s.args.task in
-    let here = s.pre.at_task in
+    let here = s.requires.at_task in
     let u = used-read (third c) in
     let n = need-read (third c) in
     let o = out-read (third c) in
@@ -97,7 +97,7 @@ written c =
     here.offset 0 refl x here.task_in c.set_cell-2.ensures)
     here.offset 0 refl x here.task_in c.set_cell-3.ensures
 
-parent-small : (c : tie.After-cell-used) → c.before.before.before.before.before.before.before.before.cell-parent.result < rows
+parent-small : (c : tie.After-cell-used) → c.cell-parent.result < rows
 parent-small c = let e = parent-read c in let h = (start c).requires.parent_in in omega arith
 
 grow-requires : tie.Need-grow-requires
@@ -109,11 +109,11 @@ grow-requires c κs =
     let small = parent-small (third c.before) in
     record {
       task_in = small;
-      column_in = (let f = s.pre.at_task.inside in omega arith);
+      column_in = (let f = s.requires.at_task.inside in omega arith);
       fits =
           λ _.
-          let most = s.pre.parent_fits in
-          let is = (row_read (written c.before) s.pre.at_task.offset _ small).booked in
+          let most = s.requires.parent_fits in
+          let is = (row_read (written c.before) s.requires.at_task.offset _ small).booked in
           let there = ap (at (set (was s).booked s.args.task 0)) p in
           omega arith;
     }
@@ -123,7 +123,7 @@ sub-result c =
     let before = third c.before.before in
     let h = held-read before in
     let o = out-read before in
-    let enough = (start before).pre.out_held in
+    let enough = (start before).requires.out_held in
     omega arith
 
 returns : tie.Need-returns
@@ -131,8 +131,8 @@ unfolding with_store with_holdings released
 returns c =
     let before = third c.before.before in
     let s : tie.Start = start before in (
-      (booked-grown (written c.before.before) s.pre.at_task.offset (parent s) (keeps s) (parent-read before) (out-read before)
-          s.pre.parent_in c.grow.ensures).same,
+      (booked-grown (written c.before.before) s.requires.at_task.offset (parent s) (keeps s) (parent-read before) (out-read before)
+          s.requires.parent_in c.grow.ensures).same,
       ap₂ (λ (a b : ℕ). a - b) (held-read before) (out-read before),
     )
 
