@@ -26,106 +26,106 @@ more : (c : tie.Start) → (old c).next < (old c).size
 more c = let e = c.requires.here in let m = c.requires.more in omega arith
 
 -- what is read
-task-is : (c : tie.After-entry) → c.entry.result ≡ next_task (old c.before.before)
-task-is c = c.entry.ensures ∙ next-read c.before.before.args.plan.now c.before.before.args.next c.before.before.requires
+task-is : (c : tie.After-entry-task) → c.entry-task.result ≡ next_task (old c.before)
+task-is c = c.entry-task.ensures ∙ next-read c.args.plan.now c.args.next c.requires
 
-missing-requires : tie.Need-missing-requires
+missing-requires : tie.Need-missing-units-requires
 missing-requires c κs =
-    let s = c.before.before.before in
-    rw (task-is c.before) (next-in s.requires.kept (lengths s.args.plan.now) (more s) Kind.chilled)
+    let s = c in
+    rw (task-is c) (next-in s.requires.kept (lengths s.args.plan.now) (more s.before) Kind.chilled)
 
-abbrev start : tie.After-missing → tie.Start
-start c = c.before.before.before.before
+abbrev start : tie.After-missing-units → tie.Start
+start c = c.before.before
 
-units-are : (c : tie.After-missing) → c.missing.result ≡ lacking (old (start c)) Kind.chilled
+units-are : (c : tie.After-missing-units) → c.missing-units.result ≡ lacking (old (start c)) Kind.chilled
 units-are c =
-    c.missing.ensures
-    ∙ ap (λ (t : ℕ). at (old (start c)).stores.chilled.needs t - at (old (start c)).stores.chilled.figures t) (task-is c.before.before)
+    c.missing-units.ensures
+    ∙ ap (λ (t : ℕ). at (old (start c)).stores.chilled.needs t - at (old (start c)).stores.chilled.figures t) (task-is c.before)
 
 -- whether it fits
-has-room-requires : tie.Need-has-room-requires
+has-room-requires : tie.Need-has_room-requires
 has-room-requires c κs =
-    let s = start c.before in (record { offset = refl; inside = omega arith }, total-within s.pre.kept Kind.chilled)
+    let s = start c in (record { offset = refl; inside = omega arith }, total-within s.requires.kept Kind.chilled)
 
-room-is : (c : tie.After-has-room) → c.has_room.result ≡ room_in (old (start c.before.before)) Kind.chilled
+room-is : (c : tie.After-has_room) → c.has_room.result ≡ room_in (old (start c.before)) Kind.chilled
 room-is c =
-    let s = start c.before.before in
+    let s = start c.before in
     c.has_room.ensures
-    ∙ ap (λ (u : ℕ). leb ((old s).stores.chilled.total + u) (old s).stores.chilled.bound) (units-are c.before.before)
+    ∙ ap (λ (u : ℕ). leb ((old s).stores.chilled.total + u) (old s).stores.chilled.bound) (units-are c.before)
 
-tested-is : (c : tie.After-has-room) → c.has_room.result ≡ allows_next (old (start c.before.before))
+tested-is : (c : tie.After-has_room) → c.has_room.result ≡ allows_next (old (start c.before))
 unfolding all
 tested-is c =
-    let s = start c.before.before in
-    room-is c ∙ tested s.pre.kept (lengths s.args.plan.now) (more s)
+    let s = start c.before in
+    room-is c ∙ tested s.requires.kept (lengths s.args.plan.now) (more s)
 
-returns : tie.Need-returns
+returns : tie.Need-returns-then-not-has_room
 returns c =
     record {
-      tested = sym (not-true c.before.has_room.result c.if1.true) ∙ tested-is c.before;
+      tested = sym (not-true c.has_room.result c.if-not-has_room.true) ∙ tested-is c.before;
       booked = λ e. absurd (false≢true e);
       stays = λ _. refl;
     }
 
 -- it fits
-abbrev begin : tie.Else1 → tie.Start
-begin c = start c.before.before.before
+abbrev begin : tie.Else-not-has_room → tie.Start
+begin c = start c.before.before
 
-fits : (c : tie.Else1) → all (room_in (old (begin c))) ≡ true
+fits : (c : tie.Else-not-has_room) → all (room_in (old (begin c))) ≡ true
 unfolding all
-fits c = sym (room-is c.before) ∙ not-false c.before.has_room.result c.if1.false
+fits c = sym (room-is c.before) ∙ not-false c.has_room.result c.if-not-has_room.false
 
 grant-requires : tie.Need-grant-requires
 grant-requires c κs =
     let s = begin c.before in
-    rw (task-is c.before.before.before.before.before.before, units-are c.before.before.before.before)
-    (may-grant s.pre.kept (lengths s.args.plan.now) (more s) (fits c.before))
+    rw (task-is c.before.before.before.before, units-are c.before.before.before)
+    (may-grant s.requires.kept (lengths s.args.plan.now) (more s) (fits c.before))
 
-granted-is : (c : tie.After-grant) → contents c.grant.new.0 ≡ granted_next (old (begin c.before.before))
+granted-is : (c : tie.After-grant) → contents c.grant.new.plan ≡ granted_next (old (begin c.before.before))
 granted-is c =
     let s = begin c.before.before in
     c.grant.ensures
     ∙ ap₂ (λ (t u : ℕ). with_store Kind.chilled (granted (at (old s).parents t) t u (old s).stores.chilled) (old s))
-    (task-is c.before.before.before.before.before.before.before) (units-are c.before.before.before.before.before)
+    (task-is c.before.before.before.before.before) (units-are c.before.before.before.before)
 
 activate-requires : tie.Need-activate-requires
 activate-requires c κs =
     let s = begin c.before.before.before in
-    rw (task-is c.before.before.before.before.before.before.before.before, granted-is c.before)
-    (may-activate s.pre.kept (lengths s.args.plan.now) (more s) (fits c.before.before.before))
+    rw (task-is c.before.before.before.before.before.before, granted-is c.before)
+    (may-activate s.requires.kept (lengths s.args.plan.now) (more s) (fits c.before.before.before))
 
 abbrev fitted : tie.After-activate → tie.Start
 fitted c = begin c.before.before.before.before
 
 did :
     (c : tie.After-activate)
-    → DidActivate (next_task (old (fitted c))) (granted_next (old (fitted c))) (contents c.activate.new.0)
+    → DidActivate (next_task (old (fitted c))) (granted_next (old (fitted c))) (contents c.activate.new.plan)
 did c =
     let s = fitted c in
-    subst (λ (d : Contents). DidActivate (next_task (old s)) d (contents c.activate.new.0)) (granted-is c.before.before)
-    (subst (λ (t : ℕ). DidActivate t (contents c.before.before.grant.new.0) (contents c.activate.new.0))
-    (task-is c.before.before.before.before.before.before.before.before.before) c.activate.ensures)
+    subst (λ (d : Contents). DidActivate (next_task (old s)) d (contents c.activate.new.plan)) (granted-is c.before.before)
+    (subst (λ (t : ℕ). DidActivate t (contents c.grant.new.plan) (contents c.activate.new.plan))
+    (task-is c.before.before.before.before.before.before.before) c.activate.ensures)
 
-returns-2 : tie.Need-returns-2
+returns-2 : tie.Need-returns
 unfolding contents
 returns-2 c =
-    let e = c.before.before.before.before.before.before in
-    let s = begin e in
+    let e = c in
+    let s = begin e.before.before.before.before.before.before in
     let d = did c.before.before in
     record {
-      tested = sym (not-false e.before.has_room.result e.if1.false) ∙ tested-is e.before;
+      tested = sym (not-false e.has_room.result e.if-not-has_room.false) ∙ tested-is e.before.before.before.before.before.before.before;
       booked =
           λ _.
-          next-booked s.pre.kept (lengths s.args.plan.now) (more s) (fits e) d (contents c.set-cell.new.0)
-          (ap contents c.set-cell.ensures
-          ∙ contents-head c.before.before.activate.new.0
-          (long-still s.pre.kept (lengths s.args.plan.now) (more s) (fits e) d) next (s.args.next + 1) (omega arith)
-          ∙ ap (λ (n : ℕ). with_head next (n + 1) (contents c.before.before.activate.new.0)) s.pre.here);
+          next-booked s.requires.kept (lengths s.args.plan.now) (more s) (fits e.before.before.before.before.before.before) d (contents c.set_cell.new.plan)
+          (ap contents c.set_cell.ensures
+          ∙ contents-head c.activate.new.plan
+          (long-still s.requires.kept (lengths s.args.plan.now) (more s) (fits e.before.before.before.before.before.before) d) next (s.args.next + 1) (omega arith)
+          ∙ ap (λ (n : ℕ). with_head next (n + 1) (contents c.activate.new.plan)) s.requires.here);
       stays = λ e. absurd (false≢true (sym e));
     }
 
-pub book-next-spec : {M : Type 1} → statement M
-book-next-spec =
+pub book_next_spec : {M : Type 1} → statement M
+book_next_spec =
     tie.close
     (tie.spec (λ c κs. search rules) (λ c. search rules) missing-requires has-room-requires returns grant-requires
     activate-requires (λ c. search rules) (λ c. search rules) (λ c κs. search rules) returns-2)

@@ -10,10 +10,10 @@ use Rattle.codec.proofs.after.Tie as tie
 sub-result : tie.Need-slice_bounds-result-count
 sub-result c = search rules
 
-part-result-start : tie.Need-slice-bounds-result-start
+part-result-start : tie.Need-slice_bounds-result-start
 part-result-start c = search rules
 
-part-result-end : tie.Need-slice-bounds-result-end
+part-result-end : tie.Need-slice_bounds-result-end
 part-result-end c = search rules
 
 slice-aggregate-result : tie.Need-slice_bounds-result-end-else-count-given

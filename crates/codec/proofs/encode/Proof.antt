@@ -11,47 +11,47 @@ plan c =
     let bound = c in
     let p = bound in
     let n = p in
-    rw n.command-1.given.1 (n.start-next.ensures then p.little-next.ensures then bound.little.ensures)
+    rw n.in-Plan.is (n.start-next.ensures then p.little-next.ensures then bound.little.ensures)
 
 task : tie.Need-returns-in-Task
 task c =
     let i = c in
-    rw i.command-in-Task-1.given.1 i.encode_task.ensures
+    rw i.in-Task.is i.encode_task.ensures
 
 activation : tie.Need-returns-in-Activation
 activation c =
     let i = c in
-    rw i.command-in-Activation-1.given.1 i.encode_activation.ensures
+    rw i.in-Activation.is i.encode_activation.ensures
 
 execution : tie.Need-returns-in-Execution
 execution c =
     let i = c in
-    rw i.command-in-Execution-1.given.1 i.encode_execution.ensures
+    rw i.in-Execution.is i.encode_execution.ensures
 
 begin : tie.Need-returns-in-Begin
 unfolding bytes byte_of operands_of widths_of find forms littles little
 begin c =
     let byte = c in
-    rw byte.enum_told-1.given.1 byte.byte.ensures
+    rw byte.in-Begin.is byte.byte.ensures
 
 done : tie.Need-returns-in-Done
 unfolding bytes byte_of operands_of widths_of find forms littles little
 done c =
     let i = c in
-    rw i.command-in-Done-1.given.1 i.start.ensures
+    rw i.in-Done.is i.start.ensures
 
 fetch : tie.Need-returns-in-Fetch
 unfolding bytes byte_of operands_of widths_of find forms littles little
 fetch c =
     let byte = c in
-    rw byte.enum_told-in-Fetch-1.given.1 byte.byte-in-Fetch.ensures
+    rw byte.in-Fetch.is byte.byte-in-Fetch.ensures
 
 places : tie.Need-returns-in-Places
 unfolding bytes byte_of operands_of widths_of find forms littles little
 places c =
     let bound = c in
     let byte = bound in
-    rw byte.command-in-Places-1.given.1 (byte.byte-next.ensures then bound.little-in-Places.ensures)
+    rw byte.in-Places.is (byte.byte-next.ensures then bound.little-in-Places.ensures)
 
 pub encode_spec : {M : Type 1} → statement M
 encode_spec =

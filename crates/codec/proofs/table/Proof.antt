@@ -9,7 +9,7 @@ use Rattle.codec.proofs.table.Tie as tie
 
 plan : tie.Need-returns-in-1
 plan c =
-    rw (c.in_default.keys1, plan-line)
+    rw (c.in-1.is, plan-line)
     (rw (
       c.two.ensures,
       c.one.ensures,
@@ -20,7 +20,7 @@ plan c =
 
 task : tie.Need-returns-in-2
 task c =
-    rw (c.in_default.keys2, task-line)
+    rw (c.in-2.is, task-line)
     (rw (
       c.two-in-2.ensures,
       c.two-in-2-2.ensures,
@@ -30,28 +30,28 @@ task c =
     ) at c.whole-in-2.ensures)
 
 activation : tie.Need-returns-in-3
-activation c = rw (c.in_default.keys3, activation-line) (rw c.two-in-3.ensures at c.whole-in-3.ensures)
+activation c = rw (c.in-3.is, activation-line) (rw c.two-in-3.ensures at c.whole-in-3.ensures)
 
 execution : tie.Need-returns-in-4
-execution c = rw (c.in_default.keys4, execution-line) (rw c.two-in-4.ensures at c.whole-in-4.ensures)
+execution c = rw (c.in-4.is, execution-line) (rw c.two-in-4.ensures at c.whole-in-4.ensures)
 
 begin : tie.Need-returns-in-5
-begin c = rw (c.in_default.keys5, begin-line) c.whole-in-5.ensures
+begin c = rw (c.in-5.is, begin-line) c.whole-in-5.ensures
 
 done : tie.Need-returns-in-6
-done c = rw (c.in_default.keys6, done-line) (rw c.two-in-6.ensures at c.whole-in-6.ensures)
+done c = rw (c.in-6.is, done-line) (rw c.two-in-6.ensures at c.whole-in-6.ensures)
 
 fetch : tie.Need-returns-in-7
-fetch c = rw (c.in_default.keys7, fetch-line) c.whole-in-7.ensures
+fetch c = rw (c.in-7.is, fetch-line) c.whole-in-7.ensures
 
 places : tie.Need-returns-in-8
-places c = rw (c.in_default.keys8, places-line) (rw c.four-in-8.ensures at c.whole-in-8.ensures)
+places c = rw (c.in-8.is, places-line) (rw c.four-in-8.ensures at c.whole-in-8.ensures)
 
 -- the byte is none of the arms': the last arm's fact stands outermost
 unknown : tie.Need-returns-in_default
 unfolding forms find
 unknown c =
-    let rest = c.in_default.rest in
+    let rest = c.in_default-own.rest in
     sym
     (no_line _ _
     (simp (

@@ -24,54 +24,54 @@ told test p e = rw e
 untold : (test : Bool) (p : Peaked) → test ≡ false → cond test p no_peak ≡ no_peak
 untold test p e = rw e
 
-cell-requires : tie.Need-cell-requires
+cell-requires : tie.Need-cell-n-requires
 cell-requires c κs = search rules
 
-cast-n : tie.Need-overflow-cast-n
+cast-n : tie.Need-overflow_cast-n
 cast-n c = search rules
 
 -- the word read is n
-size_is : (c : tie.After-cell) → c.cell.result ≡ (contents c.before.args.plan.now).size
+size_is : (c : tie.After-cell-n) → c.cell-n.result ≡ (contents c.args.plan.now).size
 unfolding contents
-size_is c = c.cell.ensures
+size_is c = c.cell-n.ensures
 
-ordered : (c : tie.After-cell) → RankedIn c.cell.result (contents c.before.args.plan.now)
-ordered c = subst (λ (n : ℕ). RankedIn n (contents c.before.args.plan.now)) (sym (size_is c)) c.before.requires
+ordered : (c : tie.After-cell-n) → RankedIn c.cell-n.result (contents c.args.plan.now)
+ordered c = subst (λ (n : ℕ). RankedIn n (contents c.args.plan.now)) (sym (size_is c)) c.requires
 
-ground-requires : tie.Need-ground-requires
+ground-requires : tie.Need-ground-number-requires
 ground-requires c κs = ordered c
 
-ground-is : (c : tie.After-ground) → c.ground_for.result ≡ ground_of (contents c.before.before.args.plan.now)
+ground-is : (c : tie.After-ground-number) → c.ground_for.result ≡ ground_of (contents c.args.plan.now)
 ground-is c =
-    let k = contents c.before.before.args.plan.now in
+    let k = contents c.args.plan.now in
     c.ground_for.ensures ∙ ap (λ (n : ℕ). order_ground n (at k.parents) (take n k.activation)) (size_is c.before)
 
-returns : tie.Need-returns
+returns : tie.Need-returns-then-number-ne0
 returns c =
-    let number = ground_of (contents c.before.before.before.args.plan.now) in (
+    let number = ground_of (contents c.args.plan.now) in (
       ground-is c.before,
-      sym (untold (eqb number 0) _ (ne_eqb number 0 (λ e. c.if1.true (ground-is c.before ∙ e)))),
+      sym (untold (eqb number 0) _ (ne_eqb number 0 (λ e. c.if-number-ne0.true (ground-is c.before ∙ e)))),
     )
 
-peak-requires : tie.Need-peak-requires
+peak-requires : tie.Need-peak-peak-requires
 peak-requires c κs =
     let pre = ordered c.before.before in
-    let fine = no-ground _ _ _ _ pre.parented pre.ranked (sym c.before.ground_for.ensures ∙ c.if1.false) in
+    let fine = no-ground _ _ _ _ pre.parented pre.ranked (sym c.ground_for.ensures ∙ c.if-number-ne0.false) in
     record { some = fine.0; parented = pre.parented; offset = omega arith; valid = fine.1 }
 
-returns-2 : tie.Need-returns-2
+returns-2 : tie.Need-returns
 unfolding contents
 returns-2 c =
-    let past = c.before in
-    let k = contents past.before.before.before.args.plan.now in
-    let none : ground_of k ≡ 0 = sym (ground-is past.before) ∙ past.if1.false in (
+    let past = c in
+    let k = contents past.args.plan.now in
+    let none : ground_of k ≡ 0 = sym (ground-is past.before.before) ∙ past.if-number-ne0.false in (
       sym none,
-      c.peak.ensures
+      c.peak-peak.ensures
           ∙ ap (λ (n : ℕ). peaked n (at k.parents) (tasks_of k chilled).work (tasks_of k chilled).out (take n k.activation))
-          (size_is past.before.before)
+          (size_is past.before.before.before)
           ∙ sym (told (eqb (ground_of k) 0) _ (eq-eqb (ground_of k) 0 none)),
     )
 
-pub survey-spec : {M : Type 1} → statement M
-survey-spec =
+pub survey_spec : {M : Type 1} → statement M
+survey_spec =
     tie.close (tie.spec cell-requires cast-n ground-requires returns peak-requires returns-2)

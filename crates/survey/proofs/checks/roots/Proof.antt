@@ -12,51 +12,51 @@ use Rattle.survey.proofs.Counting.{CountedTo, counted_none, counted-yes, counted
 use Rattle.survey.proofs.checks.roots.Statement.{statement}
 use Rattle.survey.proofs.checks.roots.Tie as tie
 
-abbrev invariant-loop : tie.invariant-loop
+abbrev invariant-loop : tie.invariant-loop-i
 invariant-loop plan n found₀ i₀ found i = CountedTo (λ j. eqb (at (contents plan).parents j) 0) n i found
 
-abbrev decreases-loop : tie.decreases-loop
+abbrev decreases-loop : tie.decreases-loop-i
 decreases-loop plan n found₀ i₀ found i = n - i
 
-loop-holds : tie.Need-loop-init invariant-loop decreases-loop
+loop-holds : tie.Need-loop-i-init invariant-loop decreases-loop
 loop-holds c = counted_none _ _
 
-add-i : tie.Need-overflow-add-i invariant-loop decreases-loop
+add-i : tie.Need-overflow_add-i invariant-loop decreases-loop
 add-i c = omega arith
 
 cell-requires : tie.Need-cell-requires invariant-loop decreases-loop
 cell-requires c κs = (omega arith, omega arith)
 
-add-found : tie.Need-overflow-add-found invariant-loop decreases-loop
+add-found : tie.Need-overflow_add-found invariant-loop decreases-loop
 add-found c = omega arith
 
-loop-less : tie.Need-loop-smaller invariant-loop decreases-loop
+loop-less : tie.Need-loop-i-smaller-then-cell-eq0 invariant-loop decreases-loop
 loop-less c = omega arith
 
 -- the word read is the parent
 parent :
     (c : tie.After-cell invariant-loop decreases-loop)
     → c.cell.result
-    ≡ at (contents c.before.before.before.args.plan.now).parents (c.before.before.loop.i + 1)
+    ≡ at (contents c.args.plan.now).parents (c.loop-i.i + 1)
 parent c = c.cell.ensures ∙ parent-at _ _ (omega arith)
 
-loop-again : tie.Need-loop-preserved invariant-loop decreases-loop
+loop-again : tie.Need-loop-i-preserved-then-cell-eq0 invariant-loop decreases-loop
 loop-again c =
-    counted-yes _ _ _ _ c.before.before.before.loop.invariant (omega arith) (eq-eqb _ 0 (sym (parent c.before) ∙ c.if1.true))
+    counted-yes _ _ _ _ c.loop-i.invariant (omega arith) (eq-eqb _ 0 (sym (parent c.before) ∙ c.if-cell-eq0.true))
 
-loop-less-2 : tie.Need-loop-smaller-2 invariant-loop decreases-loop
+loop-less-2 : tie.Need-loop-i-smaller invariant-loop decreases-loop
 loop-less-2 c = omega arith
 
-loop-again-2 : tie.Need-loop-preserved-2 invariant-loop decreases-loop
+loop-again-2 : tie.Need-loop-i-preserved invariant-loop decreases-loop
 loop-again-2 c =
-    counted-no _ _ _ _ c.before.before.before.loop.invariant (omega arith) (ne_eqb _ 0 (λ e. c.if1.false (parent c.before ∙ e)))
+    counted-no _ _ _ _ c.loop-i.invariant (omega arith) (ne_eqb _ 0 (λ e. c.if-cell-eq0.false (parent c.before ∙ e)))
 
 returns : tie.Need-returns invariant-loop decreases-loop
 unfolding roots
-returns c = counted-all _ _ _ _ c.before.loop.invariant (omega arith)
+returns c = counted-all _ _ _ _ c.loop-i.invariant (omega arith)
 
-pub roots-spec : {M : Type 1} → statement M
-roots-spec =
+pub roots_spec : {M : Type 1} → statement M
+roots_spec =
     tie.close
     (tie.spec
     invariant-loop

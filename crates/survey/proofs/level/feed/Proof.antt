@@ -10,82 +10,82 @@ use Rattle.survey.proofs.Feeding.{Feeding, fed-none, fed-next, fed-all}
 use Rattle.survey.proofs.level.feed.Statement.{statement}
 use Rattle.survey.proofs.level.feed.Tie as tie
 
-abbrev invariant-loop : tie.invariant-loop
+abbrev invariant-loop : tie.invariant-loop-i
 invariant-loop plan store n fed₀ i₀ fed i = Feeding n (at (contents plan).parents) (at (store_contents store plan).outs) i fed
 
-abbrev decreases-loop : tie.decreases-loop
+abbrev decreases-loop : tie.decreases-loop-i
 decreases-loop plan store n fed₀ i₀ fed i = n - i
 
-loop-holds : tie.Need-loop-init invariant-loop decreases-loop
+loop-holds : tie.Need-loop-i-init invariant-loop decreases-loop
 loop-holds c = fed-none _ _ _ _ c.requires.parented.small c.requires.empty
 
-add-i : tie.Need-overflow-add-i invariant-loop decreases-loop
-add-i c = omega (arith, c.before.before.requires.parented.small)
+add-i : tie.Need-overflow_add-i invariant-loop decreases-loop
+add-i c = omega (arith, c.requires.parented.small)
 
-cell-requires : tie.Need-cell-requires invariant-loop decreases-loop
-cell-requires c κs = let small = c.before.before.requires.parented.small in (omega arith, omega arith)
+cell-requires : tie.Need-cell-parent-requires invariant-loop decreases-loop
+cell-requires c κs = let small = c.requires.parented.small in (omega arith, omega arith)
 
 -- the first word read is the parent, which is in its limits
 parent :
-    (c : tie.After-cell invariant-loop decreases-loop)
-    → c.cell.result
-    ≡ at (contents c.before.before.before.args.plan.now).parents (c.before.before.loop.i + 1)
-parent c = let small = c.before.before.before.requires.parented.small in c.cell.ensures ∙ parent-at _ _ (omega arith)
+    (c : tie.After-cell-parent invariant-loop decreases-loop)
+    → c.cell-parent.result
+    ≡ at (contents c.args.plan.now).parents (c.loop-i.i + 1)
+parent c = let small = c.requires.parented.small in c.cell-parent.ensures ∙ parent-at _ _ (omega arith)
 
-low : (c : tie.After-cell invariant-loop decreases-loop) → (c.cell.result ≤ c.before.before.before.args.n) × (c.before.before.before.args.n ≤ max_tasks)
+low : (c : tie.After-cell-parent invariant-loop decreases-loop) → (c.cell-parent.result ≤ c.args.n) × (c.args.n ≤ max_tasks)
 low c =
-    let start = c.before.before.before in
+    let start = c in
     let parented = start.requires.parented in
     let is = parent c in
-    let inside = parented.inside (c.before.before.loop.i + 1) (record { low = omega arith; high = omega arith }) in
+    let inside = parented.inside (c.loop-i.i + 1) (record { low = omega arith; high = omega arith }) in
     (omega arith, parented.small)
 
-cast-parent : tie.Need-overflow-cast-parent invariant-loop decreases-loop
+cast-parent : tie.Need-overflow_cast-parent invariant-loop decreases-loop
 cast-parent c = omega (arith, low c)
 
-add-cell : tie.Need-overflow-add-cell invariant-loop decreases-loop
-add-cell c = omega (arith, c.before.before.before.requires.offset)
+add-cell : tie.Need-overflow_add-store invariant-loop decreases-loop
+add-cell c = omega (arith, c.requires.offset)
 
-cell-requires-2 : tie.Need-cell-requires-2 invariant-loop decreases-loop
+cell-requires-2 : tie.Need-cell-out-requires invariant-loop decreases-loop
 cell-requires-2 c κs =
-    let start = c.before.before.before in
+    let start = c in
     let small = start.requires.parented.small in
     let offset = start.requires.offset in
     (omega arith, omega arith)
 
-cast-out : tie.Need-overflow-cast-out invariant-loop decreases-loop
+cast-out : tie.Need-overflow_cast-out invariant-loop decreases-loop
 cast-out c = omega arith
 
-mul-fed : tie.Need-overflow-mul-fed invariant-loop decreases-loop
-mul-fed c = omega (arith, low c.before, c.before.before.before.loop.invariant.size)
+mul-fed : tie.Need-offset_bounds-fed-parent invariant-loop decreases-loop
+mul-fed c = omega (arith, low c.before, c.loop-i.invariant.size)
 
-element-copy-out-fed : tie.Need-element-copy-out-fed invariant-loop decreases-loop
-element-copy-out-fed c = omega (arith, low c.before, c.before.before.before.loop.invariant.size)
+element-copy-out-fed : tie.Need-bounds-fed-parent invariant-loop decreases-loop
+element-copy-out-fed c = omega (arith, low c.before.before, c.loop-i.invariant.size)
 
-add-fed : tie.Need-overflow-add-fed invariant-loop decreases-loop
+add-fed : tie.Need-overflow_add-fed invariant-loop decreases-loop
 add-fed c =
-    let read = c.before.before in
-    omega (arith, low read, read.before.before.loop.invariant.fits read.cell.result (low read).0)
+    let read = c in
+    omega (arith, low read.before.before.before, read.loop-i.invariant.fits read.cell-parent.result (low read.before.before.before).0)
 
-element-write-fed : tie.Need-element-write-fed invariant-loop decreases-loop
-element-write-fed c = omega (arith, low c.before.before, c.before.before.before.before.loop.invariant.size)
+element-write-fed : tie.Need-bounds-fed-parent-in-loop-i invariant-loop decreases-loop
+element-write-fed c = omega (arith, low c.before.before.before, c.loop-i.invariant.size)
 
-loop-less : tie.Need-loop-smaller invariant-loop decreases-loop
+loop-less : tie.Need-loop-i-smaller invariant-loop decreases-loop
 loop-less c = omega arith
 
-loop-again : tie.Need-loop-preserved invariant-loop decreases-loop
+loop-again : tie.Need-loop-i-preserved invariant-loop decreases-loop
 loop-again c =
-    let read = c.before.before in
-    let turn = read.before.before in
-    let args = turn.before.args in
-    let out = c.before.cell2.ensures ∙ out_at args.plan.now (turn.loop.i + 1) (omega (arith, low read)) args.store in
-    fed-next _ _ _ _ _ turn.loop.invariant _ _ (parent read) out (omega arith) (low read).0 (omega arith)
+    let read = c in
+    let turn = read in
+    let args = turn.args in
+    let out = c.cell-out.ensures ∙ out_at args.plan.now (turn.loop-i.i + 1) (omega (arith, low read.before.before.before)) args.store in
+    fed-next _ _ _ _ _ turn.loop-i.invariant _ _ (parent read.before.before.before) out (omega arith) (low read.before.before.before).0 (omega arith)
 
 returns : tie.Need-returns invariant-loop decreases-loop
-returns c = fed-all _ _ _ _ _ c.before.loop.invariant (omega arith)
+returns c = fed-all _ _ _ _ _ c.loop-i.invariant (omega arith)
 
-pub feed-spec : {M : Type 1} → statement M
-feed-spec =
+pub feed_spec : {M : Type 1} → statement M
+feed_spec =
     tie.close
     (tie.spec
     invariant-loop

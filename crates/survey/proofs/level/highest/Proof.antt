@@ -16,16 +16,16 @@ use Rattle.survey.proofs.Running.{RunSoFar, ran-none, ran-task, ran-next, ran-al
 use Rattle.survey.proofs.level.highest.Statement.{statement}
 use Rattle.survey.proofs.level.highest.Tie as tie
 
-abbrev invariant-loop : tie.invariant-loop
+abbrev invariant-loop : tie.invariant-loop-k
 invariant-loop plan store n fed first best₀ level₀ k₀ best level k =
     RunSoFar n (at (contents plan).parents) (at (store_contents store plan).works) (at (store_contents store plan).outs)
     (contents plan).activation k level (meant best)
 
-abbrev decreases-loop : tie.decreases-loop
+abbrev decreases-loop : tie.decreases-loop-k
 decreases-loop plan store n fed first best₀ level₀ k₀ best level k = n - k
 
 -- where the function starts, and what it asks
-abbrev start : tie.After-entry2 invariant-loop decreases-loop → tie.Start invariant-loop decreases-loop
+abbrev start : tie.After-entry-x invariant-loop decreases-loop → tie.Start invariant-loop decreases-loop
 start c = c.before.before.before.before
 
 -- the order has an entry for each task
@@ -35,46 +35,46 @@ long c =
     let whole = (lengths c.args.plan.now).activation in
     (small, omega arith)
 
-entry-requires : tie.Need-entry-requires invariant-loop decreases-loop
+entry-requires : tie.Need-entry-first-requires invariant-loop decreases-loop
 entry-requires c κs = omega arith
 
 -- the first entry of the order, which is a task
 first-is :
-    (c : tie.After-entry invariant-loop decreases-loop) → c.entry.result ≡ at (contents c.before.args.plan.now).activation 0
-first-is c = c.entry.ensures ∙ activation-at _ _ (omega arith)
+    (c : tie.After-entry-first invariant-loop decreases-loop) → c.entry-first.result ≡ at (contents c.args.plan.now).activation 0
+first-is c = c.entry-first.ensures ∙ activation-at _ _ (omega arith)
 
-cast-first : tie.Need-overflow-cast-first invariant-loop decreases-loop
+cast-first : tie.Need-overflow_cast-first invariant-loop decreases-loop
 cast-first c =
-    let some = c.before.requires.order.some in
+    let some = c.requires.order.some in
     omega (
       arith,
       long c.before,
-      ran-task _ _ _ c.before.requires.order.valid (long c.before).1 0 (omega arith) _ (sym (first-is c)),
+      ran-task _ _ _ c.requires.order.valid (long c.before).1 0 (omega arith) _ (sym (first-is c)),
     )
 
-loop-holds : tie.Need-loop-init invariant-loop decreases-loop
-loop-holds c = ran-none _ _ _ _ _ _ c.before.requires.order.some (long c.before).1 (sym (first-is c))
+loop-holds : tie.Need-loop-k-init invariant-loop decreases-loop
+loop-holds c = ran-none _ _ _ _ _ _ c.requires.order.some (long c.before).1 (sym (first-is c))
 
-entry-requires-2 : tie.Need-entry-requires-2 invariant-loop decreases-loop
+entry-requires-2 : tie.Need-entry-x-requires invariant-loop decreases-loop
 entry-requires-2 c κs = omega (arith, long c.before.before.before)
 
 -- the word read is the entry of the order, which is a task
 entry-is :
-    (c : tie.After-entry2 invariant-loop decreases-loop)
-    → c.entry2.result ≡ at (contents (start c).args.plan.now).activation c.before.before.loop.k
-entry-is c = let small = long (start c) in c.entry2.ensures ∙ activation-at _ _ (omega arith)
+    (c : tie.After-entry-x invariant-loop decreases-loop)
+    → c.entry-x.result ≡ at (contents (start c).args.plan.now).activation c.loop-k.k
+entry-is c = let small = long (start c) in c.entry-x.ensures ∙ activation-at _ _ (omega arith)
 
-task : (c : tie.After-entry2 invariant-loop decreases-loop) → Task (start c).args.n c.entry2.result
+task : (c : tie.After-entry-x invariant-loop decreases-loop) → Task (start c).args.n c.entry-x.result
 task c = ran-task _ _ _ (start c).requires.order.valid (long (start c)).1 _ (omega arith) _ (sym (entry-is c))
 
 -- the level is far from the end of its numbers
-low : (c : tie.After-entry2 invariant-loop decreases-loop) → c.before.before.loop.level ≤ max_tasks * 2 ^ 32
+low : (c : tie.After-entry-x invariant-loop decreases-loop) → c.loop-k.level-1 ≤ max_tasks * 2 ^ 32
 low c =
     let small = (long (start c)).0 in
-    let fits = c.before.before.loop.invariant.fits in
+    let fits = c.loop-k.invariant.fits in
     omega arith
 
-cast-x : tie.Need-overflow-cast-x invariant-loop decreases-loop
+cast-x : tie.Need-overflow_cast-x invariant-loop decreases-loop
 cast-x c = omega (arith, task c, long (start c))
 
 sum-requires : tie.Need-sum-requires invariant-loop decreases-loop
@@ -84,69 +84,69 @@ sum-requires c κs =
     let level = low c in
     (record { offset = (start c).requires.order.offset; task_in = omega arith }, omega arith)
 
-cast-highest-of : tie.Need-overflow-cast-highest-of invariant-loop decreases-loop
-cast-highest-of c = let read = c.before in omega (arith, task read, long (start read))
+cast-highest-of : tie.Need-overflow_cast-x-in-loop-k invariant-loop decreases-loop
+cast-highest-of c = let read = c in omega (arith, task read.before, long (start read.before))
 
-highest-of-requires : tie.Need-highest-of-requires invariant-loop decreases-loop
+highest-of-requires : tie.Need-highest_of-best-requires invariant-loop decreases-loop
 highest-of-requires c κs = tt
 
-kept-out-requires : tie.Need-kept-out-requires invariant-loop decreases-loop
+kept-out-requires : tie.Need-kept_out-requires invariant-loop decreases-loop
 kept-out-requires c κs =
-    let read = c.before.before in
-    let is = task read in
-    let small = long (start read) in
-    record { offset = (start read).requires.order.offset; task_in = omega arith }
+    let read = c in
+    let is = task read.before.before in
+    let small = long (start read.before.before) in
+    record { offset = (start read.before.before).requires.order.offset; task_in = omega arith }
 
-add-level : tie.Need-overflow-add-level invariant-loop decreases-loop
+add-level : tie.Need-overflow_add-level invariant-loop decreases-loop
 add-level c = omega (arith, low c.before.before.before, c.kept_out.ensures.1)
 
-mul-level : tie.Need-overflow-mul-level invariant-loop decreases-loop
-mul-level c = let read = c.before.before.before in omega (arith, task read, long (start read))
+mul-level : tie.Need-offset_bounds-fed-x invariant-loop decreases-loop
+mul-level c = let read = c in omega (arith, task read.before.before.before, long (start read.before.before.before))
 
-element-copy-out-level : tie.Need-element-copy-out-level invariant-loop decreases-loop
-element-copy-out-level c = let read = c.before.before.before in omega (arith, task read, long (start read))
+element-copy-out-level : tie.Need-bounds-fed-x invariant-loop decreases-loop
+element-copy-out-level c = let read = c in omega (arith, task read.before.before.before.before, long (start read.before.before.before.before))
 
 -- what the children of the task left
 taken :
-    (c : tie.After-entry2 invariant-loop decreases-loop)
-    → at (start c).args.fed.now c.entry2.result
+    (c : tie.After-entry-x invariant-loop decreases-loop)
+    → at (start c).args.fed.now c.entry-x.result
     ≡ children (start c).args.n (at (contents (start c).args.plan.now).parents)
-    (at (store_contents (start c).args.store (start c).args.plan.now).outs) c.entry2.result
-taken c = (start c).requires.sums c.entry2.result (task c).high
+    (at (store_contents (start c).args.store (start c).args.plan.now).outs) c.entry-x.result
+taken c = (start c).requires.sums c.entry-x.result (task c).high
 
-sub-level : tie.Need-overflow-sub-level invariant-loop decreases-loop
+sub-level : tie.Need-overflow_sub-level invariant-loop decreases-loop
 unfolding kept
 sub-level c =
-    let read = c.before.before.before.before in
+    let read = c in
     omega (
       arith,
-      c.before.kept_out.ensures.0,
-      taken read,
-      ran-enough _ _ _ (start read).requires.order.valid (long (start read)).1 _ (omega arith) _ _ _ _ read.before.before.loop.invariant _
-          (sym (entry-is read)),
+      c.kept_out.ensures.0,
+      taken read.before.before.before.before.before,
+      ran-enough _ _ _ (start read.before.before.before.before.before).requires.order.valid (long (start read.before.before.before.before.before)).1 _ (omega arith) _ _ _ _ read.loop-k.invariant _
+          (sym (entry-is read.before.before.before.before.before)),
     )
 
-add-k : tie.Need-overflow-add-k invariant-loop decreases-loop
-add-k c = omega (arith, long (start c.before.before.before.before))
+add-k : tie.Need-overflow_add-k invariant-loop decreases-loop
+add-k c = omega (arith, long (start c.before.before.before.before.before))
 
-loop-less : tie.Need-loop-smaller invariant-loop decreases-loop
+loop-less : tie.Need-loop-k-smaller invariant-loop decreases-loop
 loop-less c = omega arith
 
-loop-again : tie.Need-loop-preserved invariant-loop decreases-loop
+loop-again : tie.Need-loop-k-preserved invariant-loop decreases-loop
 unfolding kept
 loop-again c =
-    let read = c.before.before.before.before in
-    ran-next _ _ _ (start read).requires.order.valid (long (start read)).1 _ (omega arith) _ _ _ _ read.before.before.loop.invariant _ _ _ _ _
-    (sym (entry-is read)) c.before.kept_out.ensures.0 c.before.kept_out.ensures.1 (taken read)
-    c.before.before.before.sum.ensures c.before.before.highest-of.ensures
+    let read = c in
+    ran-next _ _ _ (start read.before.before.before.before.before).requires.order.valid (long (start read.before.before.before.before.before)).1 _ (omega arith) _ _ _ _ read.loop-k.invariant _ _ _ _ _
+    (sym (entry-is read.before.before.before.before.before)) c.kept_out.ensures.0 c.kept_out.ensures.1 (taken read.before.before.before.before.before)
+    c.sum.ensures c.highest_of-best.ensures
 
 returns : tie.Need-returns invariant-loop decreases-loop
 returns c =
-    let start = c.before.before.before in
-    ran-all _ _ _ start.requires.order.valid (long start).1 _ _ _ _ _ c.before.loop.invariant (omega arith)
+    let start = c in
+    ran-all _ _ _ start.requires.order.valid (long start.before.before.before).1 _ _ _ _ _ c.loop-k.invariant (omega arith)
 
-pub highest-spec : {M : Type 1} → statement M
-highest-spec =
+pub highest_spec : {M : Type 1} → statement M
+highest_spec =
     tie.close
     (tie.spec
     invariant-loop

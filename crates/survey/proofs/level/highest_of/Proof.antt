@@ -4,11 +4,11 @@ use Rattle.survey.proofs.Running.{higher-above, higher-kept}
 use Rattle.survey.proofs.level.highest_of.Statement.{statement}
 use Rattle.survey.proofs.level.highest_of.Tie as tie
 
-returns : tie.Need-returns
-returns c = sym (higher-above _ _ c.if1.true)
+returns : tie.Need-returns-then-best-trays
+returns c = sym (higher-above _ _ c.if-best-trays.true)
 
-returns-2 : tie.Need-returns-2
-returns-2 c = sym (higher-kept _ _ c.if1.false)
+returns-2 : tie.Need-returns
+returns-2 c = sym (higher-kept _ _ c.if-best-trays.false)
 
-pub highest-of-spec : {M : Type 1} → statement M
-highest-of-spec = tie.close (tie.spec returns returns-2)
+pub highest_of_spec : {M : Type 1} → statement M
+highest_of_spec = tie.close (tie.spec returns returns-2)

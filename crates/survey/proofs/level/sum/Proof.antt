@@ -6,39 +6,39 @@ use Rattle.survey.proofs.Reading.{work-at, out_at}
 use Rattle.survey.proofs.level.sum.Statement.{statement}
 use Rattle.survey.proofs.level.sum.Tie as tie
 
-add-cell : tie.Need-overflow-add-cell
+add-cell : tie.Need-overflow_add-store
 add-cell c = search rules
 
-cell-requires : tie.Need-cell-requires
+cell-requires : tie.Need-cell-work-requires
 cell-requires c κs = search rules
 
-cast-work : tie.Need-overflow-cast-work
+cast-work : tie.Need-overflow_cast-work
 cast-work c = search rules
 
-add-cell-2 : tie.Need-overflow-add-cell-2
+add-cell-2 : tie.Need-overflow_add-store-2
 add-cell-2 c = search rules
 
-cell-requires-2 : tie.Need-cell-requires-2
+cell-requires-2 : tie.Need-cell-out-requires
 cell-requires-2 c κs = search rules
 
-cast-out : tie.Need-overflow-cast-out
+cast-out : tie.Need-overflow_cast-out
 cast-out c = search rules
 
-add-result : tie.Need-overflow-add-result
+add-result : tie.Need-overflow_add-result
 add-result c = search rules
 
-add-result-2 : tie.Need-overflow-add-result-2
+add-result-2 : tie.Need-overflow_add-result-2
 add-result-2 c = search rules
 
 returns : tie.Need-returns
 returns c =
-    let start = c.before.before in
-    let work = c.before.cell.ensures ∙ work-at start.args.plan.now start.args.task (omega arith) start.args.store in
-    let out = c.cell2.ensures ∙ out_at start.args.plan.now start.args.task (omega arith) start.args.store in
+    let start = c in
+    let work = c.cell-work.ensures ∙ work-at start.args.plan.now start.args.task (omega arith) start.args.store in
+    let out = c.cell-out.ensures ∙ out_at start.args.plan.now start.args.task (omega arith) start.args.store in
     omega arith
 
-pub sum-spec : {M : Type 1} → statement M
-sum-spec =
+pub sum_spec : {M : Type 1} → statement M
+sum_spec =
     tie.close
     (tie.spec
     add-cell
