@@ -49,7 +49,7 @@ loop-less c = let t = c.loop-next-test.true in omega arith
 loop-again : tie.Need-loop-next-preserved invariant-loop decreases-loop
 loop-again c =
     let i = c in
-    let done = not-false c.book_next.result c.if-not-book_next.false in
+    let done = c.if-not-book_next.false in
     ahead-next i.loop-next.invariant (lengths i.loop-next.plan) (more i.before.before.before) (sym c.book_next.ensures.tested ∙ done)
     (c.book_next.ensures.booked done)
 
@@ -64,7 +64,7 @@ returns c =
 returns-2 : tie.Need-returns-then-not-book_next invariant-loop decreases-loop
 returns-2 c =
     let i = c in
-    let over = not-true c.book_next.result c.if-not-book_next.true in
+    let over = c.if-not-book_next.true in
     rw (c.book_next.ensures.stays over)
     (ahead-stop i.loop-next.invariant (lengths i.loop-next.plan) (more i.before.before.before) (sym c.book_next.ensures.tested ∙ over))
 

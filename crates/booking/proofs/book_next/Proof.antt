@@ -62,7 +62,7 @@ tested-is c =
 returns : tie.Need-returns-then-not-has_room
 returns c =
     record {
-      tested = sym (not-true c.has_room.result c.if-not-has_room.true) ∙ tested-is c.before;
+      tested = sym (c.if-not-has_room.true) ∙ tested-is c.before;
       booked = λ e. absurd (false≢true e);
       stays = λ _. refl;
     }
@@ -73,7 +73,7 @@ begin c = start c.before.before
 
 fits : (c : tie.Else-not-has_room) → all (room_in (old (begin c))) ≡ true
 unfolding all
-fits c = sym (room-is c.before) ∙ not-false c.has_room.result c.if-not-has_room.false
+fits c = sym (room-is c.before) ∙ c.if-not-has_room.false
 
 grant-requires : tie.Need-grant-requires
 grant-requires c κs =
@@ -113,7 +113,7 @@ returns-2 c =
     let s = begin e.before.before.before.before.before.before in
     let d = did c.before.before in
     record {
-      tested = sym (not-false e.has_room.result e.if-not-has_room.false) ∙ tested-is e.before.before.before.before.before.before.before;
+      tested = sym (e.if-not-has_room.false) ∙ tested-is e.before.before.before.before.before.before.before;
       booked =
           λ _.
           next-booked s.requires.kept (lengths s.args.plan.now) (more s) (fits e.before.before.before.before.before.before) d (contents c.set_cell.new.plan)

@@ -51,7 +51,7 @@ places c = rw (c.in-8.is, places-line) (rw c.four-in-8.ensures at c.whole-in-8.e
 unknown : tie.Need-returns-in_default
 unfolding forms find
 unknown c =
-    let rest = c.in_default-own.rest in
+    let rest = c.in_default.in_default-own.rest in
     sym
     (no_line _ _
     (simp (

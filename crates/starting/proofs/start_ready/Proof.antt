@@ -81,14 +81,14 @@ first-ready-requires c κs = marked (start c.before).requires c.loop-active.inva
 run-requires : tie.Need-run-requires invariant-loop decreases-loop
 run-requires c κs =
     let head = loop c.before.before in
-    may-run (start head).requires head.loop-active.inv (found c.before.before) (some-ready c.before)
+    may-run (start head).requires head.loop-active.invariant (found c.before.before) (some-ready c.before)
 
 -- that what a turn counts is small, and has room in the start list
 few : (c : tie.After-run invariant-loop decreases-loop) → (loop c.before.before.before).loop-active.count < max_processors
 few c =
     let look = c in
     let head = loop look.before.before.before in
-    count_small (start head).requires head.loop-active.inv (found look.before.before.before) (some-ready c.before.before) (free look.before.before.before)
+    count_small (start head).requires head.loop-active.invariant (found look.before.before.before) (some-ready c.before.before) (free look.before.before.before)
 
 mul-starts : tie.Need-offset_bounds-starts-count invariant-loop decreases-loop
 mul-starts c = omega (arith, few c)
@@ -97,7 +97,7 @@ slice-write-starts : tie.Need-bounds-starts-count invariant-loop decreases-loop
 slice-write-starts c =
     let look = c in
     let head = loop look.before.before.before in
-    room (start head).requires head.loop-active.inv (found look.before.before.before) (some-ready c.before.before) (free look.before.before.before)
+    room (start head).requires head.loop-active.invariant (found look.before.before.before) (some-ready c.before.before) (free look.before.before.before)
 
 add-active : tie.Need-overflow_add-active invariant-loop decreases-loop
 add-active c =
@@ -114,7 +114,7 @@ loop-again : tie.Need-loop-active-preserved invariant-loop decreases-loop
 loop-again c =
     let look = c in
     let head = loop look.before.before.before in
-    next (start head).requires head.loop-active.inv (found look.before.before.before) (some-ready c.before.before) (free look.before.before.before) c.run.ensures
+    next (start head).requires head.loop-active.invariant (found look.before.before.before) (some-ready c.before.before) (free look.before.before.before) c.run.ensures
 
 same_length : tie.Need-shape_of-starts-after-loop-active invariant-loop decreases-loop
 same_length c = as_long (start c.before).requires c.loop-active.invariant
@@ -123,12 +123,12 @@ returns : tie.Need-returns-after-loop-active invariant-loop decreases-loop
 returns c = no-processor (start c.before).requires c.loop-active.invariant (let t = c.loop-active-test.false in omega (arith, processors-are c.before))
 
 same-length-2 : tie.Need-shape_of-starts-then-place-n invariant-loop decreases-loop
-same-length-2 c = as_long (start (loop c.before)).requires (loop c.before).loop-active.inv
+same-length-2 c = as_long (start (loop c.before)).requires (loop c.before).loop-active.invariant
 
 returns-2 : tie.Need-returns-then-place-n invariant-loop decreases-loop
 returns-2 c =
     let head = loop c.before in
-    nobody-ready (start head).requires head.loop-active.inv (found c.before) (c.if-place-n.true ∙ size_is head)
+    nobody-ready (start head).requires head.loop-active.invariant (found c.before) (c.if-place-n.true ∙ size_is head)
 
 pub start_ready_spec : {M : Type 1} → statement M
 start_ready_spec =

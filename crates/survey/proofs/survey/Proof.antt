@@ -41,10 +41,10 @@ ordered c = subst (λ (n : ℕ). RankedIn n (contents c.args.plan.now)) (sym (si
 ground-requires : tie.Need-ground-number-requires
 ground-requires c κs = ordered c
 
-ground-is : (c : tie.After-ground-number) → c.ground_for.result ≡ ground_of (contents c.args.plan.now)
+ground-is : (c : tie.After-ground-number) → c.ground-number.result ≡ ground_of (contents c.args.plan.now)
 ground-is c =
     let k = contents c.args.plan.now in
-    c.ground_for.ensures ∙ ap (λ (n : ℕ). order_ground n (at k.parents) (take n k.activation)) (size_is c.before)
+    c.ground-number.ensures ∙ ap (λ (n : ℕ). order_ground n (at k.parents) (take n k.activation)) (size_is c.before)
 
 returns : tie.Need-returns-then-number-ne0
 returns c =
@@ -56,7 +56,7 @@ returns c =
 peak-requires : tie.Need-peak-peak-requires
 peak-requires c κs =
     let pre = ordered c.before.before in
-    let fine = no-ground _ _ _ _ pre.parented pre.ranked (sym c.ground_for.ensures ∙ c.if-number-ne0.false) in
+    let fine = no-ground _ _ _ _ pre.parented pre.ranked (sym c.ground-number.ensures ∙ c.if-number-ne0.false) in
     record { some = fine.0; parented = pre.parented; offset = omega arith; valid = fine.1 }
 
 returns-2 : tie.Need-returns

@@ -68,7 +68,7 @@ task : (c : tie.After-entry-x invariant-loop decreases-loop) → Task (start c).
 task c = ran-task _ _ _ (start c).requires.order.valid (long (start c)).1 _ (omega arith) _ (sym (entry-is c))
 
 -- the level is far from the end of its numbers
-low : (c : tie.After-entry-x invariant-loop decreases-loop) → c.loop-k.level-1 ≤ max_tasks * 2 ^ 32
+low : (c : tie.After-entry-x invariant-loop decreases-loop) → c.loop-k.level ≤ max_tasks * 2 ^ 32
 low c =
     let small = (long (start c)).0 in
     let fits = c.loop-k.invariant.fits in
