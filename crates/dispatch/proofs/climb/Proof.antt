@@ -10,107 +10,107 @@ use Rattle.dispatch.proofs.Turns.{Climbing, above, below_in, climb-first, turn_i
 use Rattle.dispatch.proofs.climb.Statement.{statement}
 use Rattle.dispatch.proofs.climb.Tie as tie
 
-abbrev invariant-loop : tie.invariant-loop
+abbrev invariant-loop : tie.invariant-loop-i
 invariant-loop plan₀ store below units i₀ left₀ offers₀ plan i left offers =
     Climbing below units (contents plan₀) (contents plan) i left offers
 
-abbrev decreases-loop : tie.decreases-loop
+abbrev decreases-loop : tie.decreases-loop-i
 decreases-loop plan₀ store below units i₀ left₀ offers₀ plan i left offers = above (contents plan₀) i
 
-cell-requires : tie.Need-cell-requires invariant-loop decreases-loop
-cell-requires c κs = let h = below_in c.before.requires in (omega arith, omega arith)
+cell-requires : tie.Need-cell-i-requires invariant-loop decreases-loop
+cell-requires c κs = let h = below_in c.requires in (omega arith, omega arith)
 
-loop-holds : tie.Need-loop-init invariant-loop decreases-loop
+loop-holds : tie.Need-loop-i-init invariant-loop decreases-loop
 loop-holds c =
-    let e = c.before.before in
+    let e = c in
     let w = e.args.plan.now in
-    climb-first e.requires (lengths w) (c.cell.ensures ∙ (row_read w e.args.below (below_in e.requires)).parent)
+    climb-first e.requires (lengths w) (c.cell-i.ensures ∙ (row_read w e.args.below (below_in e.requires)).parent)
 
-cell-requires-2 : tie.Need-cell-requires-2 invariant-loop decreases-loop
+cell-requires-2 : tie.Need-cell-requires invariant-loop decreases-loop
 cell-requires-2 c κs =
-    let e = c.before.before in
-    let h = turn_in e.before.before.before.requires e.loop.invariant in
+    let e = c in
+    let h = turn_in e.requires e.loop-i.invariant in
     (omega arith, omega arith)
 
 -- the standing that is read is the task's
 standing :
-    (c : tie.After-cell2 invariant-loop decreases-loop)
-    → at (contents c.before.before.before.loop.plan).standings c.before.before.before.loop.i ≡ c.cell2.result
+    (c : tie.After-cell invariant-loop decreases-loop)
+    → at (contents c.loop-i.plan).standings c.loop-i.i ≡ c.cell.result
 standing c =
-    let e = c.before.before.before in
+    let e = c in
     sym
-    (c.cell2.ensures
-    ∙ (row_read e.loop.plan e.loop.i (turn_in e.before.before.before.requires e.loop.invariant)).standing)
+    (c.cell.ensures
+    ∙ (row_read e.loop-i.plan e.loop-i.i (turn_in e.requires e.loop-i.invariant)).standing)
 
 rest-requires : tie.Need-rest-requires invariant-loop decreases-loop
 rest-requires c κs =
-    let s = c.before.before in
-    let e = s.before.before.before in
-    may-rest e.before.before.before.requires e.loop.invariant s.before.before.if1.false (standing s ∙ c.before.if2.true)
+    let s = c in
+    let e = s in
+    may-rest e.requires e.loop-i.invariant s.if-i-eq0.false (standing s.before.before ∙ c.if-cell-eq-WAITING.true)
 
-pass-requires : tie.Need-pass-requires invariant-loop decreases-loop
+pass-requires : tie.Need-pass-left-requires invariant-loop decreases-loop
 pass-requires c κs =
-    let s = c.before.before.before in
-    let e = s.before.before.before in
-    may-pass e.before.before.before.requires e.loop.invariant s.before.before.if1.false
-    (λ w. c.before.before.if2.false (sym (standing s) ∙ w))
+    let s = c in
+    let e = s in
+    may-pass e.requires e.loop-i.invariant s.if-i-eq0.false
+    (λ w. c.if-cell-eq-WAITING.false (sym (standing s.before.before.before) ∙ w))
 
-add-offers : tie.Need-overflow-add-offers invariant-loop decreases-loop
+add-offers : tie.Need-overflow_add-offers invariant-loop decreases-loop
 add-offers c =
-    let e = c.before.before.before.before.before.before.before in
-    let way = e.loop.invariant.way in
+    let e = c in
+    let way = e.loop-i.invariant.way in
     record { fits = (let s = way.steps in let m = way.carrying.small in omega arith) }
 
-cell-requires-3 : tie.Need-cell-requires-3 invariant-loop decreases-loop
+cell-requires-3 : tie.Need-cell-i-requires-in-loop-i invariant-loop decreases-loop
 cell-requires-3 c κs =
-    let e = c.before.before.before.before.before.before.before.before in
-    let h = turn_in e.before.before.before.requires e.loop.invariant in
+    let e = c in
+    let h = turn_in e.requires e.loop-i.invariant in
     (omega arith, omega arith)
 
 -- the next task is the parent
 parent :
-    (c : tie.After-cell3 invariant-loop decreases-loop)
-    → c.cell3.result
-    ≡ at (contents c.before.before.pass.new.0).parents c.before.before.before.before.before.before.before.before.before.loop.i
+    (c : tie.After-cell-i-in-loop-i invariant-loop decreases-loop)
+    → c.cell-i-in-loop-i.result
+    ≡ at (contents c.pass-left.new.plan).parents c.loop-i.i
 parent c =
-    let e = c.before.before.before.before.before.before.before.before.before in
-    c.cell3.ensures
-    ∙ (row_read c.before.before.pass.new.0 e.loop.i (turn_in e.before.before.before.requires e.loop.invariant)).parent
+    let e = c in
+    c.cell-i-in-loop-i.ensures
+    ∙ (row_read c.pass-left.new.plan e.loop-i.i (turn_in e.requires e.loop-i.invariant)).parent
 
-loop-less : tie.Need-loop-smaller invariant-loop decreases-loop
+loop-less : tie.Need-loop-i-smaller invariant-loop decreases-loop
 loop-less c =
-    let p = c.before.before in
-    let s = p.before.before.before.before in
-    let e = s.before.before.before in
-    climb-shorter e.before.before.before.requires e.loop.invariant s.before.before.if1.false
-    (λ w. p.before.before.before.if2.false (sym (standing s) ∙ w)) p.pass.ensures.0 (parent c)
+    let p = c in
+    let s = p in
+    let e = s in
+    climb-shorter e.requires e.loop-i.invariant s.if-i-eq0.false
+    (λ w. p.if-cell-eq-WAITING.false (sym (standing s.before.before.before.before.before) ∙ w)) p.pass-left.ensures.0 (parent c)
 
-loop-again : tie.Need-loop-preserved invariant-loop decreases-loop
+loop-again : tie.Need-loop-i-preserved invariant-loop decreases-loop
 loop-again c =
-    let p = c.before.before in
-    let s = p.before.before.before.before in
-    let e = s.before.before.before in
-    climb-next e.before.before.before.requires e.loop.invariant s.before.before.if1.false
-    (λ w. p.before.before.before.if2.false (sym (standing s) ∙ w)) p.pass.ensures.0 (parent c) p.pass.ensures.1
-    p.before.before.if3.false
+    let p = c in
+    let s = p in
+    let e = s in
+    climb-next e.requires e.loop-i.invariant s.if-i-eq0.false
+    (λ w. p.if-cell-eq-WAITING.false (sym (standing s.before.before.before.before.before) ∙ w)) p.pass-left.ensures.0 (parent c) p.pass-left.ensures.1
+    p.if-left-eq0.false
 
-returns : tie.Need-returns invariant-loop decreases-loop
-returns c = climb-root c.before.before.before.before.requires c.before.loop.invariant c.if1.true
+returns : tie.Need-returns-then-i-eq0 invariant-loop decreases-loop
+returns c = climb-root c.requires c.loop-i.invariant c.if-i-eq0.true
 
-returns-2 : tie.Need-returns-2 invariant-loop decreases-loop
+returns-2 : tie.Need-returns-then-cell-eq-WAITING invariant-loop decreases-loop
 returns-2 c =
-    let s = c.before.before.before in
-    let e = s.before.before.before in
-    climb-waiting e.before.before.before.requires e.loop.invariant s.before.before.if1.false (standing s ∙ c.before.before.if2.true)
+    let s = c in
+    let e = s in
+    climb-waiting e.requires e.loop-i.invariant s.if-i-eq0.false (standing s.before.before.before ∙ c.if-cell-eq-WAITING.true)
     c.rest.ensures
 
-returns-3 : tie.Need-returns-3 invariant-loop decreases-loop
+returns-3 : tie.Need-returns-then-left-eq0 invariant-loop decreases-loop
 returns-3 c =
-    let e = c.before.before.before.before.before in
-    climb-nothing e.before.before.before.requires e.loop.invariant c.if3.true
+    let e = c in
+    climb-nothing e.requires e.loop-i.invariant c.if-left-eq0.true
 
-pub climb-spec : {M : Type 1} → statement M
-climb-spec =
+pub climb_spec : {M : Type 1} → statement M
+climb_spec =
     tie.close
     (tie.spec invariant-loop decreases-loop cell-requires (λ c. search rules) loop-holds cell-requires-2 rest-requires pass-requires add-offers
     cell-requires-3 (λ c. search rules) loop-less loop-again returns returns-2 returns-3)

@@ -7,30 +7,30 @@ use Rattle.dispatch.proofs.Feeding.{end-written}
 use Rattle.dispatch.proofs.end.Statement.{statement}
 use Rattle.dispatch.proofs.end.Tie as tie
 
-sub-set-cell : tie.Need-overflow-sub-set-cell
+sub-set-cell : tie.Need-overflow_sub-active
 sub-set-cell c =
-    let e = c.before.before.before.before.before in
-    let s = e.before.before in
-    omega (arith, e.cell.ensures ∙ (head_read s.args.plan.now).active, s.requires.some_run)
+    let e = c in
+    let s = e in
+    omega (arith, e.cell-active.ensures ∙ (head_read s.args.plan.now).active, s.requires.some_run)
 
-add-set-cell : tie.Need-overflow-add-set-cell
+add-set-cell : tie.Need-overflow_add-ended
 add-set-cell c =
-    let e = c.before.before.before.before.before in
-    let s = e.before.before.before.before in
-    record { fits = omega (arith, e.cell2.ensures ∙ (head_read s.args.plan.now).ended, s.requires.ended_fits) }
+    let e = c in
+    let s = e in
+    record { fits = omega (arith, e.cell-ended.ensures ∙ (head_read s.args.plan.now).ended, s.requires.ended_fits) }
 
 returns : tie.Need-returns
 returns c =
-    let two = c.before.before in
-    let one = two.before.before in
-    let d = one.before.before in
-    let a = d.before.before in
-    let s = a.before.before in
-    end-written s.args.plan.now one.set-cell.new.0 two.set-cell2.new.0 s.requires a.cell.ensures d.cell2.ensures
-    one.set-cell.ensures two.set-cell2.ensures c.set-cell3.ensures
+    let two = c in
+    let one = two in
+    let d = one in
+    let a = d in
+    let s = a in
+    end-written s.args.plan.now one.set_cell.new.plan two.set_cell-2.new.plan s.requires a.cell-active.ensures d.cell-ended.ensures
+    one.set_cell.ensures two.set_cell-2.ensures c.set_cell-3.ensures
 
-pub end-spec : {M : Type 1} → statement M
-end-spec =
+pub end_spec : {M : Type 1} → statement M
+end_spec =
     tie.close
     (tie.spec (λ c κs. search rules) (λ c κs. search rules) (λ c κs. search rules) sub-set-cell (λ c κs. search rules) add-set-cell
     (λ c κs. search rules) returns)

@@ -12,14 +12,14 @@ use Rattle.dispatch.specs.Ended.{with_progress, ended, root_ended}
 use Rattle.dispatch.proofs.end_root.Statement.{statement}
 use Rattle.dispatch.proofs.end_root.Tie as tie
 
-cell-requires : tie.Need-cell-requires
-cell-requires c κs = let inside = c.before.before.before.requires.task_in in (omega arith, omega arith)
+cell-requires : tie.Need-cell-out-requires
+cell-requires c κs = let inside = c.requires.task_in in (omega arith, omega arith)
 
-hold-alone-requires : tie.Need-hold-alone-requires
+hold-alone-requires : tie.Need-hold_alone-requires
 unfolding ended with_progress
 hold-alone-requires c κs =
-    let e = c.before.before.before in
-    let s = e.before.before in
+    let e = c in
+    let s = e in
     record {
       long = ap (λ (d : Contents). d.extent) e.end.ensures ∙ s.requires.long;
       offset = refl;
@@ -28,31 +28,31 @@ hold-alone-requires c κs =
     }
 
 -- the out that is read is the task's
-out : (c : tie.After-cell)
-    → c.cell.result
-    ≡ at (contents c.before.before.before.before.args.plan.now).stores.chilled.outs c.before.before.before.before.args.task
+out : (c : tie.After-cell-out)
+    → c.cell-out.result
+    ≡ at (contents c.args.plan.now).stores.chilled.outs c.args.task
 unfolding contents store_contents ended with_progress
 out c =
-    let e = c.before.before in
-    let s = e.before.before in
-    c.cell.ensures
-    ∙ column-at 6 e.end.new.0 s.args.task s.requires.task_in
+    let e = c in
+    let s = e in
+    c.cell-out.ensures
+    ∙ column-at 6 e.end.new.plan s.args.task s.requires.task_in
     ∙ ap (λ (d : Contents). at d.stores.chilled.outs s.args.task) e.end.ensures
 
 returns : tie.Need-returns
 unfolding root_ended ended with_progress
 returns c =
-    let k = c.before.before in
-    let e = k.before.before in
-    let s = e.before.before in
-    c.hold-alone.ensures
-    ∙ ap (λ (v : ℕ). with_store Kind.chilled (held_alone s.args.task v (contents e.end.new.0).stores.chilled) (contents e.end.new.0)) (out k)
+    let k = c in
+    let e = k in
+    let s = e in
+    c.hold_alone.ensures
+    ∙ ap (λ (v : ℕ). with_store Kind.chilled (held_alone s.args.task v (contents e.end.new.plan).stores.chilled) (contents e.end.new.plan)) (out k.before.before)
     ∙ ap
     (λ (d : Contents).
     with_store Kind.chilled (held_alone s.args.task (at (contents s.args.plan.now).stores.chilled.outs s.args.task) d.stores.chilled) d)
     e.end.ensures
 
-pub end-root-spec : {M : Type 1} → statement M
-end-root-spec =
+pub end_root_spec : {M : Type 1} → statement M
+end_root_spec =
     tie.close
     (tie.spec (λ c κs. search rules) (λ c. search rules) cell-requires hold-alone-requires returns)

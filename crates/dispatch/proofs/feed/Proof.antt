@@ -11,78 +11,78 @@ use Rattle.dispatch.proofs.feed.Statement.{statement}
 use Rattle.dispatch.proofs.feed.Tie as tie
 
 -- the children that are read are the parent's
-unended : (c : tie.After-cell) → c.cell.result ≡ at (contents c.before.before.args.plan.now).unended c.before.before.args.parent
+unended : (c : tie.After-cell-unended) → c.cell-unended.result ≡ at (contents c.args.plan.now).unended c.args.parent
 unended c =
-    let e = c.before.before in
-    c.cell.ensures ∙ (row_read e.args.plan.now e.args.parent e.requires.parent_in).unended
+    let e = c in
+    c.cell-unended.ensures ∙ (row_read e.args.plan.now e.args.parent e.requires.parent_in).unended
 
-sub-unended : tie.Need-overflow-sub-unended
+sub-unended : tie.Need-overflow_sub-unended
 sub-unended c =
-    let e = c.before.before in
+    let e = c in
     omega (arith, unended c, e.requires.unfed.waited)
 
 -- one child fewer
-fewer : (c : tie.After-set-cell)
-    → contents c.set-cell.new.0
-    ≡ waits_for_fewer c.before.before.before.before.args.parent (contents c.before.before.before.before.args.plan.now)
+fewer : (c : tie.After-set_cell)
+    → contents c.set_cell.new.plan
+    ≡ waits_for_fewer c.args.parent (contents c.args.plan.now)
 fewer c =
-    let e = c.before.before.before.before in
-    fewer-written e.args.plan.now e.args.parent e.requires (unended c.before.before) c.set-cell.ensures
+    let e = c in
+    fewer-written e.args.plan.now e.args.parent e.requires (unended c.before.before) c.set_cell.ensures
 
-place : (c : tie.After-cell3)
-    → c.cell3.result
-    ≡ at (contents c.before.before.before.before.before.before.set-cell.new.0).places c.before.before.before.before.before.before.before.before.before.before.args.parent
+place : (c : tie.After-cell-place)
+    → c.cell-place.result
+    ≡ at (contents c.set_cell.new.plan).places c.args.parent
 place c =
-    let s = c.before.before.before.before.before.before in
-    let e = s.before.before.before.before in
-    c.cell3.ensures ∙ (row_read s.set-cell.new.0 e.args.parent e.requires.parent_in).place
+    let s = c in
+    let e = s in
+    c.cell-place.ensures ∙ (row_read s.set_cell.new.plan e.args.parent e.requires.parent_in).place
 
 insert-requires : tie.Need-insert-requires
 insert-requires c κs =
-    let s = c.before.before.before.before.before.before.before in
-    let e = s.before.before.before.before in
-    may-insert e.requires (fewer s) (place c.before)
+    let s = c in
+    let e = s in
+    may-insert e.requires (fewer s.before.before.before.before.before) (place c.before)
 
 -- its standing is as before
-standing : (c : tie.After-cell2)
-    → at (contents c.before.before.before.before.before.before.before.args.plan.now).standings c.before.before.before.before.before.before.before.args.parent
-    ≡ c.cell2.result
+standing : (c : tie.After-cell)
+    → at (contents c.args.plan.now).standings c.args.parent
+    ≡ c.cell.result
 standing c =
-    let s = c.before.before.before in
-    let e = s.before.before.before.before in
+    let s = c in
+    let e = s in
     sym
-    (c.cell2.ensures
-    ∙ (row_read s.set-cell.new.0 e.args.parent e.requires.parent_in).standing
-    ∙ standing_is e.requires (fewer s))
+    (c.cell.ensures
+    ∙ (row_read s.set_cell.new.plan e.args.parent e.requires.parent_in).standing
+    ∙ standing_is e.requires (fewer s.before.before))
 
-ready : tie.Need-returns
+ready : tie.Need-returns-then-cell-eq-ACTIVATED
 ready c =
-    let t = c.before.before.before.before.before in
-    let s = t.before.before.before in
-    let e = s.before.before.before.before in
-    fed-ready e.requires (fewer s) c.insert.ensures (place c.before.before)
+    let t = c in
+    let s = t in
+    let e = s in
+    fed-ready e.requires (fewer s.before.before.before.before.before.before) c.insert.ensures (place c.before.before)
     (is-ready e.args.parent (contents e.args.plan.now)
-    (ap (λ (v : ℕ). v - 1) (sym (unended s.before.before)) ∙ t.before.before.if1.true)
-    (standing t ∙ c.before.before.before.before.if2.true))
+    (ap (λ (v : ℕ). v - 1) (sym (unended s.before.before.before.before.before.before.before.before)) ∙ t.if-unended-eq0.true)
+    (standing t.before.before.before.before ∙ c.if-cell-eq-ACTIVATED.true))
 
-booked : tie.Need-returns-2
+booked : tie.Need-returns-else-cell-eq-ACTIVATED
 booked c =
-    let t = c.before in
-    let s = t.before.before.before in
-    let e = s.before.before.before.before in
-    fed-still e.requires (fewer s)
-    (is-not-booked e.args.parent (contents e.args.plan.now) (λ a. c.if2.false (sym (standing t) ∙ a)))
+    let t = c in
+    let s = t in
+    let e = s in
+    fed-still e.requires (fewer s.before.before.before)
+    (is-not-booked e.args.parent (contents e.args.plan.now) (λ a. c.if-cell-eq-ACTIVATED.false (sym (standing t.before) ∙ a)))
 
-waits : tie.Need-returns-3
+waits : tie.Need-returns-else-unended-eq0
 waits c =
-    let s = c.before in
-    let e = s.before.before.before.before in
-    fed-still e.requires (fewer s)
+    let s = c in
+    let e = s in
+    fed-still e.requires (fewer s.before)
     (waits-still e.args.parent (contents e.args.plan.now)
-    (λ z. c.if1.false (ap (λ (v : ℕ). v - 1) (unended s.before.before) ∙ z)))
+    (λ z. c.if-unended-eq0.false (ap (λ (v : ℕ). v - 1) (unended s.before.before.before) ∙ z)))
 
-pub feed-spec : {M : Type 1} → statement M
-feed-spec =
+pub feed_spec : {M : Type 1} → statement M
+feed_spec =
     tie.close
     (tie.spec (λ c κs. search rules) sub-unended (λ c κs. search rules) (λ c κs. search rules) (λ c κs. search rules)
     (λ c. search rules) insert-requires ready booked waits)

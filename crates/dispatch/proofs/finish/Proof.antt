@@ -13,75 +13,75 @@ use Rattle.dispatch.proofs.Finishing.{may-release, may-climb, may_free, finishes
 use Rattle.dispatch.proofs.finish.Statement.{statement}
 use Rattle.dispatch.proofs.finish.Tie as tie
 
-cell-requires : tie.Need-cell-requires
+cell-requires : tie.Need-cell-parent-requires
 cell-requires c κs =
-    let s = c.before in
+    let s = c in
     let h = task_in s.requires (lengths s.args.plan.now) in
     (omega arith, omega arith)
 
 -- the parent that is read is the task's
-parent : (c : tie.After-cell) → c.cell.result ≡ at (contents c.before.before.args.plan.now).parents c.before.before.args.task
+parent : (c : tie.After-cell-parent) → c.cell-parent.result ≡ at (contents c.args.plan.now).parents c.args.task
 parent c =
-    let s = c.before.before in
+    let s = c in
     let w = s.args.plan.now in
-    c.cell.ensures ∙ (row_read w s.args.task (task_in s.requires (lengths w))).parent
+    c.cell-parent.ensures ∙ (row_read w s.args.task (task_in s.requires (lengths w))).parent
 
 end-requires : tie.Need-end-requires
-end-requires c κs = let s = c.before.before.before in may-end s.requires.kept s.requires.task s.requires.runs
+end-requires c κs = let s = c in may-end s.requires.kept s.requires.task s.requires.runs
 
 feed-requires : tie.Need-feed-requires
 feed-requires c κs =
-    let e = c.before in
-    let p = e.before.before in
-    let s = p.before.before in
-    subst (λ (d : Contents). MayFeed p.cell.result d) (sym e.end.ensures)
-    (subst (λ (q : ℕ). MayFeed q (ended s.args.task (contents s.args.plan.now))) (sym (parent p))
+    let e = c in
+    let p = e in
+    let s = p in
+    subst (λ (d : Contents). MayFeed p.cell-parent.result d) (sym e.end.ensures)
+    (subst (λ (q : ℕ). MayFeed q (ended s.args.task (contents s.args.plan.now))) (sym (parent p.before.before.before))
     (may-feed s.requires (lengths s.args.plan.now)))
 
 -- the parent is fed, as the end of the task left the plan
 fed :
     (c : tie.After-feed)
     → Fed
-    (at (contents c.before.before.before.before.before.before.args.plan.now).parents c.before.before.before.before.before.before.args.task)
-    (ended c.before.before.before.before.before.before.args.task (contents c.before.before.before.before.before.before.args.plan.now))
-    (contents c.feed.new.0)
+    (at (contents c.args.plan.now).parents c.args.task)
+    (ended c.args.task (contents c.args.plan.now))
+    (contents c.feed.new.plan)
 fed c =
-    let e = c.before.before in
-    let p = e.before.before in
-    let s = p.before.before in
+    let e = c in
+    let p = e in
+    let s = p in
     subst
-    (λ (q : ℕ). Fed q (ended s.args.task (contents s.args.plan.now)) (contents c.feed.new.0))
-    (parent p)
-    (subst (λ (d : Contents). Fed p.cell.result d (contents c.feed.new.0)) e.end.ensures c.feed.ensures)
+    (λ (q : ℕ). Fed q (ended s.args.task (contents s.args.plan.now)) (contents c.feed.new.plan))
+    (parent p.before.before.before.before)
+    (subst (λ (d : Contents). Fed p.cell-parent.result d (contents c.feed.new.plan)) e.end.ensures c.feed.ensures)
 
-release-requires : tie.Need-release-requires
+release-requires : tie.Need-release-units-requires
 release-requires c κs =
-    let f = c.before in
-    let s = f.before.before.before.before.before.before in
-    may-release s.requires (lengths s.args.plan.now) (fed f)
+    let f = c in
+    let s = f in
+    may-release s.requires (lengths s.args.plan.now) (fed f.before)
 
-climb-requires : tie.Need-climb-requires
+climb-requires : tie.Need-climb-passed-requires
 climb-requires c κs =
-    let r = c.before in
-    let f = r.before.before in
-    let s = f.before.before.before.before.before.before in
-    may-climb s.requires (lengths s.args.plan.now) (fed f) r.release.ensures.0 r.release.ensures.1
+    let r = c in
+    let f = r in
+    let s = f in
+    may-climb s.requires (lengths s.args.plan.now) (fed f.before.before.before) r.release-units.ensures.0 r.release-units.ensures.1
 
 free-requires : tie.Need-free-requires
 free-requires c κs =
-    let k = c.before in
-    let r = k.before.before in
-    let f = r.before.before in
-    let s = f.before.before.before.before.before.before in
-    may_free s.requires (lengths s.args.plan.now) (fed f) r.release.ensures.0 r.release.ensures.1 k.climb.ensures
+    let k = c in
+    let r = k in
+    let f = r in
+    let s = f in
+    may_free s.requires (lengths s.args.plan.now) (fed f.before.before.before.before.before) r.release-units.ensures.0 r.release-units.ensures.1 k.climb-passed.ensures
 
 returns : tie.Need-returns
 returns c =
-    let k = c.before.before in
-    let r = k.before.before in
-    let f = r.before.before in
-    let s = f.before.before.before.before.before.before in
-    finishes s.requires (lengths s.args.plan.now) (fed f) r.release.ensures.0 r.release.ensures.1 k.climb.ensures
+    let k = c in
+    let r = k in
+    let f = r in
+    let s = f in
+    finishes s.requires (lengths s.args.plan.now) (fed f.before.before.before.before.before.before) r.release-units.ensures.0 r.release-units.ensures.1 k.climb-passed.ensures
     c.free.ensures
 
 pub finish_spec : {M : Type 1} → statement M

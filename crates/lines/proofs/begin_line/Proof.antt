@@ -10,28 +10,28 @@ use Rattle.lines.proofs.begin_line.Tie as tie
 returns : tie.Need-returns
 unfolding ascii begin_line
 returns c =
-    let figures = c.before.before in
-    let by = figures.before.before.before.before in
-    let by_name = by.before.before.before.before in
-    let peak = by_name.before.before.before.before.before in
-    let begin = peak.before.before.before.before in
-    let lent = begin.before.before.before in
+    let figures = c in
+    let by = figures in
+    let by_name = by in
+    let peak = by_name in
+    let begin = peak in
+    let lent = begin in
     record {
       written =
           whole
-          (begin.text.ensures
-          then peak.decimal.ensures
-          then by_name.text2.ensures
-          then by.decimal2.ensures
+          (begin.text-next.ensures
+          then peak.decimal-next.ensures
+          then by_name.text-next-2.ensures
+          then by.decimal-next-2.ensures
           then figures.figures.ensures);
       short =
           λ few.
           begin_line-short _ _ _ _ _ few (omega arith) (omega arith) (omega arith)
-          (λ i. (lent.shared-slice-known.given i).fits) _ (omega arith) (omega (arith, lent.before.before.ranges));
+          (λ i. (lent.shared_slice_known-1.given i).fits) _ (omega arith) (omega (arith, lent.ranges));
     }
 
-pub begin-line-spec : {M : Type 1} → statement M
-begin-line-spec =
+pub begin_line_spec : {M : Type 1} → statement M
+begin_line_spec =
     tie.close
     (tie.spec
     (λ c. search rules)

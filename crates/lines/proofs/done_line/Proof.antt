@@ -10,28 +10,28 @@ use Rattle.lines.proofs.done_line.Tie as tie
 returns : tie.Need-returns
 unfolding ascii done_line
 returns c =
-    let figures = c.before.before in
-    let offers = figures.before.before.before.before in
-    let offers-name = offers.before.before.before.before in
-    let task = offers-name.before.before.before.before.before in
-    let done = task.before.before.before.before in
-    let lent = done.before.before.before in
+    let figures = c in
+    let offers = figures in
+    let offers-name = offers in
+    let task = offers-name in
+    let done = task in
+    let lent = done in
     record {
       written =
           whole
-          (done.text.ensures
-          then task.decimal.ensures
-          then offers-name.text2.ensures
-          then offers.decimal2.ensures
+          (done.text-next.ensures
+          then task.decimal-next.ensures
+          then offers-name.text-next-2.ensures
+          then offers.decimal-next-2.ensures
           then figures.figures.ensures);
       short =
           λ few.
           done_line-short _ _ _ _ _ few (omega arith) (omega arith) (omega arith)
-          (λ i. (lent.shared-slice-known.given i).fits) _ _ (omega (arith, lent.before.before.ranges)) (omega arith);
+          (λ i. (lent.shared_slice_known-1.given i).fits) _ _ (omega (arith, lent.ranges)) (omega arith);
     }
 
-pub done-line-spec : {M : Type 1} → statement M
-done-line-spec =
+pub done_line_spec : {M : Type 1} → statement M
+done_line_spec =
     tie.close
     (tie.spec
     (λ c. search rules)

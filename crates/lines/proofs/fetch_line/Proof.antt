@@ -10,16 +10,16 @@ use Rattle.lines.proofs.fetch_line.Tie as tie
 returns : tie.Need-returns
 unfolding ascii fetch_line
 returns c =
-    let feed = c.before.before in
-    let total = feed.before.before.before.before in
-    let name = total.before.before.before.before in
+    let feed = c in
+    let total = feed in
+    let name = total in
     record {
-      written = whole (name.text.ensures then total.decimal.ensures then feed.byte.ensures);
+      written = whole (name.text-next.ensures then total.decimal-next.ensures then feed.byte.ensures);
       short = λ _. fetch_line-short _ (omega arith);
     }
 
-pub fetch-line-spec : {M : Type 1} → statement M
-fetch-line-spec =
+pub fetch_line_spec : {M : Type 1} → statement M
+fetch_line_spec =
     tie.close
     (tie.spec
     (λ c. search rules)

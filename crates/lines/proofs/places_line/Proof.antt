@@ -10,20 +10,20 @@ use Rattle.lines.proofs.places_line.Tie as tie
 returns : tie.Need-returns
 unfolding ascii places_line
 returns c =
-    let figures = c.before.before in
-    let bound = figures.before.before.before.before in
-    let name = bound.before.before.before.before in
-    let lent = name.before.before.before in
+    let figures = c in
+    let bound = figures in
+    let name = bound in
+    let lent = name in
     record {
-      written = whole (name.text.ensures then bound.decimal.ensures then figures.figures.ensures);
+      written = whole (name.text-next.ensures then bound.decimal-next.ensures then figures.figures.ensures);
       short =
           λ few.
           places_line-short _ _ _ _ _ few (omega arith) (omega arith) (omega arith)
-          (λ i. (lent.shared-slice-known.given i).fits) _ (omega (arith, lent.before.before.ranges));
+          (λ i. (lent.shared_slice_known-1.given i).fits) _ (omega (arith, lent.ranges));
     }
 
-pub places-line-spec : {M : Type 1} → statement M
-places-line-spec =
+pub places_line_spec : {M : Type 1} → statement M
+places_line_spec =
     tie.close
     (tie.spec
     (λ c. search rules)

@@ -10,24 +10,24 @@ use Rattle.lines.proofs.refused_line.Tie as tie
 returns : tie.Need-returns
 unfolding ascii refused_line
 returns c =
-    let feed = c.before.before in
-    let offset = feed.before.before.before.before in
-    let at = offset.before.before.before.before in
-    let number = at.before.before.before.before.before in
-    let refused = number.before.before.before.before in
+    let feed = c in
+    let offset = feed in
+    let at = offset in
+    let number = at in
+    let refused = number in
     record {
       written =
           whole
-          (refused.text.ensures
-          then number.decimal.ensures
-          then at.text2.ensures
-          then offset.decimal2.ensures
+          (refused.text-next.ensures
+          then number.decimal-next.ensures
+          then at.text-next-2.ensures
+          then offset.decimal-next-2.ensures
           then feed.byte.ensures);
       short = λ _. refused_line-short _ _ (omega arith) (omega arith);
     }
 
-pub refused-line-spec : {M : Type 1} → statement M
-refused-line-spec =
+pub refused_line_spec : {M : Type 1} → statement M
+refused_line_spec =
     tie.close
     (tie.spec
     (λ c. search rules)

@@ -4,20 +4,20 @@ use Rattle.reader.specs.Onward.{onward}
 use Rattle.reader.proofs.ahead.Statement.{statement}
 use Rattle.reader.proofs.ahead.Tie as tie
 
-add-result : tie.Need-overflow-add-result
+add-result : tie.Need-overflow_add-result
 add-result c = search rules
 
-returns : tie.Need-returns
+returns : tie.Need-returns-then-used-end
 unfolding onward
 returns c = search rules
 
-returns-2 : tie.Need-returns-2
+returns-2 : tie.Need-returns-else-used-end
 unfolding onward
 returns-2 c = search rules
 
-returns-3 : tie.Need-returns-3
+returns-3 : tie.Need-returns-else-place-end
 unfolding onward
 returns-3 c = search rules
 
-pub ahead-spec : {M : Type 1} → statement M
-ahead-spec = tie.close (tie.spec add-result returns returns-2 returns-3)
+pub ahead_spec : {M : Type 1} → statement M
+ahead_spec = tie.close (tie.spec add-result returns returns-2 returns-3)

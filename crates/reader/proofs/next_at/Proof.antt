@@ -93,22 +93,22 @@ module _ {M : Type 1} {𝓤 : Ura M} (𝓛 : Logic 𝓤) (mem : Memory → SProp
   abbrev to_at : (At 𝓛 mem run).Ghost
   to_at = (((κ, tt), (q, tt), tt, (s, (n, tt)), passed), tt)
 
-  asked-at : ent 𝓤 (on_entry 𝓛 at.signature (κ, tt) (q, tt) (s, (n, tt)) passed) ((At 𝓛 mem run).pre to_at)
+  asked-at : ent 𝓤 (on_entry 𝓛 at.signature (κ, tt) (q, tt) (s, (n, tt)) passed) ((At 𝓛 mem run).requires to_at)
   asked-at = qed 𝓛 ((‵ (flft κ q) ⊛ ‵ ftrue) ∷ ‵ (owns (ShrSlice (named 0) κ u8 ∷ usize ∷ []) (s, (n, tt)) passed) ∷ []) ∵ join ! $ frame ! $ done !
 
   -- a stream is Copy: it goes to `at`, and is kept
-  goes : ent 𝓤 (on_entry 𝓛 next-at.signature (κ, tt) (q, tt) (s, (n, tt)) passed) (sep 𝓤 ((At 𝓛 mem run).pre to_at) (sem 𝓛 (Lent κ s)))
+  goes : ent 𝓤 (on_entry 𝓛 next-at.signature (κ, tt) (q, tt) (s, (n, tt)) passed) (sep 𝓤 ((At 𝓛 mem run).requires to_at) (sem 𝓛 (Lent κ s)))
   goes =
       qed 𝓛 ((‵ (flft κ q) ⊛ ‵ ftrue) ∷ ‵ (owns (ShrSlice (named 0) κ u8 ∷ usize ∷ []) (s, (n, tt)) passed) ∷ []) ∵
       move ! (1 ∷ []) $ fsplit ! $ use1 𝓛 (‵ (Lent κ s) ⊛ ‵ (Lent κ s)) ((shr_slice_copy 𝓛 (named 0) κ u8).twice s (value s ∷ [])) $ split ! $
       -- [what the stream owns; the same; what the number owns; the token]
-      move ! (0 ∷ 2 ∷ []) $ fjoin ! $ move ! (2 ∷ 0 ∷ []) $ use2 𝓛 (raw ((At 𝓛 mem run).pre to_at)) asked-at $ frame ! $ done !
+      move ! (0 ∷ 2 ∷ []) $ fjoin ! $ move ! (2 ∷ 0 ∷ []) $ use2 𝓛 (raw ((At 𝓛 mem run).requires to_at)) asked-at $ frame ! $ done !
 
   -- the call of `next`, on the reader d with the machine value u
   abbrev to-next : Reader → Val → (Next 𝓛 mem run).Ghost
   to-next d u = (((κ, tt), (q, tt), tt, (d, tt), (u ∷ [], tt)), tt)
 
-  asked-next : (d : Reader) (u : Val) → ent 𝓤 (⋆ 𝓛 (‵ ((Row (κ, tt)).own d (u ∷ [])) ∷ (‵ (flft κ q) ⊛ ‵ ftrue) ∷ [])) ((Next 𝓛 mem run).pre (to-next d u))
+  asked-next : (d : Reader) (u : Val) → ent 𝓤 (⋆ 𝓛 (‵ ((Row (κ, tt)).own d (u ∷ [])) ∷ (‵ (flft κ q) ⊛ ‵ ftrue) ∷ [])) ((Next 𝓛 mem run).requires (to-next d u))
   asked-next d u = qed 𝓛 (‵ ((Row (κ, tt)).own d (u ∷ [])) ∷ (‵ (flft κ q) ⊛ ‵ ftrue) ∷ []) ∵ nothing ! $ move ! (1 ∷ 0 ∷ []) $ fjoin ! $ move ! (1 ∷ 0 ∷ []) $ join ! $ frame ! $ done !
 
   -- neither lends anything to be changed, so that its clause alone is left
@@ -134,14 +134,14 @@ module _ {M : Type 1} {𝓤 : Ura M} (𝓛 : Logic 𝓤) (mem : Memory → SProp
         qed 𝓛 (raw (on_entry 𝓛 next-at.signature (κ, tt) (q, tt) (s, (n, tt)) passed) ∷ []) ∵ enter ! C Λ code.function (value s ∷ vint w64 n ∷ []) _ $
         alloc1 ! (λ l₀. alloc1 ! (λ l₁. alloc1 ! (λ l₂. alloc1 ! (λ l₃. alloc0 ! $ params1 ! $ pass1 ! (init ! 4 refl ((shr_slice_Lawful 𝓛 (named 0) κ u8).typed s (value s ∷ []) p).0) $ pass1 ! (init ! 2 refl (tt, record { fits = n-fits })) $ pass0 ! $
         -- [room for _3; …; _2; …; _1; …; room for _0; …; what is had on entry]
-        move ! (8 ∷ []) $ use1 𝓛 (raw ((At 𝓛 mem run).pre to_at) ⊛ ‵ (Lent κ s)) goes $ split ! $
+        move ! (8 ∷ []) $ use1 𝓛 (raw ((At 𝓛 mem run).requires to_at) ⊛ ‵ (Lent κ s)) goes $ split ! $
         calls_at ! fm (At 𝓛 mem run) known_at_lem to_at (and_then ! (load ! (from ! (stop !)) (look ! 6 refl)) (and_then ! (load ! (from ! (stop !)) (look ! 4 refl)) (no_more !))) (λ u.
         use1 𝓛 (later (some (λ (d : Reader). ((‵ (flft κ q) ⊛ ‵ ftrue) ⊛ ‵ ((Row (κ, tt)).own d (u ∷ []))) ⊛ raw (ensured 𝓛 at.ended (at.clauses 𝓛 mem run) (κ, tt) (s, (n, tt)) tt d)))) (id⊢ 𝓤 _) $ await ! tt $ pick ! (λ d.
         split ! $ move ! (1 ∷ []) $ use1 𝓛 (raw (fact 𝓤 (Placed d))) (at-said d) $ heard ! (Placed d) (λ e. split ! $ move ! (1 ∷ []) $
         -- [what the reader owns; the token; what the stream owns; room for _3; …; _2; …; _1; …; room for _0; …]
         peeks ! (Row (κ, tt)) (Is (Row (κ, tt))) (shows 𝓛 (Row (κ, tt))) d (u ∷ []) (λ is.
         land ! (from ! (stop !)) (init ! 3 refl ((LL.lawful (T.the_type local) (T'.the_laws local) 𝓛).typed d _ is).0) $
-        use2 𝓛 (raw ((Next 𝓛 mem run).pre (to-next d u))) (asked-next d u) $
+        use2 𝓛 (raw ((Next 𝓛 mem run).requires (to-next d u))) (asked-next d u) $
         calls_at ! fm (Next 𝓛 mem run) known_next (to-next d u) (and_then ! (load ! (from ! (stop !)) (look ! 2 refl)) (no_more !)) (λ u'.
         use1 𝓛 (later (some (λ (r : Decoded). ((‵ (flft κ q) ⊛ ‵ ftrue) ⊛ ‵ ((S.the_row).own_val r (u' ∷ []))) ⊛ raw (ensured 𝓛 next.ended (next.clauses 𝓛 mem run) (κ, tt) (d, tt) tt r)))) (id⊢ 𝓤 _) $ await ! tt $ pick ! (λ r.
         split ! $ move ! (1 ∷ []) $ use1 𝓛 (raw (fact 𝓤 (decoded r ≡ rules.decode d.bytes.now d.place))) (next-said d r) $ heard ! (decoded r ≡ rules.decode d.bytes.now d.place) (λ e'. split ! $ move ! (1 ∷ []) $
@@ -166,9 +166,9 @@ next-at-meets : {M : Type 1} {𝓤 : Ura M} (𝓛 : Logic 𝓤) (mem : Memory �
 next-at-meets {𝓤 = 𝓤} 𝓛 mem run 𝓣 known_at_lem known_next = walk_Meets 𝓛 next-at.ended stayed (Goes-none_slice 𝓛 1 (0 ∷ []) tt (plain (λ _. u8)) yes, (Goes-none 𝓛 1 (λ _. usize) yes (λ κs x f. refl), tt)) (next-at.clauses 𝓛 mem run) (WpFn 𝓤 𝓛.H 𝓣.C 𝓣.Λ code.function) (WpFn-mono 𝓤 𝓛.H 𝓛.laws 𝓣 code.function)
     (next-at-walks 𝓛 mem run 𝓣.C 𝓣.Λ (fm_of 𝓤 𝓛.H 𝓛.laws 𝓣) known_at_lem known_next)
 
-pub next-at-spec : {M : Type 1} → stated.statement M
+pub next_at_spec : {M : Type 1} → stated.statement M
 unfolding code.routine tables_of
-next-at-spec 𝓤 𝓛 𝓜 𝓡 =
+next_at_spec 𝓤 𝓛 𝓜 𝓡 =
     entered 𝓤 𝓛.H (triple_of 𝓛 next-at.signature (next-at.spec 𝓛 𝓜.mem 𝓡.run))
     (tables 𝓤 𝓛.H 𝓜 𝓡 code.env).C (tables 𝓤 𝓛.H 𝓜 𝓡 code.env).Λ #reader·next-at code.function (code.unfolded 𝓤 𝓛.H 𝓜 𝓡)
     (next-at-meets 𝓛 𝓜.mem 𝓡.run (tables_of 𝓤 𝓛.H 𝓜 (tables 𝓤 𝓛.H 𝓜 𝓡 code.env))

@@ -8,32 +8,32 @@ use Rattle.lines.proofs.tail.figures.Tie as tie
 returns : tie.Need-returns
 unfolding ascii figures
 returns c =
-    let feed = c.before.before in
-    let listed = feed.before.before.before.before in
-    let start = listed.before.before.before.before.before in
-    let full = start.before.before.before.before.before in
-    let full-name = full.before.before.before.before in
-    let used = full-name.before.before.before.before.before in
-    let used-name = used.before.before.before.before in
-    let booked = used-name.before.before.before.before.before in
-    let booked-name = booked.before.before.before.before in
+    let feed = c in
+    let listed = feed in
+    let start = listed in
+    let full = start in
+    let full-name = full in
+    let used = full-name in
+    let used-name = used in
+    let booked = used-name in
+    let booked-name = booked in
     let all =
-    booked-name.text.ensures
-    then booked.decimal.ensures
-    then used-name.text2.ensures
-    then used.decimal2.ensures
-    then full-name.text3.ensures
-    then full.decimal3.ensures
-    then start.text4.ensures
-    then listed.listed.ensures
+    booked-name.text-next.ensures
+    then booked.decimal-next.ensures
+    then used-name.text-next-2.ensures
+    then used.decimal-next-2.ensures
+    then full-name.text-next-3.ensures
+    then full.decimal-next-3.ensures
+    then start.text-next-4.ensures
+    then listed.listed-next.ensures
     then feed.byte.ensures in
-    rw listed.before.front.ensures at all
+    rw listed.front.ensures at all
 
-same_length : tie.Need-same-length
+same_length : tie.Need-shape_of-buffer
 same_length c = kept (returns c)
 
-pub figures-spec : {M : Type 1} → statement M
-figures-spec =
+pub figures_spec : {M : Type 1} → statement M
+figures_spec =
     tie.close
     (tie.spec
     (λ c. search rules)

@@ -19,19 +19,19 @@ unfolding listed
 some [] filled = absurd (filled refl)
 some (i ∷ later) filled = refl
 
-returns : tie.Need-returns
+returns : tie.Need-returns-then-starts-eq0
 unfolding ascii
 returns c =
-    let text = c.before.before in
-    rw (none _ text.before.before.before.if1.true) text.text.ensures
+    let text = c in
+    rw (none _ text.if-starts-eq0.true) text.text.ensures
 
-returns-2 : tie.Need-returns-2
+returns-2 : tie.Need-returns-else-starts-eq0
 returns-2 c =
-    let spaced = c.before.before in
-    rw (some _ spaced.before.before.if1.false) spaced.spaced.ensures
+    let spaced = c in
+    rw (some _ spaced.if-starts-eq0.false) spaced.spaced.ensures
 
-pub listed-spec : {M : Type 1} → statement M
-listed-spec =
+pub listed_spec : {M : Type 1} → statement M
+listed_spec =
     tie.close
     (tie.spec
     (λ c. search rules)

@@ -17,31 +17,31 @@ unfolding spaced
 grows [] i = refl
 grows (j ∷ later) i = rw (grows later i) (simp append_assoc)
 
-abbrev invariant-loop : tie.invariant-loop
+abbrev invariant-loop : tie.invariant-loop-i
 invariant-loop buffer₀ place starts next₀ i₀ buffer next i =
     Put (spaced (take i starts)) place buffer₀ buffer next × (i ≤ length starts)
 
-abbrev decreases-loop : tie.decreases-loop
+abbrev decreases-loop : tie.decreases-loop-i
 decreases-loop buffer₀ place starts next₀ i₀ buffer next i = length starts - i
 
-loop-holds : tie.Need-loop-init invariant-loop decreases-loop
+loop-holds : tie.Need-loop-i-init invariant-loop decreases-loop
 unfolding spaced
 loop-holds c = (nothing _ _, search rules)
 
-loop-again : tie.Need-loop-preserved invariant-loop decreases-loop
+loop-again : tie.Need-loop-i-preserved invariant-loop decreases-loop
 loop-again c =
-    let put = c.before.before in
-    let test = put.before.before.before in
-    (turn spaced grows _ _ test.loop-test.true test.before.loop.invariant.0 put.start.ensures, search rules)
+    let put = c in
+    let test = put in
+    (turn spaced grows _ _ test.loop-i-test.true test.loop-i.invariant.0 put.start-next.ensures, search rules)
 
-same_length : tie.Need-same-length invariant-loop decreases-loop
-same_length c = kept c.before.loop.invariant.0
+same_length : tie.Need-shape_of-buffer invariant-loop decreases-loop
+same_length c = kept c.loop-i.invariant.0
 
 returns : tie.Need-returns invariant-loop decreases-loop
-returns c = rw (take_all _ _ c.loop-test.false) at c.before.loop.invariant.0
+returns c = rw (take_all _ _ c.loop-i-test.false) at c.loop-i.invariant.0
 
-pub spaced-spec : {M : Type 1} → statement M
-spaced-spec =
+pub spaced_spec : {M : Type 1} → statement M
+spaced_spec =
     tie.close
     (tie.spec
     invariant-loop

@@ -9,9 +9,9 @@ use Rattle.lines.proofs.tail.start.Tie as tie
 returns : tie.Need-returns
 unfolding ascii spaced
 returns c =
-    let number = c.before.before in
-    let space = number.before.before.before.before in
-    rw append-nil (space.byte.ensures then number.decimal.ensures)
+    let number = c in
+    let space = number in
+    rw append-nil (space.byte-next.ensures then number.decimal.ensures)
 
 pub start_spec : {M : Type 1} → statement M
 start_spec = tie.close (tie.spec (λ c κs. search rules) (λ c κs. search rules) (λ c. search rules) returns)

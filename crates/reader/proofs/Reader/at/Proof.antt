@@ -66,11 +66,11 @@ module _ {M : Type 1} {𝓤 : Ura M} (𝓛 : Logic 𝓤) (mem : Memory → SProp
   Post = (walk_of 𝓛 at.ended stayed (at.clauses 𝓛 mem run)).post (((κ, tt), (q, tt), tt, (s, (n, tt)), passed), tt)
 
   -- a stream is Copy: it goes to the callee, and is kept
-  goes : ent 𝓤 (on_entry 𝓛 at.signature (κ, tt) (q, tt) (s, (n, tt)) passed) (sep 𝓤 ((Ahead 𝓛 mem run).pre (to 𝓛 mem run κ q s 0 n)) (sem 𝓛 (Lent κ s)))
+  goes : ent 𝓤 (on_entry 𝓛 at.signature (κ, tt) (q, tt) (s, (n, tt)) passed) (sep 𝓤 ((Ahead 𝓛 mem run).requires (to 𝓛 mem run κ q s 0 n)) (sem 𝓛 (Lent κ s)))
   goes =
       qed 𝓛 ((‵ (flft κ q) ⊛ ‵ ftrue) ∷ ‵ (owns (ShrSlice (named 0) κ u8 ∷ usize ∷ []) (s, (n, tt)) passed) ∷ []) ∵
       move ! (1 ∷ []) $ fsplit ! $ move ! (1 ∷ []) $ drop ! $ use1 𝓛 (‵ (Lent κ s) ⊛ ‵ (Lent κ s)) ((shr_slice_copy 𝓛 (named 0) κ u8).twice s (value s ∷ [])) $ split ! $
-      move ! (0 ∷ 2 ∷ []) $ use2 𝓛 (raw ((Ahead 𝓛 mem run).pre (to 𝓛 mem run κ q s 0 n))) (asked 𝓛 mem run κ q s 0 n (lit< tt) n-fits) $ frame ! $ done !
+      move ! (0 ∷ 2 ∷ []) $ use2 𝓛 (raw ((Ahead 𝓛 mem run).requires (to 𝓛 mem run κ q s 0 n))) (asked 𝓛 mem run κ q s 0 n (lit< tt) n-fits) $ frame ! $ done !
 
   exits : (r : ℕ) (u : Val) → r ≡ far → r < 2 ^ 64 → ent 𝓤 (⋆ 𝓛 (‵ (usize.own_val r (u ∷ [])) ∷ (‵ (flft κ q) ⊛ ‵ ftrue) ∷ ‵ (Lent κ s) ∷ [])) (Post (T'.lowered (made r)))
   exits r u e fits =
@@ -86,7 +86,7 @@ module _ {M : Type 1} {𝓤 : Ura M} (𝓛 : Logic 𝓤) (mem : Memory → SProp
         qed 𝓛 (raw (on_entry 𝓛 at.signature (κ, tt) (q, tt) (s, (n, tt)) passed) ∷ []) ∵ enter ! C Λ code.function (value s ∷ vint w64 n ∷ []) _ $
         alloc1 ! (λ l₀. alloc1 ! (λ l₁. alloc1 ! (λ l₂. alloc1 ! (λ l₃. alloc0 ! $ params1 ! $ pass1 ! (init ! 4 refl ((shr_slice_Lawful 𝓛 (named 0) κ u8).typed s (value s ∷ []) p).0) $ pass1 ! (init ! 2 refl (tt, record { fits = n-fits })) $ pass0 ! $
         -- [room for _3; …; _2; …; _1; …; room for _0; …; what is had on entry]
-        move ! (8 ∷ []) $ use1 𝓛 (raw ((Ahead 𝓛 mem run).pre (to 𝓛 mem run κ q s 0 n)) ⊛ ‵ (Lent κ s)) goes $ split ! $
+        move ! (8 ∷ []) $ use1 𝓛 (raw ((Ahead 𝓛 mem run).requires (to 𝓛 mem run κ q s 0 n)) ⊛ ‵ (Lent κ s)) goes $ split ! $
         calls_at ! fm (Ahead 𝓛 mem run) known (to 𝓛 mem run κ q s 0 n) (and_then ! (load ! (from ! (stop !)) (look ! 6 refl)) (and_then ! (lit ! tt) (and_then ! (load ! (from ! (stop !)) (look ! 4 refl)) (no_more !)))) (λ u.
         use1 𝓛 (later (some (λ (r : ℕ). ((‵ (flft κ q) ⊛ ‵ ftrue) ⊛ ‵ (usize.own_val r (u ∷ []))) ⊛ raw (Ensured 𝓛 mem run κ q s 0 n r)))) (id⊢ 𝓤 _) $ await ! tt $ pick ! (λ r.
         split ! $ move ! (1 ∷ []) $ use1 𝓛 (raw (fact 𝓤 (r ≡ far))) (said 𝓛 mem run κ q s 0 n r) $ heard ! (r ≡ far) (λ e. split ! $ move ! (1 ∷ []) $
@@ -112,9 +112,9 @@ at_meets : {M : Type 1} {𝓤 : Ura M} (𝓛 : Logic 𝓤) (mem : Memory → SPr
 at_meets {𝓤 = 𝓤} 𝓛 mem run 𝓣 known = walk_Meets 𝓛 at.ended stayed (Goes-none_slice 𝓛 1 (0 ∷ []) tt (plain (λ _. u8)) yes, (Goes-none 𝓛 1 (λ _. usize) yes (λ κs x f. refl), tt)) (at.clauses 𝓛 mem run) (WpFn 𝓤 𝓛.H 𝓣.C 𝓣.Λ code.function) (WpFn-mono 𝓤 𝓛.H 𝓛.laws 𝓣 code.function)
     (at_walks 𝓛 mem run 𝓣.C 𝓣.Λ (fm_of 𝓤 𝓛.H 𝓛.laws 𝓣) known)
 
-pub at-spec : {M : Type 1} → stated.statement M
+pub at_spec : {M : Type 1} → stated.statement M
 unfolding code.routine tables_of
-at-spec 𝓤 𝓛 𝓜 𝓡 =
+at_spec 𝓤 𝓛 𝓜 𝓡 =
     entered 𝓤 𝓛.H (triple_of 𝓛 at.signature (at.spec 𝓛 𝓜.mem 𝓡.run))
     (tables 𝓤 𝓛.H 𝓜 𝓡 code.env).C (tables 𝓤 𝓛.H 𝓜 𝓡 code.env).Λ #reader·at code.function (code.unfolded 𝓤 𝓛.H 𝓜 𝓡)
     (at_meets 𝓛 𝓜.mem 𝓡.run (tables_of 𝓤 𝓛.H 𝓜 (tables 𝓤 𝓛.H 𝓜 𝓡 code.env))

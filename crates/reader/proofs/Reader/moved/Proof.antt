@@ -68,11 +68,11 @@ module _ {M : Type 1} {𝓤 : Ura M} (𝓛 : Logic 𝓤) (mem : Memory → SProp
   Post = (walk_of 𝓛 moved.ended stayed (moved.clauses 𝓛 mem run)).post (((κ, tt), (q, tt), tt, (d, (n, tt)), passed), tt)
 
   -- the stream goes to the callee, and the reader is kept
-  goes : d.place < 2 ^ 64 → ent 𝓤 (on_entry 𝓛 moved.signature (κ, tt) (q, tt) (d, (n, tt)) passed) (sep 𝓤 ((Ahead 𝓛 mem run).pre (to 𝓛 mem run κ q d.bytes d.place n)) (sem 𝓛 (OwnReader κ d)))
+  goes : d.place < 2 ^ 64 → ent 𝓤 (on_entry 𝓛 moved.signature (κ, tt) (q, tt) (d, (n, tt)) passed) (sep 𝓤 ((Ahead 𝓛 mem run).requires (to 𝓛 mem run κ q d.bytes d.place n)) (sem 𝓛 (OwnReader κ d)))
   goes place-fits =
       qed 𝓛 ((‵ (flft κ q) ⊛ ‵ ftrue) ∷ ‵ (owns (Row (κ, tt) ∷ usize ∷ []) (d, (n, tt)) passed) ∷ []) ∵
       move ! (1 ∷ []) $ fsplit ! $ move ! (1 ∷ []) $ drop ! $ use1 𝓛 (‵ (Lent κ d.bytes) ⊛ ‵ (OwnReader κ d)) (lends 𝓛 κ d) $ split ! $
-      move ! (0 ∷ 2 ∷ []) $ use2 𝓛 (raw ((Ahead 𝓛 mem run).pre (to 𝓛 mem run κ q d.bytes d.place n))) (asked 𝓛 mem run κ q d.bytes d.place n place-fits n-fits) $ frame ! $ done !
+      move ! (0 ∷ 2 ∷ []) $ use2 𝓛 (raw ((Ahead 𝓛 mem run).requires (to 𝓛 mem run κ q d.bytes d.place n))) (asked 𝓛 mem run κ q d.bytes d.place n place-fits n-fits) $ frame ! $ done !
 
   exits : (r : ℕ) (u : Val) → r ≡ far → r < 2 ^ 64 → ent 𝓤 (⋆ 𝓛 (‵ (usize.own_val r (u ∷ [])) ∷ (‵ (flft κ q) ⊛ ‵ ftrue) ∷ ‵ (OwnReader κ d) ∷ [])) (Post (T'.lowered (after r)))
   exits r u e fits =
@@ -91,7 +91,7 @@ module _ {M : Type 1} {𝓤 : Ura M} (𝓛 : Logic 𝓤) (mem : Memory → SProp
         assigns ! (of_opd ! (load ! (from ! (fld ! refl (stop !))) (look_in ! 10 (sub ! 0 refl (whole !))))) (from ! (stop !)) (init ! 6 refl (tt, wt.1.0)) $
         assigns ! (of_opd ! (load ! (from ! (fld ! refl (stop !))) (look_in ! 10 (sub ! 0 refl (whole !))))) (from ! (stop !)) (init ! 2 refl (tt, wt.1.0)) $
         assigns ! (of_opd ! (load ! (from ! (fld ! refl (stop !))) (look_in ! 10 (sub ! 1 refl (whole !))))) (from ! (stop !)) (init ! 0 refl (tt, wt.1.1.0)) $
-        move ! (14 ∷ []) $ use1 𝓛 (raw ((Ahead 𝓛 mem run).pre (to 𝓛 mem run κ q d.bytes d.place n)) ⊛ ‵ (OwnReader κ d)) (goes wt.1.1.0.fits) $ split ! $
+        move ! (14 ∷ []) $ use1 𝓛 (raw ((Ahead 𝓛 mem run).requires (to 𝓛 mem run κ q d.bytes d.place n)) ⊛ ‵ (OwnReader κ d)) (goes wt.1.1.0.fits) $ split ! $
         calls_at ! fm (Ahead 𝓛 mem run) known (to 𝓛 mem run κ q d.bytes d.place n) (and_then ! (load ! (from ! (stop !)) (look ! 4 refl)) (and_then ! (load ! (from ! (stop !)) (look ! 2 refl)) (and_then ! (load ! (from ! (stop !)) (look ! 10 refl)) (no_more !)))) (λ u.
         use1 𝓛 (later (some (λ (r : ℕ). ((‵ (flft κ q) ⊛ ‵ ftrue) ⊛ ‵ (usize.own_val r (u ∷ []))) ⊛ raw (Ensured 𝓛 mem run κ q d.bytes d.place n r)))) (id⊢ 𝓤 _) $ await ! tt $ pick ! (λ r.
         split ! $ move ! (1 ∷ []) $ use1 𝓛 (raw (fact 𝓤 (r ≡ far))) (said 𝓛 mem run κ q d.bytes d.place n r) $ heard ! (r ≡ far) (λ e. split ! $ move ! (1 ∷ []) $
@@ -117,9 +117,9 @@ moved-meets : {M : Type 1} {𝓤 : Ura M} (𝓛 : Logic 𝓤) (mem : Memory → 
 moved-meets {𝓤 = 𝓤} 𝓛 mem run 𝓣 known = walk_Meets 𝓛 moved.ended stayed (Goes-none 𝓛 1 Row yes (λ κs x f. refl), (Goes-none 𝓛 1 (λ _. usize) yes (λ κs x f. refl), tt)) (moved.clauses 𝓛 mem run) (WpFn 𝓤 𝓛.H 𝓣.C 𝓣.Λ code.function) (WpFn-mono 𝓤 𝓛.H 𝓛.laws 𝓣 code.function)
     (moved-walks 𝓛 mem run 𝓣.C 𝓣.Λ (fm_of 𝓤 𝓛.H 𝓛.laws 𝓣) known)
 
-pub moved-spec : {M : Type 1} → stated.statement M
+pub moved_spec : {M : Type 1} → stated.statement M
 unfolding code.routine tables_of
-moved-spec 𝓤 𝓛 𝓜 𝓡 =
+moved_spec 𝓤 𝓛 𝓜 𝓡 =
     entered 𝓤 𝓛.H (triple_of 𝓛 moved.signature (moved.spec 𝓛 𝓜.mem 𝓡.run))
     (tables 𝓤 𝓛.H 𝓜 𝓡 code.env).C (tables 𝓤 𝓛.H 𝓜 𝓡 code.env).Λ #reader·moved code.function (code.unfolded 𝓤 𝓛.H 𝓜 𝓡)
     (moved-meets 𝓛 𝓜.mem 𝓡.run (tables_of 𝓤 𝓛.H 𝓜 (tables 𝓤 𝓛.H 𝓜 𝓡 code.env))

@@ -78,17 +78,17 @@ module _ {M : Type 1} {𝓤 : Ura M} (𝓛 : Logic 𝓤) (mem : Memory → SProp
   abbrev to : (Decode 𝓛 mem run).Ghost
   to = (((κ, tt), (q, tt), tt, (d.bytes, (d.place, tt)), passed), tt)
 
-  asked : ent 𝓤 (on_entry 𝓛 decode.signature (κ, tt) (q, tt) (d.bytes, (d.place, tt)) passed) ((Decode 𝓛 mem run).pre to)
+  asked : ent 𝓤 (on_entry 𝓛 decode.signature (κ, tt) (q, tt) (d.bytes, (d.place, tt)) passed) ((Decode 𝓛 mem run).requires to)
   asked = qed 𝓛 ((‵ (flft κ q) ⊛ ‵ ftrue) ∷ ‵ (owns (ShrSlice (named 0) κ u8 ∷ usize ∷ []) (d.bytes, (d.place, tt)) passed) ∷ []) ∵ join ! $ frame ! $ done !
 
   -- the stream goes to the callee, and the reader is kept
-  goes : d.place < 2 ^ 64 → ent 𝓤 (on_entry 𝓛 next.signature (κ, tt) (q, tt) (d, tt) (mach ∷ [], tt)) (sep 𝓤 ((Decode 𝓛 mem run).pre to) (sem 𝓛 (OwnReader κ d)))
+  goes : d.place < 2 ^ 64 → ent 𝓤 (on_entry 𝓛 next.signature (κ, tt) (q, tt) (d, tt) (mach ∷ [], tt)) (sep 𝓤 ((Decode 𝓛 mem run).requires to) (sem 𝓛 (OwnReader κ d)))
   goes fits =
       qed 𝓛 ((‵ (flft κ q) ⊛ ‵ ftrue) ∷ ‵ (owns (Row (κ, tt) ∷ []) (d, tt) (mach ∷ [], tt)) ∷ []) ∵
       move ! (1 ∷ []) $ fsplit ! $ move ! (1 ∷ []) $ drop ! $ use1 𝓛 (‵ (Lent κ d.bytes) ⊛ ‵ (OwnReader κ d)) (lends 𝓛 κ d) $ split ! $
       -- [what the stream owns; what the reader owns; the token]
       nothing ! $ owned ! usize (Is usize) (uint_Makes 𝓛 w64) d.place _ (refl, fits) $ fjoin ! $ move ! (1 ∷ 0 ∷ []) $ fjoin ! $
-      move ! (2 ∷ 0 ∷ []) $ use2 𝓛 (raw ((Decode 𝓛 mem run).pre to)) asked $ frame ! $ done !
+      move ! (2 ∷ 0 ∷ []) $ use2 𝓛 (raw ((Decode 𝓛 mem run).requires to)) asked $ frame ! $ done !
 
   -- it lends nothing to be changed, so that the clause alone is left
   said : (r : Decoded) → ent 𝓤 (ensured 𝓛 decode.ended (decode.clauses 𝓛 mem run) (κ, tt) (d.bytes, (d.place, tt)) tt r) (fact 𝓤 (decoded r ≡ found))
@@ -107,7 +107,7 @@ module _ {M : Type 1} {𝓤 : Ura M} (𝓛 : Logic 𝓤) (mem : Memory → SProp
         alloc1 ! (λ l₀. alloc1 ! (λ l₁. alloc1 ! (λ l₂. alloc1 ! (λ l₃. alloc0 ! $ params1 ! $ pass1 ! (init ! 4 refl wt) $ pass0 ! $
         assigns ! (of_opd ! (load ! (from ! (fld ! refl (stop !))) (look_in ! 4 (sub ! 0 refl (whole !))))) (from ! (stop !)) (init ! 2 refl (tt, wt.1.0)) $
         assigns ! (of_opd ! (load ! (from ! (fld ! refl (stop !))) (look_in ! 4 (sub ! 1 refl (whole !))))) (from ! (stop !)) (init ! 0 refl (tt, wt.1.1.0)) $
-        move ! (8 ∷ []) $ use1 𝓛 (raw ((Decode 𝓛 mem run).pre to) ⊛ ‵ (OwnReader κ d)) (goes wt.1.1.0.fits) $ split ! $
+        move ! (8 ∷ []) $ use1 𝓛 (raw ((Decode 𝓛 mem run).requires to) ⊛ ‵ (OwnReader κ d)) (goes wt.1.1.0.fits) $ split ! $
         calls_at ! fm (Decode 𝓛 mem run) known to (and_then ! (load ! (from ! (stop !)) (look ! 4 refl)) (and_then ! (load ! (from ! (stop !)) (look ! 2 refl)) (no_more !))) (λ u.
         use1 𝓛 (later (some (λ (r : Decoded). ((‵ (flft κ q) ⊛ ‵ ftrue) ⊛ ‵ ((S.the_row).own_val r (u ∷ []))) ⊛ raw (ensured 𝓛 decode.ended (decode.clauses 𝓛 mem run) (κ, tt) (d.bytes, (d.place, tt)) tt r)))) (id⊢ 𝓤 _) $ await ! tt $ pick ! (λ r.
         split ! $ move ! (1 ∷ []) $ use1 𝓛 (raw (fact 𝓤 (decoded r ≡ found))) (said r) $ heard ! (decoded r ≡ found) (λ e. split ! $ move ! (1 ∷ []) $
@@ -131,9 +131,9 @@ next-meets : {M : Type 1} {𝓤 : Ura M} (𝓛 : Logic 𝓤) (mem : Memory → S
 next-meets {𝓤 = 𝓤} 𝓛 mem run 𝓣 known = walk_Meets 𝓛 next.ended stayed (Goes-none 𝓛 1 Row yes (λ κs x f. refl), tt) (next.clauses 𝓛 mem run) (WpFn 𝓤 𝓛.H 𝓣.C 𝓣.Λ code.function) (WpFn-mono 𝓤 𝓛.H 𝓛.laws 𝓣 code.function)
     (next-walks 𝓛 mem run 𝓣.C 𝓣.Λ (fm_of 𝓤 𝓛.H 𝓛.laws 𝓣) known)
 
-pub next-spec : {M : Type 1} → stated.statement M
+pub next_spec : {M : Type 1} → stated.statement M
 unfolding code.routine tables_of
-next-spec 𝓤 𝓛 𝓜 𝓡 =
+next_spec 𝓤 𝓛 𝓜 𝓡 =
     entered 𝓤 𝓛.H (triple_of 𝓛 next.signature (next.spec 𝓛 𝓜.mem 𝓡.run))
     (tables 𝓤 𝓛.H 𝓜 𝓡 code.env).C (tables 𝓤 𝓛.H 𝓜 𝓡 code.env).Λ #reader·next code.function (code.unfolded 𝓤 𝓛.H 𝓜 𝓡)
     (next-meets 𝓛 𝓜.mem 𝓡.run (tables_of 𝓤 𝓛.H 𝓜 (tables 𝓤 𝓛.H 𝓜 𝓡 code.env))

@@ -74,9 +74,9 @@ place-meets : {M : Type 1} {𝓤 : Ura M} (𝓛 : Logic 𝓤) → (mem : Memory 
     → Meets 𝓛 place.signature (WpFn 𝓤 𝓛.H 𝓣.C 𝓣.Λ code.function) (place.spec 𝓛 mem run)
 place-meets {𝓤 = 𝓤} 𝓛 mem run 𝓣 = walk_Meets 𝓛 place.ended stayed (Goes-none 𝓛 1 Row yes (λ κs x f. refl), tt) (place.clauses 𝓛 mem run) (WpFn 𝓤 𝓛.H 𝓣.C 𝓣.Λ code.function) (WpFn-mono 𝓤 𝓛.H 𝓛.laws 𝓣 code.function) (place-walks 𝓛 mem run 𝓣.C 𝓣.Λ)
 
-pub place-spec : {M : Type 1} → stated.statement M
+pub place_spec : {M : Type 1} → stated.statement M
 unfolding code.routine tables_of
-place-spec 𝓤 𝓛 𝓜 𝓡 =
+place_spec 𝓤 𝓛 𝓜 𝓡 =
     entered 𝓤 𝓛.H (triple_of 𝓛 place.signature (place.spec 𝓛 𝓜.mem 𝓡.run))
     (tables 𝓤 𝓛.H 𝓜 𝓡 code.env).C (tables 𝓤 𝓛.H 𝓜 𝓡 code.env).Λ #reader·place code.function (code.unfolded 𝓤 𝓛.H 𝓜 𝓡)
     (place-meets 𝓛 𝓜.mem 𝓡.run (tables_of 𝓤 𝓛.H 𝓜 (tables 𝓤 𝓛.H 𝓜 𝓡 code.env)))
