@@ -22,7 +22,6 @@ pub fetch_line_spec : {M : Type 1} → statement M
 fetch_line_spec =
     tie.close
     (tie.spec
-    (λ c. search rules)
     (λ c κs. search rules)
     (λ c κs. search rules)
     (λ c κs. search rules)

@@ -26,7 +26,6 @@ pub places_line_spec : {M : Type 1} → statement M
 places_line_spec =
     tie.close
     (tie.spec
-    (λ c. search rules)
     (λ c κs. search rules)
     (λ c κs. search rules)
     (λ c κs. search rules)

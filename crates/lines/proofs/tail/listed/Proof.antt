@@ -34,7 +34,6 @@ pub listed_spec : {M : Type 1} → statement M
 listed_spec =
     tie.close
     (tie.spec
-    (λ c. search rules)
     (λ c κs. search rules)
     (λ c κs. search rules)
     (λ c. search rules)
