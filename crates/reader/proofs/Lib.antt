@@ -1,4 +1,2 @@
--- What the proofs of several functions cite, and what is proved of moving on.
-pub mod Parts
-pub mod AheadCall
+-- What is proved of moving on.
 pub mod Next
