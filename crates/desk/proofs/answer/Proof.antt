@@ -11,88 +11,88 @@ use Rattle.desk.proofs.Surveying.{InLimits, unequal, outside, strayed, unlisted,
 use Rattle.desk.proofs.answer.Statement.{statement}
 use Rattle.desk.proofs.answer.Tie as tie
 
-returns-unequal : tie.Need-returns
-returns-unequal c = rw c.refused.ensures (unequal _ _ _ _ _ c.before.if1.true)
+returns-unequal : tie.Need-returns-then-activation-n
+returns-unequal c = rw c.refused.ensures (unequal _ _ _ _ _ c.if-activation-n.true)
 
-returns-outside : tie.Need-returns-2
+returns-outside : tie.Need-returns-then-not-is_within
 returns-outside c =
-    rw c.refused2.ensures
-    (outside _ _ _ _ _ (sym c.before.before.is_Within.ensures ∙ not-true _ c.before.if2.true))
+    rw c.refused-then-not-is_within.ensures
+    (outside _ _ _ _ _ (sym c.is_within.ensures ∙ c.if-not-is_within.true))
 
-write-rows-requires : tie.Need-write-rows-requires
+write-rows-requires : tie.Need-write_rows-requires
 write-rows-requires c κs =
-    let sized = sym c.before.before.is_Within.ensures ∙ not-false _ c.before.if2.false in
-    ((within-task max_tasks _ sized).high, c.before.before.before.before.before.requires)
+    let sized = sym c.is_within.ensures ∙ c.if-not-is_within.false in
+    ((within-task max_tasks _ sized).high, c.requires)
 
-returns-strayed : tie.Need-returns-3
+returns-strayed : tie.Need-returns-then-not-write_rows
 returns-strayed c =
-    rw c.refused3.ensures
-    (strayed _ _ _ _ _ (sym c.before.before.write-rows.ensures.0 ∙ not-true _ c.before.if3.true))
+    rw c.refused-then-not-write_rows.ensures
+    (strayed _ _ _ _ _ (sym c.write_rows.ensures.0 ∙ c.if-not-write_rows.true))
 
-returns-unlisted : tie.Need-returns-4
+returns-unlisted : tie.Need-returns-then-not-is_listed
 returns-unlisted c =
-    rw c.refused4.ensures
-    (unlisted _ _ _ _ _ (sym c.before.before.is-listed.ensures ∙ not-true _ c.before.if4.true))
+    rw c.refused-then-not-is_listed.ensures
+    (unlisted _ _ _ _ _ (sym c.is_listed.ensures ∙ c.if-not-is_listed.true))
 
 -- past the limits
-abbrev start : tie.Else4 → tie.Start
+abbrev start : tie.Else-not-is_listed → tie.Start
 start c = c.before.before.before.before.before.before.before.before.before
 
 limits :
-    (c : tie.Else4)
+    (c : tie.Else-not-is_listed)
     → InLimits (start c).args.n (of_task (start c).args.n (start c).args.parents.now) (start c).args.activation.now
 limits c =
     record {
-      whole = c.before.before.before.before.before.before.before.if1.false;
-      sized = sym c.before.before.before.before.before.before.is_Within.ensures ∙ not-false _ c.before.before.before.before.before.if2.false;
-      parents = sym c.before.before.before.write-rows.ensures.0 ∙ not-false _ c.before.before.if3.false;
-      inside = sym c.before.is-listed.ensures ∙ not-false _ c.if4.false;
+      whole = c.if-activation-n.false;
+      sized = sym c.is_within.ensures ∙ c.if-not-is_within.false;
+      parents = sym c.write_rows.ensures.0 ∙ c.if-not-write_rows.false;
+      inside = sym c.is_listed.ensures ∙ c.if-not-is_listed.false;
     }
 
 -- every parent is a task or nobody
-in_rows : (c : tie.Else4) → c.before.before.before.write-rows.result ≡ true
-in_rows c = not-false _ c.before.before.if3.false
+in_rows : (c : tie.Else-not-is_listed) → c.write_rows.result ≡ true
+in_rows c = c.if-not-write_rows.false
 
-cast-size : tie.Need-overflow-cast-set-cell
+cast-size : tie.Need-overflow_cast-n
 cast-size c = omega (arith, within-task max_tasks (start c.before).args.n (limits c.before).sized)
 
-set-cell-requires : tie.Need-set-cell-requires
+set-cell-requires : tie.Need-set_cell-requires
 set-cell-requires c κs = (omega arith, omega arith)
 
-write-order-requires : tie.Need-write-order-requires
+write-order-requires : tie.Need-write_order-requires
 write-order-requires c κs =
-    let past = c.before.before.before in
-    may-list _ _ _ _ _ _ _ (past.before.before.before.write-rows.ensures.1 (in_rows past)) (limits past) c.before.set-cell.ensures
+    let past = c in
+    may-list _ _ _ _ _ _ _ (past.write_rows.ensures.1 (in_rows past.before.before.before)) (limits past.before.before.before) c.set_cell.ensures
 
-is-distinct-requires : tie.Need-is-distinct-requires
-is-distinct-requires c κs = c.before.write-order.ensures.ranked
+is-distinct-requires : tie.Need-is_distinct-requires
+is-distinct-requires c κs = c.write_order.ensures.ranked
 
-returns-twice : tie.Need-returns-5
+returns-twice : tie.Need-returns-then-not-is_distinct
 returns-twice c =
-    rw c.refused5.ensures
-    (twice _ _ _ _ _ (limits c.before.before.before.before.before.before.before.before) (sym c.before.before.is-distinct.ensures ∙ not-true _ c.before.if5.true))
+    rw c.refused-then-not-is_distinct.ensures
+    (twice _ _ _ _ _ (limits c.before.before.before.before.before.before.before) (sym c.is_distinct.ensures ∙ c.if-not-is_distinct.true))
 
 -- no task stands twice
-once : (c : tie.Else5) → distinct (start c.before.before.before.before.before.before.before).args.activation.now ≡ true
-once c = sym c.before.is-distinct.ensures ∙ not-false _ c.if5.false
+once : (c : tie.Else-not-is_distinct) → distinct (start c.before.before.before.before.before.before).args.activation.now ≡ true
+once c = sym c.is_distinct.ensures ∙ c.if-not-is_distinct.false
 
-survey-requires : tie.Need-survey-requires
+survey-requires : tie.Need-survey-surveyed-requires
 survey-requires c κs =
-    let past = c.before.before.before.before.before.before.before.before in
+    let past = c in
     may-survey _ _ _ _ _ _
-    (fill _ _ _ _ _ _ _ (past.before.before.before.write-rows.ensures.1 (in_rows past)) (limits past) c.before.before.before.before.before.before.set-cell.ensures _
-    c.before.before.before.before.write-order.ensures (once c.before))
+    (fill _ _ _ _ _ _ _ (past.write_rows.ensures.1 (in_rows past.before.before.before.before.before.before)) (limits past.before.before.before.before.before.before) c.set_cell.ensures _
+    c.write_order.ensures (once c))
 
-returns-surveyed : tie.Need-returns-6
+returns-surveyed : tie.Need-returns
 returns-surveyed c =
-    let past = c.before.before.before.before.before.before.before.before.before in
+    let past = c in
     told _ _ _ _ _ _
-    (fill _ _ _ _ _ _ _ (past.before.before.before.write-rows.ensures.1 (in_rows past)) (limits past) c.before.before.before.before.before.before.before.set-cell.ensures _
-    c.before.before.before.before.before.write-order.ensures (once c.before.before))
-    _ _ c.survey.ensures.0 c.survey.ensures.1
+    (fill _ _ _ _ _ _ _ (past.write_rows.ensures.1 (in_rows past.before.before.before.before.before.before.before)) (limits past.before.before.before.before.before.before.before) c.set_cell.ensures _
+    c.write_order.ensures (once c.before))
+    _ _ c.survey-surveyed.ensures.0 c.survey-surveyed.ensures.1
 
-pub answer-spec : {M : Type 1} → statement M
-answer-spec =
+pub answer_spec : {M : Type 1} → statement M
+answer_spec =
     tie.close
     (tie.spec
     (λ c κs. tt)

@@ -169,7 +169,7 @@ module _ {M : Type 1} {𝓤 : Ura M} (𝓛 : Logic 𝓤) (mem : Memory → SProp
   abbrev to-copied : (Copied 𝓛 mem run).Ghost
   to-copied = ((tt, tt, tt, (n, tt), (vint w64 n ∷ [], tt)), tt)
 
-  goes-copied : Room R n → ent 𝓤 (emp 𝓤) ((Copied 𝓛 mem run).pre to-copied)
+  goes-copied : Room R n → ent 𝓤 (emp 𝓤) ((Copied 𝓛 mem run).requires to-copied)
   goes-copied fits =
       qed 𝓛 [] ∵ owned ! usize (Is usize) (uint_Makes 𝓛 w64) n (vint w64 n ∷ []) (refl, fits.0) $ nothing ! $ move ! (1 ∷ 0 ∷ []) $
       join ! $ nothing ! $ join ! $ frame ! $ done !
@@ -200,7 +200,7 @@ module _ {M : Type 1} {𝓤 : Ura M} (𝓛 : Logic 𝓤) (mem : Memory → SProp
         assigns ! (rep ! 1025 (lit ! tt)) (from ! (stop !)) (init ! 38 refl (zeros-typed 𝓛 w16 1025 (lit< tt))) $
         assigns ! (rep ! 1025 (lit ! tt)) (from ! (stop !)) (init ! 36 refl (zeros-typed 𝓛 w16 1025 (lit< tt))) $
         assigns ! (of_opd ! (load ! (from ! (fld ! refl (stop !))) (look_in ! 46 (sub ! 1 refl (whole !))))) (from ! (stop !)) (init ! 28 refl (tt, record { fits = is-records.0.1.0 })) $
-        use0 𝓛 (raw ((Copied 𝓛 mem run).pre to-copied)) (goes-copied is-records.0.1) $
+        use0 𝓛 (raw ((Copied 𝓛 mem run).requires to-copied)) (goes-copied is-records.0.1) $
         calls_at ! fm (Copied 𝓛 mem run) known-copied to-copied (and_then ! (load ! (from ! (stop !)) (look ! 29 refl)) (no_more !)) (λ u.
         use1 𝓛 (later (some (λ (c : ℕ). (‵ ftrue ⊛ ‵ (usize.own_val c (u ∷ []))) ⊛ raw (ensured 𝓛 copied.ended (copied.clauses 𝓛 mem run) tt (n, tt) tt c)))) (id⊢ 𝓤 _) $ await ! tt $ pick ! (λ c.
         split ! $ move ! (1 ∷ []) $ use1 𝓛 (raw (fact 𝓤 (c ≡ min n max_tasks))) (copied-said c) $ heard ! (c ≡ min n max_tasks) (λ all. split ! $ drop ! $
@@ -251,9 +251,9 @@ module _ {M : Type 1} {𝓤 : Ura M} (𝓛 : Logic 𝓤) (mem : Memory → SProp
       )
       (desk-peak.clauses 𝓛 mem run) (WpFn 𝓤 H 𝓣.C 𝓣.Λ code.function) (WpFn-mono 𝓤 H 𝓛.laws 𝓣 code.function) walks
 
-pub peak-spec : {M : Type 1} → stated.statement M
+pub peak_spec : {M : Type 1} → stated.statement M
 unfolding code.routine tables_of
-peak-spec 𝓤 𝓛 𝓜 𝓡 =
+peak_spec 𝓤 𝓛 𝓜 𝓡 =
     entered 𝓤 𝓛.H (triple_of 𝓛 desk-peak.signature (desk-peak.spec 𝓛 𝓜.mem 𝓡.run))
     (tables 𝓤 𝓛.H 𝓜 𝓡 code.env).C (tables 𝓤 𝓛.H 𝓜 𝓡 code.env).Λ #desk·peak code.function (code.unfolded 𝓤 𝓛.H 𝓜 𝓡)
     (meets 𝓛 𝓜.mem 𝓡.run (tables_of 𝓤 𝓛.H 𝓜 (tables 𝓤 𝓛.H 𝓜 𝓡 code.env))

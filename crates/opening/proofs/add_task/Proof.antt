@@ -28,59 +28,59 @@ unfolding contents
 given-small w sound turn is-phase is-given =
     let small = in-columns (contents w) sound (sym is-phase ∙ turn) in omega arith
 
-late : tie.Need-returns
+late : tie.Need-returns-then-cell-ne-STEPS
 unfolding contents
 late c =
-    refusal 3 c.before.before.before.before.requires.sound c.refused.ensures (λ q. omega arith)
-    (add-late (contents c.before.before.before.before.args.plan.now) c.before.before.before.before.args.parent c.before.before.before.before.args.work c.before.before.before.before.args.out
-    (λ e. c.before.if1.true (c.before.before.cell.ensures ∙ e)))
+    refusal 3 c.requires.sound c.refused.ensures (λ q. omega arith)
+    (add-late (contents c.args.plan.now) c.args.parent c.args.work c.args.out
+    (λ e. c.if-cell-ne-STEPS.true (c.cell.ensures ∙ e)))
 
-no-parent : tie.Need-returns-2
+no-parent : tie.Need-returns-then-size-parent
 unfolding contents
 no-parent c =
-    refusal 4 c.before.before.before.before.before.before.before.requires.sound c.refused2.ensures (λ q. omega arith)
-    (add-parent (contents c.before.before.before.before.before.before.before.args.plan.now) c.before.before.before.before.before.before.before.args.parent c.before.before.before.before.before.before.before.args.work c.before.before.before.before.before.before.before.args.out
-    (sym c.before.before.before.before.before.cell.ensures ∙ c.before.before.before.before.if1.false) (omega (arith, c.before.if2.true, c.before.before.cell2.ensures)))
+    refusal 4 c.requires.sound c.refused-then-size-parent.ensures (λ q. omega arith)
+    (add-parent (contents c.args.plan.now) c.args.parent c.args.work c.args.out
+    (sym c.cell.ensures ∙ c.if-cell-ne-STEPS.false) (omega (arith, c.if-size-parent.true, c.cell-size.ensures)))
 
-set-cell-requires : tie.Need-set-cell-requires
+set-cell-requires : tie.Need-set_cell-requires
 set-cell-requires c κs =
-    (given-small c.before.before.before.before.before.before.before.before.before.args.plan.now c.before.before.before.before.before.before.before.before.before.requires.sound c.before.before.before.before.before.before.if1.false c.before.before.before.before.before.before.before.cell.ensures c.before.cell3.ensures, omega arith)
+    (given-small c.args.plan.now c.requires.sound c.if-cell-ne-STEPS.false c.cell.ensures c.cell-given.ensures, omega arith)
 
-set-cell-requires-2 : tie.Need-set-cell-requires-2
+set-cell-requires-2 : tie.Need-set_cell-requires-2
 set-cell-requires-2 c κs =
-    (given-small c.before.before.before.before.before.before.before.before.before.before.before.args.plan.now c.before.before.before.before.before.before.before.before.before.before.before.requires.sound c.before.before.before.before.before.before.before.before.if1.false c.before.before.before.before.before.before.before.before.before.cell.ensures c.before.before.before.cell3.ensures, omega arith)
+    (given-small c.args.plan.now c.requires.sound c.if-cell-ne-STEPS.false c.cell.ensures c.cell-given.ensures, omega arith)
 
-set-cell-requires-3 : tie.Need-set-cell-requires-3
+set-cell-requires-3 : tie.Need-set_cell-requires-3
 set-cell-requires-3 c κs =
-    (given-small c.before.before.before.before.before.before.before.before.before.before.before.before.before.args.plan.now c.before.before.before.before.before.before.before.before.before.before.before.before.before.requires.sound c.before.before.before.before.before.before.before.before.before.before.if1.false c.before.before.before.before.before.before.before.before.before.before.before.cell.ensures c.before.before.before.before.before.cell3.ensures, omega arith)
+    (given-small c.args.plan.now c.requires.sound c.if-cell-ne-STEPS.false c.cell.ensures c.cell-given.ensures, omega arith)
 
-add-set-cell-3 : tie.Need-overflow-add-set-cell-3
-add-set-cell-3 c = omega (arith, given-small c.before.before.before.before.before.before.before.before.before.before.before.before.before.before.before.args.plan.now c.before.before.before.before.before.before.before.before.before.before.before.before.before.before.before.requires.sound c.before.before.before.before.before.before.before.before.before.before.before.before.if1.false c.before.before.before.before.before.before.before.before.before.before.before.before.before.cell.ensures c.before.before.before.before.before.before.before.cell3.ensures)
+add-set-cell-3 : tie.Need-overflow_add-given
+add-set-cell-3 c = omega (arith, given-small c.args.plan.now c.requires.sound c.if-cell-ne-STEPS.false c.cell.ensures c.cell-given.ensures)
 
-adds : tie.Need-returns-3
+adds : tie.Need-returns
 unfolding contents
 adds c =
-    let w = c.before.before.before.before.before.before.before.before.before.before.before.before.before.before.before.before.before.before.before.before.args.plan.now in
-    let sound = c.before.before.before.before.before.before.before.before.before.before.before.before.before.before.before.before.before.before.before.before.requires.sound in
-    let turn = sym c.before.before.before.before.before.before.before.before.before.before.before.before.before.before.before.before.before.before.cell.ensures ∙ c.before.before.before.before.before.before.before.before.before.before.before.before.before.before.before.before.before.if1.false in
+    let w = c.args.plan.now in
+    let sound = c.requires.sound in
+    let turn = sym c.cell.ensures ∙ c.if-cell-ne-STEPS.false in
     let small = in-columns (contents w) sound turn in
-    let given = c.before.before.before.before.before.before.before.before.before.before.before.before.cell3.ensures in
-    let work = c.before.before.before.before.before.before.before.before.before.before.before.before.before.before.before.before.before.before.before.before.ranges.work in
-    let out = c.before.before.before.before.before.before.before.before.before.before.before.before.before.before.before.before.before.before.before.before.ranges.out in
+    let given = c.cell-given.ensures in
+    let work = c.ranges.work in
+    let out = c.ranges.out in
     acceptance
-    (add_free (contents w) c.before.before.before.before.before.before.before.before.before.before.before.before.before.before.before.before.before.before.before.before.args.parent c.before.before.before.before.before.before.before.before.before.before.before.before.before.before.before.before.before.before.before.before.args.work c.before.before.before.before.before.before.before.before.before.before.before.before.before.before.before.before.before.before.before.before.args.out turn
-    (omega (arith, c.before.before.before.before.before.before.before.before.before.before.before.before.before.before.if2.false, c.before.before.before.before.before.before.before.before.before.before.before.before.before.before.before.cell2.ensures)) (omega arith) (omega arith))
+    (add_free (contents w) c.args.parent c.args.work c.args.out turn
+    (omega (arith, c.if-size-parent.false, c.cell-size.ensures)) (omega arith) (omega arith))
     c.plain.ensures
-    (filled-contents w c.before.before.before.before.before.before.before.before.before.before.set-cell.new.0 c.before.before.before.before.before.before.before.before.set-cell2.new.0 c.before.before.before.before.before.before.set-cell3.new.0 c.before.before.before.before.set-cell4.new.0
-    c.before.before.before.before.before.before.before.before.before.before.before.before.cell3.result c.before.before.before.before.before.before.before.before.before.before.before.before.before.before.before.before.before.before.before.before.args.parent c.before.before.before.before.before.before.before.before.before.before.before.before.before.before.before.before.before.before.before.before.args.work c.before.before.before.before.before.before.before.before.before.before.before.before.before.before.before.before.before.before.before.before.args.out c.before.before.phase-after.result sound.long (omega arith) given
-    c.before.before.before.before.before.before.before.before.before.before.set-cell.ensures c.before.before.before.before.before.before.before.before.set-cell2.ensures c.before.before.before.before.before.before.set-cell3.ensures c.before.before.before.before.set-cell4.ensures c.before.set-cell5.ensures
-    ∙ ap (λ (f : ℕ). filled (contents w) f c.before.before.before.before.before.before.before.before.before.before.before.before.before.before.before.before.before.before.before.before.args.parent c.before.before.before.before.before.before.before.before.before.before.before.before.before.before.before.before.before.before.before.before.args.work c.before.before.before.before.before.before.before.before.before.before.before.before.before.before.before.before.before.before.before.before.args.out)
-    (c.before.before.phase-after.ensures ∙ ap₂ (λ (g n : ℕ). cond (eqb g n) Phase.orders Phase.steps) given c.before.before.before.before.before.before.before.before.before.before.before.before.before.before.before.cell2.ensures))
-    (filled-means (contents w) c.before.before.before.before.before.before.before.before.before.before.before.before.before.before.before.before.before.before.before.before.args.parent c.before.before.before.before.before.before.before.before.before.before.before.before.before.before.before.before.before.before.before.before.args.work c.before.before.before.before.before.before.before.before.before.before.before.before.before.before.before.before.before.before.before.before.args.out sound (lengths w) turn)
-    (filled-sound (contents w) c.before.before.before.before.before.before.before.before.before.before.before.before.before.before.before.before.before.before.before.before.args.parent c.before.before.before.before.before.before.before.before.before.before.before.before.before.before.before.before.before.before.before.before.args.work c.before.before.before.before.before.before.before.before.before.before.before.before.before.before.before.before.before.before.before.before.args.out sound (lengths w) turn (omega arith) (omega arith))
+    (filled-contents w c.set_cell.new.plan c.set_cell-2.new.plan c.set_cell-3.new.plan c.set_cell-4.new.plan
+    c.cell-given.result c.args.parent c.args.work c.args.out c.phase_after.result sound.long (omega arith) given
+    c.set_cell.ensures c.set_cell-2.ensures c.set_cell-3.ensures c.set_cell-4.ensures c.set_cell-5.ensures
+    ∙ ap (λ (f : ℕ). filled (contents w) f c.args.parent c.args.work c.args.out)
+    (c.phase_after.ensures ∙ ap₂ (λ (g n : ℕ). cond (eqb g n) Phase.orders Phase.steps) given c.cell-size.ensures))
+    (filled-means (contents w) c.args.parent c.args.work c.args.out sound (lengths w) turn)
+    (filled-sound (contents w) c.args.parent c.args.work c.args.out sound (lengths w) turn (omega arith) (omega arith))
 
-pub add-task-spec : {M : Type 1} → statement M
-add-task-spec =
+pub add_task_spec : {M : Type 1} → statement M
+add_task_spec =
     tie.close
     (tie.spec
     (λ c κs. search rules)

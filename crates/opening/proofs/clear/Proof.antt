@@ -5,32 +5,32 @@ use Rattle.opening.proofs.Clearing.{Clearing, clearing-first, clearing-in, clear
 use Rattle.opening.proofs.clear.Statement.{statement}
 use Rattle.opening.proofs.clear.Tie as tie
 
-abbrev invariant-loop : tie.invariant-loop
+abbrev invariant-loop : tie.invariant-loop-q
 invariant-loop plan₀ from to q₀ plan q = Clearing from to plan₀ plan q
 
-abbrev decreases-loop : tie.decreases-loop
+abbrev decreases-loop : tie.decreases-loop-q
 decreases-loop plan₀ from to q₀ plan q = to - q
 
-loop-holds : tie.Need-loop-init invariant-loop decreases-loop
+loop-holds : tie.Need-loop-q-init invariant-loop decreases-loop
 loop-holds c = clearing-first c.requires
 
-mul-plan : tie.Need-overflow-mul-plan invariant-loop decreases-loop
-mul-plan c = omega (arith, clearing-in c.before.loop.invariant c.loop-test.true)
+mul-plan : tie.Need-offset_bounds-plan-q invariant-loop decreases-loop
+mul-plan c = omega (arith, clearing-in c.loop-q.invariant c.loop-q-test.true)
 
-element-write-plan : tie.Need-element-write-plan invariant-loop decreases-loop
-element-write-plan c = omega (arith, clearing-in c.before.loop.invariant c.loop-test.true)
+element-write-plan : tie.Need-bounds-plan-q invariant-loop decreases-loop
+element-write-plan c = omega (arith, clearing-in c.loop-q.invariant c.loop-q-test.true)
 
-add-q : tie.Need-overflow-add-q invariant-loop decreases-loop
-add-q c = omega (arith, clearing-in c.before.loop.invariant c.loop-test.true)
+add-q : tie.Need-overflow_add-q invariant-loop decreases-loop
+add-q c = omega (arith, clearing-in c.loop-q.invariant c.loop-q-test.true)
 
-loop-less : tie.Need-loop-smaller invariant-loop decreases-loop
+loop-less : tie.Need-loop-q-smaller invariant-loop decreases-loop
 loop-less c = omega arith
 
-loop-again : tie.Need-loop-preserved invariant-loop decreases-loop
-loop-again c = clearing-next c.before.loop.invariant c.loop-test.true
+loop-again : tie.Need-loop-q-preserved invariant-loop decreases-loop
+loop-again c = clearing-next c.loop-q.invariant c.loop-q-test.true
 
 returns : tie.Need-returns invariant-loop decreases-loop
-returns c = clearing-end c.before.loop.invariant c.loop-test.false
+returns c = clearing-end c.loop-q.invariant c.loop-q-test.false
 
 pub clear_spec : {M : Type 1} → statement M
 clear_spec =

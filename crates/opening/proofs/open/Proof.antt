@@ -13,51 +13,51 @@ use Rattle.opening.proofs.Opening.{blank, opening-sound, opening-means, open-lat
 use Rattle.opening.proofs.open.Statement.{statement}
 use Rattle.opening.proofs.open.Tie as tie
 
-late : tie.Need-returns
+late : tie.Need-returns-then-holds_trays
 unfolding contents
 late c =
-    refusal 3 c.before.before.before.before.before.requires.sound c.refused.ensures (λ q. omega arith)
-    (open-late (contents c.before.before.before.before.before.args.plan.now) c.before.before.before.before.before.args.n c.before.before.before.before.before.args.processors c.before.before.before.before.before.args.bound
-    (ap Phase.holds_trays (sym c.before.before.before.cell.ensures) ∙ sym c.before.before.holds-trays.ensures ∙ c.before.if1.true))
+    refusal 3 c.requires.sound c.refused.ensures (λ q. omega arith)
+    (open-late (contents c.args.plan.now) c.args.n c.args.processors c.args.bound
+    (ap Phase.holds_trays (sym c.cell.ensures) ∙ sym c.holds_trays.ensures ∙ c.if-holds_trays.true))
 
-too-many-tasks : tie.Need-returns-2
+too-many-tasks : tie.Need-returns-then-not-is_within
 unfolding contents
 too-many-tasks c =
-    refusal 4 c.before.before.before.before.before.before.before.requires.sound c.refused2.ensures (λ q. omega arith)
-    (open-tasks (contents c.before.before.before.before.before.before.before.args.plan.now) c.before.before.before.before.before.before.before.args.n c.before.before.before.before.before.before.before.args.processors c.before.before.before.before.before.before.before.args.bound
-    (ap Phase.holds_trays (sym c.before.before.before.before.before.cell.ensures) ∙ sym c.before.before.before.before.holds-trays.ensures ∙ c.before.before.before.if1.false) (sym c.before.before.is_Within.ensures ∙ not-true _ c.before.if2.true))
+    refusal 4 c.requires.sound c.refused-then-not-is_within.ensures (λ q. omega arith)
+    (open-tasks (contents c.args.plan.now) c.args.n c.args.processors c.args.bound
+    (ap Phase.holds_trays (sym c.cell.ensures) ∙ sym c.holds_trays.ensures ∙ c.if-holds_trays.false) (sym c.is_within.ensures ∙ c.if-not-is_within.true))
 
-too-many-processors : tie.Need-returns-3
+too-many-processors : tie.Need-returns-then-not-is_within-2
 unfolding contents
 too-many-processors c =
-    refusal 4 c.before.before.before.before.before.before.before.before.before.requires.sound c.refused3.ensures (λ q. omega arith)
-    (open-processors (contents c.before.before.before.before.before.before.before.before.before.args.plan.now) c.before.before.before.before.before.before.before.before.before.args.n c.before.before.before.before.before.before.before.before.before.args.processors c.before.before.before.before.before.before.before.before.before.args.bound
-    (ap Phase.holds_trays (sym c.before.before.before.before.before.before.before.cell.ensures) ∙ sym c.before.before.before.before.before.before.holds-trays.ensures ∙ c.before.before.before.before.before.if1.false) (sym c.before.before.is-within2.ensures ∙ not-true _ c.before.if3.true))
+    refusal 4 c.requires.sound c.refused-then-not-is_within-2.ensures (λ q. omega arith)
+    (open-processors (contents c.args.plan.now) c.args.n c.args.processors c.args.bound
+    (ap Phase.holds_trays (sym c.cell.ensures) ∙ sym c.holds_trays.ensures ∙ c.if-holds_trays.false) (sym c.is_within-2.ensures ∙ c.if-not-is_within-2.true))
 
 empty-requires : tie.Need-empty-requires
 unfolding contents
 empty-requires c κs =
-    record { long = c.before.before.before.before.before.before.before.before.before.before.before.requires.sound.long; few = omega (arith, c.before.before.before.before.before.before.before.before.before.before.before.requires.sound.small, c.before.cell2.ensures) }
+    record { long = c.requires.sound.long; few = omega (arith, c.requires.sound.small, c.cell-tasks.ensures) }
 
-opens : tie.Need-returns-4
+opens : tie.Need-returns
 unfolding contents
 opens c =
-    let w = c.before.before.before.before.before.before.before.before.before.before.before.before.before.before.before.before.before.before.before.before.before.before.before.args.plan.now in
-    let sound = c.before.before.before.before.before.before.before.before.before.before.before.before.before.before.before.before.before.before.before.before.before.before.before.requires.sound in
-    let emptied = subst (λ (t : ℕ). Emptied t w c.before.before.before.before.before.before.before.before.before.before.before.empty.new.0) c.before.before.before.before.before.before.before.before.before.before.before.before.before.cell2.ensures c.before.before.before.before.before.before.before.before.before.before.before.empty.ensures in
-    let bare = blank sound.small sound.long emptied (nothing-past (contents w) sound c.before.before.before.before.before.before.before.before.before.before.before.before.before.before.before.before.before.before.before.before.before.before.before.requires.reached) in
-    let tasks = sym c.before.before.before.before.before.before.before.before.before.before.before.before.before.before.before.before.before.before.is_Within.ensures ∙ not-false _ c.before.before.before.before.before.before.before.before.before.before.before.before.before.before.before.before.before.if2.false in
-    let staff = sym c.before.before.before.before.before.before.before.before.before.before.before.before.before.before.before.before.is-within2.ensures ∙ not-false _ c.before.before.before.before.before.before.before.before.before.before.before.before.before.before.before.if3.false in
-    let fits = c.before.before.before.before.before.before.before.before.before.before.before.before.before.before.before.before.before.before.before.before.before.before.before.ranges.bound.fits in
+    let w = c.args.plan.now in
+    let sound = c.requires.sound in
+    let emptied = subst (λ (t : ℕ). Emptied t w c.empty.new.plan) c.cell-tasks.ensures c.empty.ensures in
+    let bare = blank sound.small sound.long emptied (nothing-past (contents w) sound c.requires.reached) in
+    let tasks = sym c.is_within.ensures ∙ c.if-not-is_within.false in
+    let staff = sym c.is_within-2.ensures ∙ c.if-not-is_within-2.false in
+    let fits = c.ranges.bound.fits in
     acceptance
-    (open_free (contents w) c.before.before.before.before.before.before.before.before.before.before.before.before.before.before.before.before.before.before.before.before.before.before.before.args.n c.before.before.before.before.before.before.before.before.before.before.before.before.before.before.before.before.before.before.before.before.before.before.before.args.processors c.before.before.before.before.before.before.before.before.before.before.before.before.before.before.before.before.before.before.before.before.before.before.before.args.bound (ap Phase.holds_trays (sym c.before.before.before.before.before.before.before.before.before.before.before.before.before.before.before.before.before.before.before.before.before.cell.ensures) ∙ sym c.before.before.before.before.before.before.before.before.before.before.before.before.before.before.before.before.before.before.before.before.holds-trays.ensures ∙ c.before.before.before.before.before.before.before.before.before.before.before.before.before.before.before.before.before.before.before.if1.false) tasks
+    (open_free (contents w) c.args.n c.args.processors c.args.bound (ap Phase.holds_trays (sym c.cell.ensures) ∙ sym c.holds_trays.ensures ∙ c.if-holds_trays.false) tasks
     staff fits)
     c.plain.ensures
-    (opening-contents c.before.before.before.before.before.before.before.before.before.before.before.empty.new.0 c.before.before.before.before.before.before.before.before.before.set-cell.new.0 c.before.before.before.before.before.before.before.set-cell2.new.0 c.before.before.before.before.before.set-cell3.new.0
-    c.before.before.before.set-cell4.new.0 c.before.before.before.before.before.before.before.before.before.before.before.before.before.before.before.before.before.before.before.before.before.before.before.args.n c.before.before.before.before.before.before.before.before.before.before.before.before.before.before.before.before.before.before.before.before.before.before.before.args.processors c.before.before.before.before.before.before.before.before.before.before.before.before.before.before.before.before.before.before.before.before.before.before.before.args.bound bare.long c.before.before.before.before.before.before.before.before.before.set-cell.ensures
-    c.before.before.before.before.before.before.before.set-cell2.ensures c.before.before.before.before.before.set-cell3.ensures c.before.before.before.set-cell4.ensures c.before.set-cell5.ensures)
-    (opening-means (contents c.before.before.before.before.before.before.before.before.before.before.before.empty.new.0) bare c.before.before.before.before.before.before.before.before.before.before.before.before.before.before.before.before.before.before.before.before.before.before.before.args.n c.before.before.before.before.before.before.before.before.before.before.before.before.before.before.before.before.before.before.before.before.before.before.before.args.processors c.before.before.before.before.before.before.before.before.before.before.before.before.before.before.before.before.before.before.before.before.before.before.before.args.bound (contents w))
-    (opening-sound (contents c.before.before.before.before.before.before.before.before.before.before.before.empty.new.0) bare c.before.before.before.before.before.before.before.before.before.before.before.before.before.before.before.before.before.before.before.before.before.before.before.args.n c.before.before.before.before.before.before.before.before.before.before.before.before.before.before.before.before.before.before.before.before.before.before.before.args.processors c.before.before.before.before.before.before.before.before.before.before.before.before.before.before.before.before.before.before.before.before.before.before.before.args.bound tasks staff fits)
+    (opening-contents c.empty.new.plan c.set_cell.new.plan c.set_cell-2.new.plan c.set_cell-3.new.plan
+    c.set_cell-4.new.plan c.args.n c.args.processors c.args.bound bare.long c.set_cell.ensures
+    c.set_cell-2.ensures c.set_cell-3.ensures c.set_cell-4.ensures c.set_cell-5.ensures)
+    (opening-means (contents c.empty.new.plan) bare c.args.n c.args.processors c.args.bound (contents w))
+    (opening-sound (contents c.empty.new.plan) bare c.args.n c.args.processors c.args.bound tasks staff fits)
 
 pub open_spec : {M : Type 1} → statement M
 open_spec =

@@ -4,19 +4,19 @@ use Rattle.ordering.proofs.Ordering.{append-refused, append-may, append-accepted
 use Rattle.ordering.proofs.append.Statement.{statement}
 use Rattle.ordering.proofs.append.Tie as tie
 
-refuses : tie.Need-returns
-refuses c = append-refused c.before.before.before.before.requires c.before.before.next-ground.ensures c.before.if1.true c.refused.ensures
+refuses : tie.Need-returns-then-ground-ne0
+refuses c = append-refused c.requires c.next_ground-ground.ensures c.if-ground-ne0.true c.refused.ensures
 
-write-next-requires : tie.Need-write-next-requires
-write-next-requires c κs = append-may c.before.before.before.before.requires c.before.before.next-ground.ensures c.before.if1.false
+write-next-requires : tie.Need-write_next-requires
+write-next-requires c κs = append-may c.requires c.next_ground-ground.ensures c.if-ground-ne0.false
 
-writes : tie.Need-returns-2
+writes : tie.Need-returns
 writes c =
-    append-accepted c.before.before.before.before.before.before.requires c.before.before.before.before.next-ground.ensures
-    c.before.before.before.if1.false c.before.write-next.ensures c.plain.ensures
+    append-accepted c.requires c.next_ground-ground.ensures
+    c.if-ground-ne0.false c.write_next.ensures c.plain.ensures
 
-pub append-spec : {M : Type 1} → statement M
-append-spec =
+pub append_spec : {M : Type 1} → statement M
+append_spec =
     tie.close
     (tie.spec
     (λ c κs. search rules)

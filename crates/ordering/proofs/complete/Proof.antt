@@ -11,22 +11,22 @@ use Rattle.ordering.proofs.complete.Statement.{statement}
 use Rattle.ordering.proofs.complete.Tie as tie
 
 -- what is read
-placed-is : (c : tie.After-cell) → c.cell.result ≡ (contents c.before.before.args.plan.now).placed
+placed-is : (c : tie.After-cell) → c.cell.result ≡ (contents c.args.plan.now).placed
 unfolding contents
 placed-is c = c.cell.ensures
 
-copy-activation-requires : tie.Need-copy-activation-requires
+copy-activation-requires : tie.Need-copy_activation-requires
 copy-activation-requires c κs =
-    let read = c.before.before in
-    let start = read.before.before in
+    let read = c in
+    let start = read in
     let w = start.args.plan.now in (
       start.requires.0,
       in-turn-alone (plan_of w) start.requires.1
-          (placed-length (contents w) start.requires.0.sound (lengths w) ∙ sym (placed-is read) ∙ c.before.if1.true),
+          (placed-length (contents w) start.requires.0.sound (lengths w) ∙ sym (placed-is read.before.before) ∙ c.if-cell-eq0.true),
     )
 
-given : tie.Need-returns-2
-given c = complete-given c.before.before.before.requires.0 (λ e. c.if1.false (placed-is c.before ∙ e))
+given : tie.Need-returns-else-cell-eq0
+given c = complete-given c.requires.0 (λ e. c.if-cell-eq0.false (placed-is c.before ∙ e))
 
-pub complete-spec : {M : Type 1} → statement M
-complete-spec = tie.close (tie.spec (λ c κs. search rules) copy-activation-requires (λ c. search rules) given)
+pub complete_spec : {M : Type 1} → statement M
+complete_spec = tie.close (tie.spec (λ c κs. search rules) copy-activation-requires (λ c. search rules) given)

@@ -13,83 +13,83 @@ use Rattle.ordering.proofs.Copying.{Copied, copied_none, copied_all, next-is, ne
 use Rattle.ordering.proofs.copy_activation.Statement.{statement}
 use Rattle.ordering.proofs.copy_activation.Tie as tie
 
-abbrev invariant-loop : tie.invariant-loop
+abbrev invariant-loop : tie.invariant-loop-k
 invariant-loop plan₀ n k₀ plan k = (k ≤ n) × Copied plan₀ k plan
 
-abbrev decreases-loop : tie.decreases-loop
+abbrev decreases-loop : tie.decreases-loop-k
 decreases-loop plan₀ n k₀ plan k = n - k
 
 -- what is read
-size_is : (c : tie.After-cell invariant-loop decreases-loop) → c.cell.result ≡ (contents c.before.before.args.plan.now).size
+size_is : (c : tie.After-cell-n invariant-loop decreases-loop) → c.cell-n.result ≡ (contents c.args.plan.now).size
 unfolding contents
-size_is c = c.cell.ensures
+size_is c = c.cell-n.ensures
 
-loop-holds : tie.Need-loop-init invariant-loop decreases-loop
-loop-holds c = (omega arith, copied_none c.before.before.requires.0 c.before.before.requires.1)
+loop-holds : tie.Need-loop-k-init invariant-loop decreases-loop
+loop-holds c = (omega arith, copied_none c.requires.0 c.requires.1)
 
 -- another entry
-more : (c : tie.In-loop invariant-loop decreases-loop) → c.before.loop.k < (contents c.before.before.before.before.args.plan.now).size
-more c = let e = size_is c.before.before in let t = c.loop-test.true in omega arith
+more : (c : tie.In-loop-k invariant-loop decreases-loop) → c.loop-k.k < (contents c.args.plan.now).size
+more c = let e = size_is c.before.before in let t = c.loop-k-test.true in omega arith
 
-entry-requires : tie.Need-entry-requires invariant-loop decreases-loop
+entry-requires : tie.Need-entry-task-requires invariant-loop decreases-loop
 entry-requires c κs =
-    let turn = c.before in
-    let m = more turn in let small = turn.before.before.before.before.requires.0.sound.small in omega arith
+    let turn = c in
+    let m = more turn in let small = turn.requires.0.sound.small in omega arith
 
 -- it is the entry of the plan that was found
 entry-is :
-    (c : tie.After-entry invariant-loop decreases-loop)
-    → c.entry.result ≡ at (plan_of c.before.before.before.before.before.before.args.plan.now).activation c.before.before.before.loop.k
+    (c : tie.After-entry-task invariant-loop decreases-loop)
+    → c.entry-task.result ≡ at (plan_of c.args.plan.now).activation c.loop-k.k
 unfolding contents
 entry-is c =
-    let turn = c.before.before in
-    let start = turn.before.before.before.before in
-    let k = turn.before.loop.k in
-    let w = turn.before.loop.plan in
-    let inside : k < entries = (let m = more turn in let small = start.requires.0.sound.small in omega arith) in
-    c.entry.ensures
+    let turn = c in
+    let start = turn in
+    let k = turn.loop-k.k in
+    let w = turn.loop-k.plan in
+    let inside : k < entries = (let m = more turn.before in let small = start.requires.0.sound.small in omega arith) in
+    c.entry-task.ensures
     ∙ part_at activation_base entries w k inside
-    ∙ next-is start.requires.0 start.requires.1 k (more turn) turn.before.loop.invariant.1
+    ∙ next-is start.requires.0 start.requires.1 k (more turn.before) turn.loop-k.invariant.1
 
-write-next-requires : tie.Need-write-next-requires invariant-loop decreases-loop
+write-next-requires : tie.Need-write_next-requires invariant-loop decreases-loop
 write-next-requires c κs =
-    let read = c.before in
-    let turn = read.before.before in
-    let start = turn.before.before.before.before in
-    subst (λ (i : ℕ). MayAppend 8 execution_base 2 i turn.before.loop.plan) (sym (entry-is read))
-    (next-may start.requires.0 start.requires.1 turn.before.loop.k (more turn) turn.before.loop.invariant.1)
+    let read = c in
+    let turn = read in
+    let start = turn in
+    subst (λ (i : ℕ). MayAppend 8 execution_base 2 i turn.loop-k.plan) (sym (entry-is read.before))
+    (next-may start.requires.0 start.requires.1 turn.loop-k.k (more turn.before.before) turn.loop-k.invariant.1)
 
-add-k : tie.Need-overflow-add-k invariant-loop decreases-loop
+add-k : tie.Need-overflow_add-k invariant-loop decreases-loop
 add-k c =
-    let turn = c.before.before.before.before in
-    let m = more turn in
-    let small = turn.before.before.before.before.requires.0.sound.small in
+    let turn = c in
+    let m = more turn.before.before.before in
+    let small = turn.requires.0.sound.small in
     omega arith
 
-loop-again : tie.Need-loop-preserved invariant-loop decreases-loop
+loop-again : tie.Need-loop-k-preserved invariant-loop decreases-loop
 loop-again c =
-    let read = c.before.before in
-    let turn = read.before.before in
-    let start = turn.before.before.before.before in
-    let w = turn.before.loop.plan in
-    let t = turn.loop-test.true in (
+    let read = c in
+    let turn = read in
+    let start = turn in
+    let w = turn.loop-k.plan in
+    let t = turn.loop-k-test.true in (
       omega arith,
-      copied_more start.requires.0 start.requires.1 turn.before.loop.k (more turn) turn.before.loop.invariant.1
-          (subst (λ (i : ℕ). c.write-next.new.0 ≡ appended_to 8 execution_base 2 w i) (entry-is read) c.write-next.ensures),
+      copied_more start.requires.0 start.requires.1 turn.loop-k.k (more turn.before.before.before) turn.loop-k.invariant.1
+          (subst (λ (i : ℕ). c.write_next.new.plan ≡ appended_to 8 execution_base 2 w i) (entry-is read.before.before) c.write_next.ensures),
     )
 
 returns : tie.Need-returns invariant-loop decreases-loop
 returns c =
-    let loop = c.before.loop in
-    let start = c.before.before.before.before in
+    let loop = c.loop-k in
+    let start = c in
     let e = size_is c.before.before in
-    let left = c.loop-test.false in
+    let left = c.loop-k-test.false in
     let low = loop.invariant.0 in
     let all : loop.k ≡ (contents start.args.plan.now).size = omega arith in
     copied_all start.requires.0 start.requires.1 (rw all at loop.invariant.1)
 
-pub copy-activation-spec : {M : Type 1} → statement M
-copy-activation-spec =
+pub copy_activation_spec : {M : Type 1} → statement M
+copy_activation_spec =
     tie.close
     (tie.spec
     invariant-loop

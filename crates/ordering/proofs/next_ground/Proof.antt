@@ -7,38 +7,38 @@ use Rattle.ordering.proofs.Ordering.{sought, other-phase, whole-order, outside, 
 use Rattle.ordering.proofs.next_ground.Statement.{statement}
 use Rattle.ordering.proofs.next_ground.Tie as tie
 
-in-other-phase : tie.Need-returns
-in-other-phase c = other-phase c.before.before.args.counted c.before.before.args.base c.before.before.args.task c.before.before.args.plan.now c.before.cell.ensures c.if1.true
+in-other-phase : tie.Need-returns-then-cell-ne-ORDERS
+in-other-phase c = other-phase c.args.counted c.args.base c.args.task c.args.plan.now c.cell.ensures c.if-cell-ne-ORDERS.true
 
-counted_in : tie.Need-cell-requires-3
-counted_in c κs = (omega arith, c.before.before.before.requires.counted_in)
+counted_in : tie.Need-cell-count-requires
+counted_in c κs = (omega arith, c.requires.counted_in)
 
-full : tie.Need-returns-2
-full c = whole-order c.before.before.before.before.before.args.counted c.before.before.before.before.before.args.base c.before.before.before.before.before.args.task c.before.before.before.before.before.args.plan.now c.before.before.before.before.cell.ensures c.before.before.before.if1.false c.before.before.cell2.ensures c.before.cell3.ensures c.if2.true
+full : tie.Need-returns-then-size-count
+full c = whole-order c.args.counted c.args.base c.args.task c.args.plan.now c.cell.ensures c.if-cell-ne-ORDERS.false c.cell-size.ensures c.cell-count.ensures c.if-size-count.true
 
-not-a-task : tie.Need-returns-3
+not-a-task : tie.Need-returns-then-not-is_within
 not-a-task c =
-    outside c.before.before.before.before.before.before.before.args.counted c.before.before.before.before.before.before.before.args.base c.before.before.before.before.before.before.before.args.task c.before.before.before.before.before.before.before.args.plan.now c.before.before.before.before.before.before.cell.ensures c.before.before.before.before.before.if1.false c.before.before.before.before.cell2.ensures c.before.before.before.cell3.ensures
-    (λ h. let l = c.before.before.if2.false in omega arith) (sym c.before.is_Within.ensures ∙ not-true _ c.if3.true)
+    outside c.args.counted c.args.base c.args.task c.args.plan.now c.cell.ensures c.if-cell-ne-ORDERS.false c.cell-size.ensures c.cell-count.ensures
+    (λ h. let l = c.if-size-count.false in omega arith) (sym c.is_within.ensures ∙ c.if-not-is_within.true)
 
 contains-requires : tie.Need-contains-requires
 contains-requires c κs =
-    sought c.before.before.before.before.before.before.before.requires c.before.before.before.before.cell2.ensures c.before.before.before.cell3.ensures (sym c.before.is_Within.ensures ∙ not-false _ c.if3.false)
+    sought c.requires c.cell-size.ensures c.cell-count.ensures (sym c.is_within.ensures ∙ c.if-not-is_within.false)
 
-twice : tie.Need-returns-4
+twice : tie.Need-returns-then-contains
 twice c =
-    again c.before.before.before.before.before.before.before.before.before.args.counted c.before.before.before.before.before.before.before.before.before.args.base c.before.before.before.before.before.before.before.before.before.args.task c.before.before.before.before.before.before.before.before.before.args.plan.now c.before.before.before.before.before.before.before.before.cell.ensures c.before.before.before.before.before.before.before.if1.false c.before.before.before.before.before.before.cell2.ensures c.before.before.before.before.before.cell3.ensures
-    (λ h. let l = c.before.before.before.before.if2.false in omega arith) (sym c.before.before.before.is_Within.ensures ∙ not-false _ c.before.before.if3.false)
-    (sym c.if4.true ∙ c.before.contains.ensures)
+    again c.args.counted c.args.base c.args.task c.args.plan.now c.cell.ensures c.if-cell-ne-ORDERS.false c.cell-size.ensures c.cell-count.ensures
+    (λ h. let l = c.if-size-count.false in omega arith) (sym c.is_within.ensures ∙ c.if-not-is_within.false)
+    (sym c.if-contains.true ∙ c.contains.ensures)
 
-free : tie.Need-returns-5
+free : tie.Need-returns
 free c =
-    no-ground c.before.before.before.before.before.before.before.before.before.args.counted c.before.before.before.before.before.before.before.before.before.args.base c.before.before.before.before.before.before.before.before.before.args.task c.before.before.before.before.before.before.before.before.before.args.plan.now c.before.before.before.before.before.before.before.before.cell.ensures c.before.before.before.before.before.before.before.if1.false c.before.before.before.before.before.before.cell2.ensures c.before.before.before.before.before.cell3.ensures
-    (λ h. let l = c.before.before.before.before.if2.false in omega arith) (sym c.before.before.before.is_Within.ensures ∙ not-false _ c.before.before.if3.false)
-    (sym c.if4.false ∙ c.before.contains.ensures)
+    no-ground c.args.counted c.args.base c.args.task c.args.plan.now c.cell.ensures c.if-cell-ne-ORDERS.false c.cell-size.ensures c.cell-count.ensures
+    (λ h. let l = c.if-size-count.false in omega arith) (sym c.is_within.ensures ∙ c.if-not-is_within.false)
+    (sym c.if-contains.false ∙ c.contains.ensures)
 
-pub next-ground-spec : {M : Type 1} → statement M
-next-ground-spec =
+pub next_ground_spec : {M : Type 1} → statement M
+next_ground_spec =
     tie.close
     (tie.spec
     (λ c κs. search rules)

@@ -6,12 +6,12 @@ use Rattle.ordering.proofs.write_next.Tie as tie
 
 returns : tie.Need-returns
 returns c =
-    let s = c.before.before.before.before.before.before.before.before in
-    next-written s.args.counted s.args.base s.args.column s.args.task s.args.plan.now c.before.before.before.before.before.before.cell.ensures c.before.before.before.before.set-entry.ensures
-    c.before.before.set-cell.ensures c.set-cell2.ensures
+    let s = c in
+    next-written s.args.counted s.args.base s.args.column s.args.task s.args.plan.now c.cell-count.ensures c.set_entry.ensures
+    c.set_cell.ensures c.set_cell-2.ensures
 
-pub write-next-spec : {M : Type 1} → statement M
-write-next-spec =
+pub write_next_spec : {M : Type 1} → statement M
+write_next_spec =
     tie.close
     (tie.spec
     (λ c κs. search rules)

@@ -14,32 +14,32 @@ use Rattle.desk.proofs.Ranking.{Seen, seen_none, seen_next, seen_twice, seen_all
 use Rattle.desk.proofs.room.is_distinct.Statement.{statement}
 use Rattle.desk.proofs.room.is_distinct.Tie as tie
 
-abbrev invariant-loop : tie.invariant-loop
+abbrev invariant-loop : tie.invariant-loop-k
 invariant-loop room activation k₀ k = Seen activation (contents room).ranks k
 
-abbrev decreases-loop : tie.decreases-loop
+abbrev decreases-loop : tie.decreases-loop-k
 decreases-loop room activation k₀ k = length activation - k
 
-loop-holds : tie.Need-loop-init invariant-loop decreases-loop
+loop-holds : tie.Need-loop-k-init invariant-loop decreases-loop
 loop-holds c = seen_none _ _
 
 -- so many entries, each a task
-few : (c : tie.In-loop invariant-loop decreases-loop) → length c.before.before.before.args.activation.now ≤ max_tasks
-few c = c.before.before.before.requires.listed.few
+few : (c : tie.In-loop-k invariant-loop decreases-loop) → length c.args.activation.now ≤ max_tasks
+few c = c.requires.listed.few
 
 task :
-    (c : tie.In-loop invariant-loop decreases-loop)
-    → Task (length c.before.before.before.args.activation.now) (at c.before.before.before.args.activation.now c.before.loop.k)
-task c = entry-task _ _ c.before.before.before.requires.listed c.loop-test.true
+    (c : tie.In-loop-k invariant-loop decreases-loop)
+    → Task (length c.args.activation.now) (at c.args.activation.now c.loop-k.k)
+task c = entry-task _ _ c.requires.listed c.loop-k-test.true
 
-mul-task : tie.Need-overflow-mul-task invariant-loop decreases-loop
+mul-task : tie.Need-offset_bounds-activation-k invariant-loop decreases-loop
 mul-task c = omega (arith, few c)
 
-shared-slice-read-task : tie.Need-shared-slice-read-task invariant-loop decreases-loop
+shared-slice-read-task : tie.Need-bounds-activation-k invariant-loop decreases-loop
 shared-slice-read-task c = omega arith
 
-cast-task : tie.Need-overflow-cast-task invariant-loop decreases-loop
-cast-task c = omega (arith, c.shared-slice-known2.given c.before.before.loop.k)
+cast-task : tie.Need-overflow_cast-task invariant-loop decreases-loop
+cast-task c = omega (arith, c.shared_slice_known-in-loop-k-1.given c.loop-k.k)
 
 cell-requires : tie.Need-cell-requires invariant-loop decreases-loop
 cell-requires c κs = (omega (arith, task c.before, few c.before), omega arith)
@@ -48,35 +48,35 @@ cell-requires c κs = (omega (arith, task c.before, few c.before), omega arith)
 rank_is :
     (c : tie.After-cell invariant-loop decreases-loop)
     → c.cell.result
-    ≡ at (contents c.before.before.before.before.before.args.room.now).ranks
-    (at c.before.before.before.before.before.args.activation.now c.before.before.before.loop.k)
+    ≡ at (contents c.args.room.now).ranks
+    (at c.args.activation.now c.loop-k.k)
 rank_is c =
     c.cell.ensures ∙ rank-at _ _ (omega (arith, task c.before.before, few c.before.before))
 
-cast-if1 : tie.Need-overflow-cast-if1 invariant-loop decreases-loop
+cast-if1 : tie.Need-overflow_cast-cell invariant-loop decreases-loop
 cast-if1 c = search rules
 
-returns : tie.Need-returns invariant-loop decreases-loop
+returns : tie.Need-returns-then-cell-k invariant-loop decreases-loop
 returns c =
-    let turn = c.before.before.before in
-    seen_twice turn.before.before.before.requires turn.loop-test.true (λ e. c.if1.true (rank_is c.before ∙ e))
+    let turn = c in
+    seen_twice turn.requires turn.loop-k-test.true (λ e. c.if-cell-k.true (rank_is c.before ∙ e))
 
-add-k : tie.Need-overflow-add-k invariant-loop decreases-loop
-add-k c = let turn = c.before.before.before in let more = turn.loop-test.true in omega (arith, few turn)
+add-k : tie.Need-overflow_add-k invariant-loop decreases-loop
+add-k c = let turn = c in let more = turn.loop-k-test.true in omega (arith, few turn.before.before.before)
 
-loop-less : tie.Need-loop-smaller invariant-loop decreases-loop
-loop-less c = let turn = c.before.before.before in let more = turn.loop-test.true in omega arith
+loop-less : tie.Need-loop-k-smaller invariant-loop decreases-loop
+loop-less c = let turn = c in let more = turn.loop-k-test.true in omega arith
 
-loop-again : tie.Need-loop-preserved invariant-loop decreases-loop
+loop-again : tie.Need-loop-k-preserved invariant-loop decreases-loop
 loop-again c =
-    let turn = c.before.before.before in
-    seen_next turn.before.loop.invariant turn.loop-test.true (sym (rank_is c.before) ∙ c.if1.false)
+    let turn = c in
+    seen_next turn.loop-k.invariant turn.loop-k-test.true (sym (rank_is c.before) ∙ c.if-cell-k.false)
 
-returns-2 : tie.Need-returns-2 invariant-loop decreases-loop
-returns-2 c = seen_all c.before.loop.invariant c.loop-test.false
+returns-2 : tie.Need-returns invariant-loop decreases-loop
+returns-2 c = seen_all c.loop-k.invariant c.loop-k-test.false
 
-pub is-distinct-spec : {M : Type 1} → statement M
-is-distinct-spec =
+pub is_distinct_spec : {M : Type 1} → statement M
+is_distinct_spec =
     tie.close
     (tie.spec
     invariant-loop

@@ -9,48 +9,48 @@ use Rattle.desk.proofs.Listing.{Tested, tested-none, tested-next, tested-not, te
 use Rattle.desk.proofs.room.is_listed.Statement.{statement}
 use Rattle.desk.proofs.room.is_listed.Tie as tie
 
-abbrev invariant-loop : tie.invariant-loop
+abbrev invariant-loop : tie.invariant-loop-k
 invariant-loop n activation k₀ k = Tested (λ i. within i n) activation k
 
-abbrev decreases-loop : tie.decreases-loop
+abbrev decreases-loop : tie.decreases-loop-k
 decreases-loop n activation k₀ k = length activation - k
 
-loop-holds : tie.Need-loop-init invariant-loop decreases-loop
+loop-holds : tie.Need-loop-k-init invariant-loop decreases-loop
 loop-holds c = tested-none _ _
 
-mul-task : tie.Need-overflow-mul-task invariant-loop decreases-loop
+mul-task : tie.Need-offset_bounds-activation-k invariant-loop decreases-loop
 mul-task c = omega arith
 
-shared-slice-read-task : tie.Need-shared-slice-read-task invariant-loop decreases-loop
+shared-slice-read-task : tie.Need-bounds-activation-k invariant-loop decreases-loop
 shared-slice-read-task c = omega arith
 
-cast-task : tie.Need-overflow-cast-task invariant-loop decreases-loop
-cast-task c = omega (arith, c.shared-slice-known2.given c.before.before.loop.k)
+cast-task : tie.Need-overflow_cast-task invariant-loop decreases-loop
+cast-task c = omega (arith, c.shared_slice_known-in-loop-k-1.given c.loop-k.k)
 
-is-within-requires : tie.Need-is-within-requires invariant-loop decreases-loop
+is-within-requires : tie.Need-is_within-requires invariant-loop decreases-loop
 is-within-requires c κs = tt
 
-returns : tie.Need-returns invariant-loop decreases-loop
+returns : tie.Need-returns-then-not-is_within invariant-loop decreases-loop
 returns c =
-    tested-not _ _ c.before.before.before.before.loop.k c.before.before.before.loop-test.true
-    (sym c.before.is_Within.ensures ∙ not-true _ c.if1.true)
+    tested-not _ _ c.loop-k.k c.loop-k-test.true
+    (sym c.is_within.ensures ∙ c.if-not-is_within.true)
 
-add-k : tie.Need-overflow-add-k invariant-loop decreases-loop
+add-k : tie.Need-overflow_add-k invariant-loop decreases-loop
 add-k c = omega arith
 
-loop-less : tie.Need-loop-smaller invariant-loop decreases-loop
+loop-less : tie.Need-loop-k-smaller invariant-loop decreases-loop
 loop-less c = omega arith
 
-loop-again : tie.Need-loop-preserved invariant-loop decreases-loop
+loop-again : tie.Need-loop-k-preserved invariant-loop decreases-loop
 loop-again c =
-    tested-next _ _ _ c.before.before.before.before.loop.invariant c.before.before.before.loop-test.true
-    (sym c.before.is_Within.ensures ∙ not-false _ c.if1.false)
+    tested-next _ _ _ c.loop-k.invariant c.loop-k-test.true
+    (sym c.is_within.ensures ∙ c.if-not-is_within.false)
 
-returns-2 : tie.Need-returns-2 invariant-loop decreases-loop
-returns-2 c = tested-all _ _ _ c.before.loop.invariant c.loop-test.false
+returns-2 : tie.Need-returns invariant-loop decreases-loop
+returns-2 c = tested-all _ _ _ c.loop-k.invariant c.loop-k-test.false
 
-pub is-listed-spec : {M : Type 1} → statement M
-is-listed-spec =
+pub is_listed_spec : {M : Type 1} → statement M
+is_listed_spec =
     tie.close
     (tie.spec
     invariant-loop

@@ -7,71 +7,71 @@ use Rattle.finding.proofs.Root.{may-reach, finds-stray, finds-short, may-write-f
 use Rattle.finding.proofs.finding.find_rooted.Statement.{statement}
 use Rattle.finding.proofs.finding.find_rooted.Tie as tie
 
-cell-requires : tie.Need-cell-requires
+cell-requires : tie.Need-cell-n-requires
 cell-requires c κs = search rules
 
-cast-n : tie.Need-overflow-cast-n
+cast-n : tie.Need-overflow_cast-n
 cast-n c = search rules
 
 -- the word read is n
-size_is : (c : tie.After-cell) → c.cell.result ≡ (contents c.before.before.args.plan.now).size
+size_is : (c : tie.After-cell-n) → c.cell-n.result ≡ (contents c.args.plan.now).size
 unfolding contents
-size_is c = c.cell.ensures
+size_is c = c.cell-n.ensures
 
-list-children-requires : tie.Need-list-children-requires
+list-children-requires : tie.Need-list_children-requires
 list-children-requires c κs =
     rw (size_is c.before)
-    (record { parented = c.before.before.before.requires.light.parented; empty = refl })
+    (record { parented = c.requires.light.parented; empty = refl })
 
 reach-requires : tie.Need-reach-requires
 reach-requires c κs =
-    let list = c.before in
-    may-reach _ _ _ _ list.before.before.before.before.requires _ (rw (size_is list.before.before) at list.list-children.ensures)
+    let list = c in
+    may-reach _ _ _ _ list.requires _ (rw (size_is list.before.before.before) at list.list_children.ensures)
 
-returns : tie.Need-returns
+returns : tie.Need-returns-then-reach-n
 returns c =
-    let reach = c.before in
-    let list = reach.before.before in
-    finds-stray _ _ _ _ list.before.before.before.before.requires _
-    (rw (size_is list.before.before) at list.list-children.ensures) _ _ reach.reach.ensures _
-    (λ e. c.if1.true (e ∙ sym (size_is list.before.before)))
+    let reach = c in
+    let list = reach in
+    finds-stray _ _ _ _ list.requires _
+    (rw (size_is list.before.before.before.before.before) at list.list_children.ensures) _ _ reach.reach.ensures _
+    (λ e. c.if-reach-n.true (e ∙ sym (size_is list.before.before.before.before.before)))
 
-returns-2 : tie.Need-returns-2
+returns-2 : tie.Need-returns-then-list-n
 returns-2 c =
-    let reach = c.before.before in
-    let list = reach.before.before in
-    finds-short _ _ _ _ list.before.before.before.before.requires _
-    (rw (size_is list.before.before) at list.list-children.ensures) _ _ reach.reach.ensures _
-    (c.before.if1.false ∙ size_is list.before.before)
-    (let short = c.if2.true in let size = size_is list.before.before in omega arith)
+    let reach = c in
+    let list = reach in
+    finds-short _ _ _ _ list.requires _
+    (rw (size_is list.before.before.before.before.before.before) at list.list_children.ensures) _ _ reach.reach.ensures _
+    (c.if-reach-n.false ∙ size_is list.before.before.before.before.before.before)
+    (let short = c.if-list-n.true in let size = size_is list.before.before.before.before.before.before in omega arith)
 
-write-found-requires : tie.Need-write-found-requires
+write-found-requires : tie.Need-write_found-requires
 write-found-requires c κs =
-    let room = c.before.before in
-    let reach = room.before.before in
-    let list = reach.before.before in (
-      size_is list.before.before,
-      may-write-found _ _ _ _ list.before.before.before.before.requires _
-          (rw (size_is list.before.before) at list.list-children.ensures) _ _ reach.reach.ensures _
-          (room.before.if1.false ∙ size_is list.before.before) (rw (size_is list.before.before) at room.if2.false),
+    let room = c in
+    let reach = room in
+    let list = reach in (
+      size_is list.before.before.before.before.before.before.before.before,
+      may-write-found _ _ _ _ list.requires _
+          (rw (size_is list.before.before.before.before.before.before.before.before) at list.list_children.ensures) _ _ reach.reach.ensures _
+          (room.if-reach-n.false ∙ size_is list.before.before.before.before.before.before.before.before) (rw (size_is list.before.before.before.before.before.before.before.before) at room.if-list-n.false),
     )
 
-same_length : tie.Need-same-length
+same_length : tie.Need-shape_of-list
 same_length c = search rules
 
-returns-3 : tie.Need-returns-3
+returns-3 : tie.Need-returns
 returns-3 c =
-    let wrote = c.before.before in
-    let room = wrote.before.before.before in
-    let reach = room.before.before in
-    let list = reach.before.before in
-    finds _ _ _ _ list.before.before.before.before.requires _
-    (rw (size_is list.before.before) at list.list-children.ensures) _ _ reach.reach.ensures _
-    (room.before.if1.false ∙ size_is list.before.before) _ (rw (size_is list.before.before) at room.if2.false)
-    wrote.write-found.ensures
+    let wrote = c in
+    let room = wrote in
+    let reach = room in
+    let list = reach in
+    finds _ _ _ _ list.requires _
+    (rw (size_is list.before.before.before.before.before.before.before.before.before.before.before) at list.list_children.ensures) _ _ reach.reach.ensures _
+    (room.if-reach-n.false ∙ size_is list.before.before.before.before.before.before.before.before.before.before.before) _ (rw (size_is list.before.before.before.before.before.before.before.before.before.before.before) at room.if-list-n.false)
+    wrote.write_found.ensures
 
-pub find-rooted-spec : {M : Type 1} → statement M
-find-rooted-spec =
+pub find_rooted_spec : {M : Type 1} → statement M
+find_rooted_spec =
     tie.close
     (tie.spec
     cell-requires

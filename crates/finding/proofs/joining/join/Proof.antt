@@ -4,41 +4,41 @@ use Rattle.finding.proofs.Turn.{may-sort, linked-sorted, may-weigh, has-joined}
 use Rattle.finding.proofs.joining.join.Statement.{statement}
 use Rattle.finding.proofs.joining.join.Tie as tie
 
-sort-children-requires : tie.Need-sort-children-requires
-sort-children-requires c κs = may-sort _ _ _ _ _ _ c.before.requires
+sort-children-requires : tie.Need-sort_children-requires
+sort-children-requires c κs = may-sort _ _ _ _ _ _ c.requires
 
-link-orders-requires : tie.Need-link-orders-requires
+link-orders-requires : tie.Need-link_orders-requires
 link-orders-requires c κs =
-    let sort = c.before in
-    (linked-sorted _ _ _ _ _ _ sort.before.before.requires _ sort.sort-children.ensures, sort.sort-children.ensures.long)
+    let sort = c in
+    (linked-sorted _ _ _ _ _ _ sort.requires _ sort.sort_children.ensures, sort.sort_children.ensures.long)
 
-subtree-peak-requires : tie.Need-subtree-peak-requires
+subtree-peak-requires : tie.Need-subtree_peak-peak-requires
 subtree-peak-requires c κs =
-    let link = c.before in
-    let sort = link.before.before in
-    may-weigh _ _ _ _ _ _ sort.before.before.requires _ sort.sort-children.ensures _ link.link-orders.ensures
+    let link = c in
+    let sort = link in
+    may-weigh _ _ _ _ _ _ sort.requires _ sort.sort_children.ensures _ link.link_orders.ensures
 
 put-requires : tie.Need-put-requires
 put-requires c κs =
-    let weigh = c.before in
-    let link = weigh.before.before in
-    let sort = link.before.before in
-    let pre = sort.before.before.requires in
+    let weigh = c in
+    let link = weigh in
+    let sort = link in
+    let pre = sort.requires in
     let small = pre.plan.small in
     let t = pre.task in
-    let fits = (may-weigh _ _ _ _ _ _ pre _ sort.sort-children.ensures _ link.link-orders.ensures).fits in
-    (omega arith, rw weigh.subtree-peak.ensures fits)
+    let fits = (may-weigh _ _ _ _ _ _ pre _ sort.sort_children.ensures _ link.link_orders.ensures).fits in
+    (omega arith, rw weigh.subtree_peak-peak.ensures fits)
 
 returns : tie.Need-returns
 returns c =
-    let weigh = c.before.before in
-    let link = weigh.before.before in
-    let sort = link.before.before in
-    has-joined _ _ _ _ _ _ sort.before.before.requires _ sort.sort-children.ensures _ link.link-orders.ensures _ _
-    weigh.subtree-peak.ensures c.put.ensures
+    let weigh = c in
+    let link = weigh in
+    let sort = link in
+    has-joined _ _ _ _ _ _ sort.requires _ sort.sort_children.ensures _ link.link_orders.ensures _ _
+    weigh.subtree_peak-peak.ensures c.put.ensures
 
-pub join-spec : {M : Type 1} → statement M
-join-spec =
+pub join_spec : {M : Type 1} → statement M
+join_spec =
     tie.close
     (tie.spec
     sort-children-requires
