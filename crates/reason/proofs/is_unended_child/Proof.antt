@@ -13,20 +13,20 @@ use Rattle.reason.proofs.is_unended_child.Statement.{statement}
 use Rattle.reason.proofs.is_unended_child.Tie as tie
 
 -- another task's child
-returns : tie.Need-returns
+returns : tie.Need-returns-then-cell-task
 unfolding contents
 returns c =
-    let s = c.before.before in
-    let parent = c.before.cell.ensures ∙ column-at 0 s.args.plan.now s.args.child (omega arith) in
-    rw (ne_eqb _ s.args.task (λ e. c.if1.true (parent ∙ e)))
+    let s = c in
+    let parent = c.cell.ensures ∙ column-at 0 s.args.plan.now s.args.child (omega arith) in
+    rw (ne_eqb _ s.args.task (λ e. c.if-cell-task.true (parent ∙ e)))
 
-returns-2 : tie.Need-returns-2
+returns-2 : tie.Need-returns
 unfolding contents
 returns-2 c =
-    let s = c.before.before.before in
-    let parent = c.before.before.cell.ensures ∙ column-at 0 s.args.plan.now s.args.child (omega arith) in
-    let standing = c.cell2.ensures ∙ column-at 4 s.args.plan.now s.args.child (omega arith) in
-    rw (eq-eqb _ s.args.task (sym parent ∙ c.before.if1.false)) (ap (λ (v : ℕ). not (eqb v finished)) standing)
+    let s = c in
+    let parent = c.cell.ensures ∙ column-at 0 s.args.plan.now s.args.child (omega arith) in
+    let standing = c.cell-2.ensures ∙ column-at 4 s.args.plan.now s.args.child (omega arith) in
+    rw (eq-eqb _ s.args.task (sym parent ∙ c.if-cell-task.false)) (ap (λ (v : ℕ). not (eqb v finished)) standing)
 
-pub is-unended-child-spec : {M : Type 1} → statement M
-is-unended-child-spec = tie.close (tie.spec (λ c κs. search rules) (λ c. search rules) returns (λ c κs. search rules) returns-2)
+pub is_unended_child_spec : {M : Type 1} → statement M
+is_unended_child_spec = tie.close (tie.spec (λ c κs. search rules) (λ c. search rules) returns (λ c κs. search rules) returns-2)

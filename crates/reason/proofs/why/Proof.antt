@@ -12,44 +12,44 @@ use Rattle.answer.specs.Meaning.{plan_of}
 use Rattle.reason.proofs.why.Statement.{statement}
 use Rattle.reason.proofs.why.Tie as tie
 
-returns : tie.Need-returns
+returns : tie.Need-returns-then-cell-ne-RUNNING
 unfolding contents
 returns c =
-    let s = c.before.before in
-    sym (why-outside (plan_of s.args.plan.now) s.args.task (λ e. c.if1.true (c.before.cell.ensures ∙ e)))
+    let s = c in
+    sym (why-outside (plan_of s.args.plan.now) s.args.task (λ e. c.if-cell-ne-RUNNING.true (c.cell.ensures ∙ e)))
 
 -- the plan runs, and whether the number is a task's is tested
-runs : (c : tie.Else1) → (contents c.before.before.args.plan.now).phase ≡ Phase.running
+runs : (c : tie.Else-cell-ne-RUNNING) → (contents c.args.plan.now).phase ≡ Phase.running
 unfolding contents
-runs c = sym c.before.cell.ensures ∙ c.if1.false
+runs c = sym c.cell.ensures ∙ c.if-cell-ne-RUNNING.false
 
 tested :
-    (c : tie.After-is-within)
-    → c.is_Within.result
-    ≡ within c.before.before.before.before.args.task (contents c.before.before.before.before.args.plan.now).size
+    (c : tie.After-is_within)
+    → c.is_within.result
+    ≡ within c.args.task (contents c.args.plan.now).size
 unfolding contents
 tested c =
-    c.is_Within.ensures ∙ ap (within c.before.before.before.before.args.task) c.before.cell2.ensures
+    c.is_within.ensures ∙ ap (within c.args.task) c.cell-2.ensures
 
-returns-2 : tie.Need-returns-2
+returns-2 : tie.Need-returns-then-not-is_within
 returns-2 c =
-    let s = c.before.before.before.before.before in
-    let none = sym (tested c.before) ∙ not-true c.before.is_Within.result c.if2.true in
+    let s = c in
+    let none = sym (tested c.before) ∙ c.if-not-is_within.true in
     sym
     (why-nobody (plan_of s.args.plan.now) s.args.task (runs c.before.before.before)
     (λ t. clash (task-within (contents s.args.plan.now).size s.args.task t) none))
 
-first-true-requires : tie.Need-first-true-requires
+first-true-requires : tie.Need-first_true-requires
 first-true-requires c κs =
-    let s = c.before.before.before.before.before in
+    let s = c in
     record {
       valid = s.requires;
       runs = runs c.before.before.before;
-      is_task = within-task _ _ (sym (tested c.before) ∙ not-false c.before.is_Within.result c.if2.false);
+      is_task = within-task _ _ (sym (tested c.before) ∙ c.if-not-is_within.false);
     }
 
-pub why-spec : {M : Type 1} → statement M
-why-spec =
+pub why_spec : {M : Type 1} → statement M
+why_spec =
     tie.close
     (tie.spec (λ c κs. search rules) returns (λ c κs. search rules) (λ c. search rules) (λ c κs. search rules) returns-2
     first-true-requires (λ c. search rules))

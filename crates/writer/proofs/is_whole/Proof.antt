@@ -29,39 +29,39 @@ counted w valid =
     (ranked-length (contents w) valid.sound (lengths w))
     (placed-length (contents w) valid.sound (lengths w))
 
-unopened : tie.Need-returns
+unopened : tie.Need-returns-then-cell-eq-EMPTY
 unfolding contents
 unopened c =
-    let s = c.before.before in
+    let s = c in
     let w = s.args.plan.now in
-    rw (counted w s.requires, eq-eqb (contents w).phase Phase.empty (sym c.before.cell.ensures ∙ c.if1.true))
+    rw (counted w s.requires, eq-eqb (contents w).phase Phase.empty (sym c.cell.ensures ∙ c.if-cell-eq-EMPTY.true))
 
-not-ranked : tie.Need-returns-2
+not-ranked : tie.Need-returns-then-cell-size
 unfolding contents
 not-ranked c =
-    let s = c.before.before.before.before.before in
+    let s = c in
     let w = s.args.plan.now in
     rw (
       counted w s.requires,
-      ne_eqb (contents w).phase Phase.empty (λ e. c.before.before.before.if1.false (c.before.before.before.before.cell.ensures ∙ e)),
-      ne_eqb (contents w).ranked (contents w).size (λ e. c.if2.true (c.before.cell3.ensures ∙ e ∙ sym c.before.before.cell2.ensures)),
+      ne_eqb (contents w).phase Phase.empty (λ e. c.if-cell-eq-EMPTY.false (c.cell.ensures ∙ e)),
+      ne_eqb (contents w).ranked (contents w).size (λ e. c.if-cell-size.true (c.cell-2.ensures ∙ e ∙ sym c.cell-size.ensures)),
     )
 
-placed : tie.Need-returns-3
+placed : tie.Need-returns
 unfolding contents
 placed c =
-    let s = c.before.before.before.before.before.before in
+    let s = c in
     let w = s.args.plan.now in
     rw (
       counted w s.requires,
-      ne_eqb (contents w).phase Phase.empty (λ e. c.before.before.before.before.if1.false (c.before.before.before.before.before.cell.ensures ∙ e)),
-      eq-eqb (contents w).ranked (contents w).size (sym c.before.before.cell3.ensures ∙ c.before.if2.false ∙ c.before.before.before.cell2.ensures),
-      ← c.cell4.ensures,
-      ← c.before.before.before.cell2.ensures,
+      ne_eqb (contents w).phase Phase.empty (λ e. c.if-cell-eq-EMPTY.false (c.cell.ensures ∙ e)),
+      eq-eqb (contents w).ranked (contents w).size (sym c.cell-2.ensures ∙ c.if-cell-size.false ∙ c.cell-size.ensures),
+      ← c.cell-3.ensures,
+      ← c.cell-size.ensures,
     )
 
-pub is-whole-spec : {M : Type 1} → statement M
-is-whole-spec =
+pub is_whole_spec : {M : Type 1} → statement M
+is_whole_spec =
     tie.close
     (tie.spec
     (λ c κs. search rules)

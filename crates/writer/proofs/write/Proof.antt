@@ -17,50 +17,50 @@ use Rattle.writer.specs.Writing.{WholePlan}
 use Rattle.writer.proofs.write.Statement.{statement}
 use Rattle.writer.proofs.write.Tie as tie
 
-abbrev start : tie.After-is-whole → tie.Start
+abbrev start : tie.After-is_whole → tie.Start
 start c = c.before.before
 
-whole : (c : tie.Else1) → WholePlan (start c.before).args.plan.now
+whole : (c : tie.Else-not-is_whole) → WholePlan (start c.before).args.plan.now
 whole c =
     record {
       valid = (start c.before).requires;
-      whole = sym c.before.is_whole.ensures ∙ not-false c.before.is_whole.result c.if1.false;
+      whole = sym c.is_whole.ensures ∙ c.if-not-is_whole.false;
     }
 
 -- the room that is tested
 room-is :
-    (c : tie.After-cell)
-    → 8 + 13 * c.cell.result ≡ writing.written_length (instance_of (plan_of (start c.before.before).args.plan.now))
+    (c : tie.After-cell-n)
+    → 8 + 13 * c.cell-n.result ≡ writing.written_length (instance_of (plan_of (start c.before.before).args.plan.now))
 unfolding contents writing.written_length
-room-is c = ap (λ (n : ℕ). 8 + 13 * n) c.cell.ensures
+room-is c = ap (λ (n : ℕ). 8 + 13 * n) c.cell-n.ensures
 
 -- an order is not complete
-returns : tie.Need-returns
+returns : tie.Need-returns-then-not-is_whole
 returns c =
-    let tested = c.before.before in
+    let tested = c in
     unwritten _ 3 _ c.refused.ensures
-    ∙ sym (write-early _ _ (sym tested.is_whole.ensures ∙ not-true tested.is_whole.result c.before.if1.true))
+    ∙ sym (write-early _ _ (sym tested.is_whole.ensures ∙ c.if-not-is_whole.true))
 
 -- the list is too short
-returns-2 : tie.Need-returns-2
+returns-2 : tie.Need-returns-then-list-n
 returns-2 c =
     let e = room-is c.before.before in
-    let short = c.before.if2.true in
-    unwritten _ 11 _ c.refused2.ensures ∙ sym (write-short _ _ (whole c.before.before.before).whole (omega arith))
+    let short = c.if-list-n.true in
+    unwritten _ 11 _ c.refused-then-list-n.ensures ∙ sym (write-short _ _ (whole c.before.before.before).whole (omega arith))
 
-write-whole-requires : tie.Need-write-whole-requires
+write-whole-requires : tie.Need-write_whole-count-requires
 write-whole-requires c κs = whole c.before.before.before
 
-returns-3 : tie.Need-returns-3
+returns-3 : tie.Need-returns
 unfolding writing.at_front front
 returns-3 c =
-    let put = c.before.before in
-    let tested = put.before.before in
-    let w = whole tested.before.before in
-    let e = room-is tested.before in
-    let enough = tested.if2.false in
+    let put = c in
+    let tested = put in
+    let w = whole tested.before.before.before.before.before.before in
+    let e = room-is tested.before.before.before.before.before in
+    let enough = tested.if-list-n.false in
     let long = (every-write-holds.plans _ w.valid.reached w.whole).sized in
-    let room = with-room put.write-whole.ensures (omega arith) in
+    let room = with-room put.write_whole-count.ensures (omega arith) in
     ap₂ (λ (count : ℕ) (list : List ℕ). record { number = 0; count = count; list = list }) room.1 room.0
     ∙ sym (write-whole _ _ w.whole (omega arith))
 

@@ -6,21 +6,21 @@ use Rattle.writer.specs.Writing.{next_in}
 use Rattle.writer.proofs.write_entry.Statement.{statement}
 use Rattle.writer.proofs.write_entry.Tie as tie
 
-returns : tie.Need-returns
+returns : tie.Need-returns-then-order-eq-ACTIVATION
 unfolding next_in
 returns c =
-    let put = c.before.before in
-    let test = put.before.before in
-    rw (eq-eqb test.before.before.args.order activation_base test.if1.true) put.encode-activation.ensures
+    let put = c in
+    let test = put in
+    rw (eq-eqb test.args.order activation_base test.if-order-eq-ACTIVATION.true) put.encode_activation.ensures
 
-returns-2 : tie.Need-returns-2
+returns-2 : tie.Need-returns-else-order-eq-ACTIVATION
 unfolding next_in
 returns-2 c =
-    let put = c.before.before in
-    let test = put.before.before in
-    rw (ne_eqb test.before.before.args.order activation_base test.if1.false) put.encode-execution.ensures
+    let put = c in
+    let test = put in
+    rw (ne_eqb test.args.order activation_base test.if-order-eq-ACTIVATION.false) put.encode_execution.ensures
 
-pub write-entry-spec : {M : Type 1} → statement M
-write-entry-spec =
+pub write_entry_spec : {M : Type 1} → statement M
+write_entry_spec =
     tie.close
     (tie.spec (λ c κs. search rules) (λ c κs. search rules) (λ c. search rules) returns (λ c. search rules) returns-2)

@@ -6,27 +6,27 @@ use Rattle.words.specs.Contents.{contents, store_contents}
 use Rattle.writer.proofs.write_opening.Statement.{statement}
 use Rattle.writer.proofs.write_opening.Tie as tie
 
-cast-n : tie.Need-overflow-cast-n
+cast-n : tie.Need-overflow_cast-n
 unfolding contents
-cast-n c = let e = c.cell.ensures in let small = c.before.before.requires.valid.sound.small in omega arith
+cast-n c = let e = c.cell-n.ensures in let small = c.requires.valid.sound.small in omega arith
 
-cast-p : tie.Need-overflow-cast-p
+cast-p : tie.Need-overflow_cast-p
 unfolding contents
-cast-p c = let e = c.cell2.ensures in let few = c.before.before.before.requires.valid.sound.few in omega arith
+cast-p c = let e = c.cell-p.ensures in let few = c.requires.valid.sound.few in omega arith
 
 returns : tie.Need-returns
 unfolding contents store_contents
 returns c =
-    let put = c.before.before in
-    let read = put.before.before in
-    let w = read.before.before.before.before.args.plan.now in
-    let n : read.before.before.cell.result ≡ (contents w).size = read.before.before.cell.ensures in
-    let p : read.before.cell2.result ≡ (contents w).processors = read.before.cell2.ensures in
-    let bound : read.cell3.result ≡ (contents w).stores.chilled.bound = read.cell3.ensures in
+    let put = c in
+    let read = put in
+    let w = read.args.plan.now in
+    let n : read.before.before.cell-n.result ≡ (contents w).size = read.cell-n.ensures in
+    let p : read.before.cell-p.result ≡ (contents w).processors = read.cell-p.ensures in
+    let bound : read.cell-bound.result ≡ (contents w).stores.chilled.bound = read.cell-bound.ensures in
     rw (← n, ← p, ← bound) put.encode.ensures
 
-pub write-opening-spec : {M : Type 1} → statement M
-write-opening-spec =
+pub write_opening_spec : {M : Type 1} → statement M
+write_opening_spec =
     tie.close
     (tie.spec
     (λ c κs. search rules)

@@ -9,44 +9,44 @@ use Rattle.writer.proofs.write_task.Statement.{statement}
 use Rattle.writer.proofs.write_task.Tie as tie
 
 -- each count is in its limits
-cast-parent : tie.Need-overflow-cast-parent
+cast-parent : tie.Need-overflow_cast-parent
 cast-parent c =
-    let s = c.before.before in
-    let e = c.cell.ensures ∙ parent-read s.requires in
+    let s = c in
+    let e = c.cell-parent.ensures ∙ parent-read s.requires in
     let low = (lives s.requires.plan.valid.reached).formed.given.parents.limited s.args.task in
     let small = s.requires.plan.valid.sound.small in
     omega arith
 
-cast-work : tie.Need-overflow-cast-work
+cast-work : tie.Need-overflow_cast-work
 cast-work c =
-    let s = c.before.before.before in
-    let e = c.cell2.ensures ∙ work-read s.requires in
+    let s = c in
+    let e = c.cell-work.ensures ∙ work-read s.requires in
     let light = ((lives s.requires.plan.valid.reached).formed.stores chilled).works.limited s.args.task in
     omega arith
 
-cast-out : tie.Need-overflow-cast-out
+cast-out : tie.Need-overflow_cast-out
 cast-out c =
-    let s = c.before.before.before.before in
-    let e = c.cell3.ensures ∙ out-read s.requires in
+    let s = c in
+    let e = c.cell-out.ensures ∙ out-read s.requires in
     let light = ((lives s.requires.plan.valid.reached).formed.stores chilled).outs.limited s.args.task in
     omega arith
 
 returns : tie.Need-returns
 returns c =
-    let put = c.before.before in
-    let out = put.before.before in
-    let work = out.before in
-    let parent = work.before in
-    let t = parent.before.before.requires in
+    let put = c in
+    let out = put in
+    let work = out in
+    let parent = work in
+    let t = parent.requires in
     rw (
-      ← (parent.cell.ensures ∙ parent-read t),
-      ← (work.cell2.ensures ∙ work-read t),
-      ← (out.cell3.ensures ∙ out-read t),
+      ← (parent.cell-parent.ensures ∙ parent-read t),
+      ← (work.cell-work.ensures ∙ work-read t),
+      ← (out.cell-out.ensures ∙ out-read t),
     )
-    put.encode-task.ensures
+    put.encode_task.ensures
 
-pub write-task-spec : {M : Type 1} → statement M
-write-task-spec =
+pub write_task_spec : {M : Type 1} → statement M
+write_task_spec =
     tie.close
     (tie.spec
     (λ c κs. search rules)

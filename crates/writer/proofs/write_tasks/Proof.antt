@@ -15,58 +15,58 @@ use Rattle.writer.proofs.Turning.{task-turn}
 use Rattle.writer.proofs.write_tasks.Statement.{statement}
 use Rattle.writer.proofs.write_tasks.Tie as tie
 
-abbrev invariant-loop : tie.invariant-loop
+abbrev invariant-loop : tie.invariant-loop-task
 invariant-loop plan list₀ place n next₀ task₀ list next task =
     (task ≤ n) × Put (flat_map bytes (tasks_to (instance_of (plan_of plan)) task)) place list₀ list next
 
-abbrev decreases-loop : tie.decreases-loop
+abbrev decreases-loop : tie.decreases-loop-task
 decreases-loop plan list₀ place n next₀ task₀ list next task = n - task
 
-loop-holds : tie.Need-loop-init invariant-loop decreases-loop
+loop-holds : tie.Need-loop-task-init invariant-loop decreases-loop
 unfolding tasks_to flat_map
 loop-holds c = (omega arith, nothing _ _)
 
 -- what is read
-size_is : (c : tie.After-cell invariant-loop decreases-loop) → c.cell.result ≡ (contents c.before.before.args.plan.now).size
+size_is : (c : tie.After-cell-n invariant-loop decreases-loop) → c.cell-n.result ≡ (contents c.args.plan.now).size
 unfolding contents
-size_is c = c.cell.ensures
+size_is c = c.cell-n.ensures
 
 -- another task is written
-is_task : (c : tie.In-loop invariant-loop decreases-loop) → Task (contents c.before.before.before.before.args.plan.now).size (c.before.loop.task + 1)
+is_task : (c : tie.In-loop-task invariant-loop decreases-loop) → Task (contents c.args.plan.now).size (c.loop-task.task + 1)
 is_task c =
     let e = size_is c.before.before in
-    let more = c.loop-test.true in
+    let more = c.loop-task-test.true in
     record { low = omega arith; high = omega arith }
 
-add-task : tie.Need-overflow-add-task invariant-loop decreases-loop
+add-task : tie.Need-overflow_add-task invariant-loop decreases-loop
 add-task c =
-    let t = (is_task c).high in let small = c.before.before.before.before.requires.valid.sound.small in omega arith
+    let t = (is_task c).high in let small = c.requires.valid.sound.small in omega arith
 
-write-task-requires : tie.Need-write-task-requires invariant-loop decreases-loop
-write-task-requires c κs = record { plan = c.before.before.before.before.before.requires; is_task = is_task c.before }
+write-task-requires : tie.Need-write_task-next-requires invariant-loop decreases-loop
+write-task-requires c κs = record { plan = c.requires; is_task = is_task c.before }
 
-loop-again : tie.Need-loop-preserved invariant-loop decreases-loop
+loop-again : tie.Need-loop-task-preserved invariant-loop decreases-loop
 loop-again c =
-    let put = c.before.before in
-    let turn = put.before.before in
-    let inv = turn.before.loop.invariant in
-    let more = turn.loop-test.true in
-    (omega arith, task-turn _ turn.before.loop.task inv.1 put.write-task.ensures)
+    let put = c in
+    let turn = put in
+    let inv = turn.loop-task.invariant in
+    let more = turn.loop-task-test.true in
+    (omega arith, task-turn _ turn.loop-task.task inv.1 put.write_task-next.ensures)
 
-same_length : tie.Need-same-length invariant-loop decreases-loop
-same_length c = kept c.before.loop.invariant.1
+same_length : tie.Need-shape_of-list invariant-loop decreases-loop
+same_length c = kept c.loop-task.invariant.1
 
 returns : tie.Need-returns invariant-loop decreases-loop
 returns c =
-    let loop = c.before.loop in
+    let loop = c.loop-task in
     let e = size_is c.before.before in
-    let left = c.loop-test.false in
+    let left = c.loop-task-test.false in
     let low = loop.invariant.0 in
     let all : loop.task ≡ (contents c.before.before.before.before.args.plan.now).size = omega arith in
     rw all at loop.invariant.1
 
-pub write-tasks-spec : {M : Type 1} → statement M
-write-tasks-spec =
+pub write_tasks_spec : {M : Type 1} → statement M
+write_tasks_spec =
     tie.close
     (tie.spec
     invariant-loop

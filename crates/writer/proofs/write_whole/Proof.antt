@@ -34,35 +34,35 @@ parts_are w whole =
     rw (activation-is w whole, execution-is w whole) (written-parts (instance_of (plan_of w)))
 
 -- the parts that are behind
-abbrev opening : tie.After-write-tasks → tie.After-write-opening
+abbrev opening : tie.After-write_tasks-next → tie.After-write_opening-next
 opening c = c.before.before.before.before
 
-abbrev tasks : tie.After-write-order → tie.After-write-tasks
+abbrev tasks : tie.After-write_order-next → tie.After-write_tasks-next
 tasks c = c.before.before.before.before
 
-abbrev start : tie.After-write-opening → tie.Start
+abbrev start : tie.After-write_opening-next → tie.Start
 start c = c.before.before.before
 
 -- whichever order is written next
-write-order-requires : tie.Need-write-order-requires
+write-order-requires : tie.Need-write_order-next-requires
 write-order-requires c κs =
     let whole = (start (opening c.before.before.before)).requires in search (activation-at _ whole, execution-at _ whole)
 
-write-order-requires-2 : tie.Need-write-order-requires-2
+write-order-requires-2 : tie.Need-write_order-requires
 write-order-requires-2 c κs =
     let whole = (start (opening (tasks c.before.before.before))).requires in search (activation-at _ whole, execution-at _ whole)
 
 returns : tie.Need-returns
 returns c =
-    let last = c.before.before in
-    let order = last.before.before.before.before in
-    let steps = tasks order in
+    let last = c in
+    let order = last in
+    let steps = tasks order.before.before.before.before.before.before in
     let first = opening steps in
-    rw (parts_are _ (start first).pre)
-    (first.write-opening.ensures then steps.write-tasks.ensures then order.write-order.ensures then last.write-order2.ensures)
+    rw (parts_are _ (start first).requires)
+    (first.write_opening-next.ensures then steps.write_tasks-next.ensures then order.write_order-next.ensures then last.write_order.ensures)
 
-pub write-whole-spec : {M : Type 1} → statement M
-write-whole-spec =
+pub write_whole_spec : {M : Type 1} → statement M
+write_whole_spec =
     tie.close
     (tie.spec
     (λ c κs. search rules)

@@ -19,41 +19,41 @@ use Rattle.day.proofs.Beginning.{begin-late, in-turn, may-survey, surveyed-refus
 use Rattle.day.proofs.begin.begin.Statement.{statement}
 use Rattle.day.proofs.begin.begin.Tie as tie
 
-late : tie.Need-returns
+late : tie.Need-returns-then-not-is_in_turn
 late c =
-    let w = c.before.before.before.before.before.args.plan.now in
-    refusal 3 c.before.before.before.before.before.requires.0.sound c.refused.ensures (λ q. omega arith)
-    (begin-late (contents w) c.before.before.before.before.before.requires.0.sound (lengths w) (sym c.before.before.is-in-turn.ensures ∙ not-true _ c.before.if1.true))
-    c.before.before.before.before.before.args.starts.now
+    let w = c.args.plan.now in
+    refusal 3 c.requires.0.sound c.refused.ensures (λ q. omega arith)
+    (begin-late (contents w) c.requires.0.sound (lengths w) (sym c.is_in_turn.ensures ∙ c.if-not-is_in_turn.true))
+    c.args.starts.now
 
-survey-requires : tie.Need-survey-requires
+survey-requires : tie.Need-survey-surveyed-requires
 survey-requires c κs =
-    let w = c.before.before.before.before.before.args.plan.now in
-    may-survey (contents w) c.before.before.before.before.before.requires.0.sound (lengths w) c.before.before.before.before.before.requires.0.reached
-    (sym c.before.before.is-in-turn.ensures ∙ not-false _ c.before.if1.false)
+    let w = c.args.plan.now in
+    may-survey (contents w) c.requires.0.sound (lengths w) c.requires.0.reached
+    (sym c.is_in_turn.ensures ∙ c.if-not-is_in_turn.false)
 
-out_of_order : tie.Need-returns-2
+out_of_order : tie.Need-returns-then-surveyed-ne0
 out_of_order c =
-    let w = c.before.before.before.before.before.before.before.before.before.args.plan.now in
-    let valid = c.before.before.before.before.before.before.before.before.before.requires.0 in
-    refusal c.before.before.before.survey.result.number valid.sound c.refused2.ensures c.before.if2.true
+    let w = c.args.plan.now in
+    let valid = c.requires.0 in
+    refusal c.survey-surveyed.result.number valid.sound c.refused-then-surveyed-ne0.ensures c.if-surveyed-ne0.true
     (surveyed-refused (contents w) valid.sound (lengths w) valid.reached
-    (sym c.before.before.before.before.before.before.is-in-turn.ensures ∙ not-false _ c.before.before.before.before.before.if1.false) c.before.before.before.survey.ensures.0 c.before.before.before.survey.ensures.1 c.before.if2.true)
-    c.before.before.before.before.before.before.before.before.before.args.starts.now
+    (sym c.is_in_turn.ensures ∙ c.if-not-is_in_turn.false) c.survey-surveyed.ensures.0 c.survey-surveyed.ensures.1 c.if-surveyed-ne0.true)
+    c.args.starts.now
 
-over-the-bound : tie.Need-returns-3
+over-the-bound : tie.Need-returns-then-bound-surveyed
 unfolding contents store_contents
 over-the-bound c =
-    let w = c.before.before.before.before.before.before.before.before.before.before.before.before.before.args.plan.now in
-    let valid = c.before.before.before.before.before.before.before.before.before.before.before.before.before.requires.0 in
-    refusal 9 valid.sound c.refused3.ensures (λ q. omega arith)
+    let w = c.args.plan.now in
+    let valid = c.requires.0 in
+    refusal 9 valid.sound c.refused-then-bound-surveyed.ensures (λ q. omega arith)
     (too-high (contents w) valid.sound (lengths w) valid.reached
-    (sym c.before.before.before.before.before.before.before.before.before.before.is-in-turn.ensures ∙ not-false _ c.before.before.before.before.before.before.before.before.before.if1.false) c.before.before.before.before.before.before.before.survey.ensures.0 c.before.before.before.before.before.before.before.survey.ensures.1 c.before.before.before.before.before.if2.false
-    (omega (arith, c.before.if3.true, c.before.before.before.cell.ensures)))
-    c.before.before.before.before.before.before.before.before.before.before.before.before.before.args.starts.now
+    (sym c.is_in_turn.ensures ∙ c.if-not-is_in_turn.false) c.survey-surveyed.ensures.0 c.survey-surveyed.ensures.1 c.if-surveyed-ne0.false
+    (omega (arith, c.if-bound-surveyed.true, c.cell-bound.ensures)))
+    c.args.starts.now
 
 -- there is no ground against it: what the checks have found
-module _ (c : tie.Else3) where
+module _ (c : tie.Else-bound-surveyed) where
   abbrev start : tie.Start
   start = c.before.before.before.before.before.before.before.before.before.before.before.before
 
@@ -61,46 +61,46 @@ module _ (c : tie.Else3) where
   w = start.args.plan.now
 
   turn : begins (contents w) ≡ true
-  turn = sym c.before.before.before.before.before.before.before.before.before.is-in-turn.ensures ∙ not-false _ c.before.before.before.before.before.before.before.before.if1.false
+  turn = sym c.before.before.before.before.before.before.before.before.before.is_in_turn.ensures ∙ c.before.before.before.before.before.before.before.before.if-not-is_in_turn.false
 
   in-turn-there : in_turn (plan_of w) begin ≡ true
-  in-turn-there = in-turn (contents w) start.pre.0.sound (lengths w) turn
+  in-turn-there = in-turn (contents w) start.requires.0.sound (lengths w) turn
 
   no-ground-there : order_ground (plan_of w).size (at (plan_of w).parents) (plan_of w).activation ≡ 0
   no-ground-there =
-      no-order-ground (contents w) start.pre.0.sound (lengths w) start.pre.0.reached turn
-      c.before.before.before.before.before.before.survey.ensures.0 c.before.before.before.before.before.before.survey.ensures.1 c.before.before.before.before.if2.false
+      no-order-ground (contents w) start.requires.0.sound (lengths w) start.requires.0.reached turn
+      c.before.before.before.before.before.before.survey-surveyed.ensures.0 c.before.before.before.before.before.before.survey-surveyed.ensures.1 c.before.before.before.before.if-surveyed-ne0.false
 
 complete-requires : tie.Need-complete-requires
-complete-requires c κs = ((start c.before).pre.0, in-turn-there c.before)
+complete-requires c κs = ((start c).requires.0, in-turn-there c)
 
-start-day-requires : tie.Need-start-day-requires
+start-day-requires : tie.Need-start_day-started-requires
 start-day-requires c κs =
-    let passed = c.before.before.before.before in
-    let done = c.before.before.complete.ensures in
+    let passed = c in
+    let done = c.complete.ensures in
     may-begin (contents (w passed)) done.valid.sound (lengths _) done.valid.reached done.means (in-turn-there passed)
     (no-ground-there passed) _ (start passed).requires.1
 
-begun : tie.Need-returns-4
+begun : tie.Need-returns
 unfolding contents store_contents
 begun c =
-    let passed = c.before.before.before.before.before.before.before in
+    let passed = c in
     let valid = (start passed).requires.0 in
     let found = w passed in
-    let number = passed.before.before.before.before.before.before.survey.ensures.0 in
-    let high = passed.before.before.before.before.before.before.survey.ensures.1 in
-    let fine = passed.before.before.before.before.if2.false in
-    let done = c.before.before.before.before.before.complete.ensures in
+    let number = passed.survey-surveyed.ensures.0 in
+    let high = passed.survey-surveyed.ensures.1 in
+    let fine = passed.if-surveyed-ne0.false in
+    let done = c.complete.ensures in
     judged
     (low-enough (contents found) valid.sound (lengths found) valid.reached (turn passed) number high fine
-    (omega (arith, passed.if3.false, passed.before.before.cell.ensures)))
+    (omega (arith, passed.if-bound-surveyed.false, passed.cell-bound.ensures)))
     refl
-    (begin-answers (contents found) done.valid.sound (lengths _) done.valid.reached done.means (in-turn-there passed) c.before.before.start-day.ensures
+    (begin-answers (contents found) done.valid.sound (lengths _) done.valid.reached done.means (in-turn-there passed) c.start_day-started.ensures
     (high_is (contents found) valid.sound (lengths found) valid.reached (turn passed) number high fine) (start passed).args.used)
-    (begin-sound (contents found) done.valid.sound (lengths _) done.valid.reached done.means (in-turn-there passed) c.before.before.start-day.ensures)
+    (begin-sound (contents found) done.valid.sound (lengths _) done.valid.reached done.means (in-turn-there passed) c.start_day-started.ensures)
 
-pub begin-spec : {M : Type 1} → statement M
-begin-spec =
+pub begin_spec : {M : Type 1} → statement M
+begin_spec =
     tie.close
     (tie.spec
     (λ c κs. search rules)

@@ -13,23 +13,23 @@ use Rattle.day.specs.Day.{begins}
 use Rattle.day.proofs.begin.is_in_turn.Statement.{statement}
 use Rattle.day.proofs.begin.is_in_turn.Tie as tie
 
-other-phase : tie.Need-returns
+other-phase : tie.Need-returns-then-cell-ne-ORDERS
 unfolding contents begins
 other-phase c =
-    let w = c.before.before.args.plan.now in
-    rw (ne_eqb (contents w).phase Phase.orders (λ e. c.if1.true (c.before.cell.ensures ∙ e)))
+    let w = c.args.plan.now in
+    rw (ne_eqb (contents w).phase Phase.orders (λ e. c.if-cell-ne-ORDERS.true (c.cell.ensures ∙ e)))
 
-not-ranked : tie.Need-returns-2
+not-ranked : tie.Need-returns-then-cell-size
 unfolding contents begins
 not-ranked c =
-    let w = c.before.before.before.before.before.args.plan.now in
+    let w = c.args.plan.now in
     rw (
-      eq-eqb (contents w).phase Phase.orders (sym c.before.before.before.before.cell.ensures ∙ c.before.before.before.if1.false),
-      ne_eqb (contents w).ranked (contents w).size (λ e. c.if2.true (c.before.cell3.ensures ∙ e ∙ sym c.before.before.cell2.ensures)),
+      eq-eqb (contents w).phase Phase.orders (sym c.cell.ensures ∙ c.if-cell-ne-ORDERS.false),
+      ne_eqb (contents w).ranked (contents w).size (λ e. c.if-cell-size.true (c.cell-2.ensures ∙ e ∙ sym c.cell-size.ensures)),
     )
 
 -- what both ways out know that are left: the plan is in orders, with a full activation order
-module _ (c : tie.After-cell4) where
+module _ (c : tie.After-cell-placed) where
   abbrev w : List ℕ
   w = c.before.before.before.before.before.before.args.plan.now
 
@@ -37,37 +37,37 @@ module _ (c : tie.After-cell4) where
   unfolding contents
   is-orders =
       eq-eqb (contents w).phase Phase.orders
-      (sym c.before.before.before.before.before.cell.ensures ∙ c.before.before.before.before.if1.false)
+      (sym c.before.before.before.before.before.cell.ensures ∙ c.before.before.before.before.if-cell-ne-ORDERS.false)
 
   is-ranked : eqb (contents w).ranked (contents w).size ≡ true
   unfolding contents
   is-ranked =
       eq-eqb (contents w).ranked (contents w).size
-      (sym c.before.before.cell3.ensures ∙ c.before.if2.false ∙ c.before.before.before.cell2.ensures)
+      (sym c.before.before.cell-2.ensures ∙ c.before.if-cell-size.false ∙ c.before.before.before.cell-size.ensures)
 
-alone : tie.Need-returns-3
+alone : tie.Need-returns-then-placed-eq0
 unfolding contents begins
 alone c =
-    let d = contents (w c.before) in
-    rw (is-orders c.before, is-ranked c.before)
+    let d = contents (w c) in
+    rw (is-orders c, is-ranked c)
     (sym
     (or_right (eqb d.placed d.size) (eqb d.placed 0)
-    (eq-eqb d.placed 0 (sym c.before.cell4.ensures ∙ c.if3.true))))
+    (eq-eqb d.placed 0 (sym c.cell-placed.ensures ∙ c.if-placed-eq0.true))))
 
-placed : tie.Need-returns-4
+placed : tie.Need-returns
 unfolding contents begins
 placed c =
     rw (
-      is-orders c.before,
-      is-ranked c.before,
-      ne_eqb (contents (w c.before)).placed 0 (λ e. c.if3.false (c.before.cell4.ensures ∙ e)),
-      ← c.before.cell4.ensures,
-      ← c.before.before.before.before.cell2.ensures,
+      is-orders c,
+      is-ranked c,
+      ne_eqb (contents (w c)).placed 0 (λ e. c.if-placed-eq0.false (c.cell-placed.ensures ∙ e)),
+      ← c.cell-placed.ensures,
+      ← c.cell-size.ensures,
     )
     (sym (or-none _))
 
-pub is-in-turn-spec : {M : Type 1} → statement M
-is-in-turn-spec =
+pub is_in_turn_spec : {M : Type 1} → statement M
+is_in_turn_spec =
     tie.close
     (tie.spec
     (λ c κs. search rules)

@@ -8,18 +8,18 @@ use Rattle.day.proofs.begin.start_day.Statement.{statement}
 use Rattle.day.proofs.begin.start_day.Tie as tie
 
 prepare-requires : tie.Need-prepare-requires
-prepare-requires c κs = c.before.before.requires.may
+prepare-requires c κs = c.requires.may
 
-advance-requires : tie.Need-advance-requires
-advance-requires c κs = begin-advances c.before.before.before.before.before.requires c.before.before.prepare.ensures
+advance-requires : tie.Need-advance-started-requires
+advance-requires c κs = begin-advances c.requires c.prepare.ensures
 
 returns : tie.Need-returns
 unfolding contents
 returns c =
-    begun c.before.before.before.before.before.before.before.before.before.before.requires c.before.before.before.before.before.before.before.prepare.ensures c.before.before.before.before.advance.ensures
-    (wrote-head c.before.before.before.before.advance.new.0 0 3 c.before.before.before.before.advance.ensures.kept.cached.long (omega arith) c.set-cell.ensures).0
+    begun c.requires c.prepare.ensures c.advance-started.ensures
+    (wrote-head c.advance-started.new.plan 0 3 c.advance-started.ensures.kept.cached.long (omega arith) c.set_cell.ensures).0
 
-pub start-day-spec : {M : Type 1} → statement M
-start-day-spec =
+pub start_day_spec : {M : Type 1} → statement M
+start_day_spec =
     tie.close
     (tie.spec prepare-requires advance-requires (λ c κs. search rules) (λ c. search rules) returns)

@@ -13,48 +13,48 @@ use Rattle.day.proofs.Fetching.{fetch-late, fetch-free, root-task, fetches, fetc
 use Rattle.day.proofs.fetch.fetch.Statement.{statement}
 use Rattle.day.proofs.fetch.fetch.Tie as tie
 
-late : tie.Need-returns
+late : tie.Need-returns-then-cell-ne-READY
 unfolding contents
 late c =
-    let s = c.before.before.before.before in
+    let s = c in
     refusal 3 s.requires.sound c.refused.ensures (λ q. omega arith)
-    (fetch-late (contents s.args.plan.now) (λ e. c.before.if1.true (c.before.before.cell.ensures ∙ e)))
+    (fetch-late (contents s.args.plan.now) (λ e. c.if-cell-ne-READY.true (c.cell.ensures ∙ e)))
 
 -- the trolley stands loaded
 in-ready :
-    (c : tie.Else1) → (contents c.before.before.before.args.plan.now).phase ≡ Phase.ready
+    (c : tie.Else-cell-ne-READY) → (contents c.args.plan.now).phase ≡ Phase.ready
 unfolding contents
-in-ready c = sym c.before.cell.ensures ∙ c.if1.false
+in-ready c = sym c.cell.ensures ∙ c.if-cell-ne-READY.false
 
-root-requires : tie.Need-root-requires
-root-requires c κs = let e = c.before in (e.before.before.before.requires, in-ready e)
+root-requires : tie.Need-root-task-requires
+root-requires c κs = let e = c in (e.requires, in-ready e)
 
-hold-alone-requires : tie.Need-hold-alone-requires
+hold-alone-requires : tie.Need-hold_alone-requires
 hold-alone-requires c κs =
-    let r = c.before in
-    let e = r.before.before in
-    let s = e.before.before.before in
-    let t = root-task (contents s.args.plan.now) s.requires.reached s.requires.sound (in-ready e) in
+    let r = c in
+    let e = r in
+    let s = e in
+    let t = root-task (contents s.args.plan.now) s.requires.reached s.requires.sound (in-ready e.before.before) in
     let high = t.high in
     let small = s.requires.sound.small in
-    let is = r.root.ensures in
+    let is = r.root-task.ensures in
     record { long = s.requires.sound.long; offset = refl; inside = omega arith; task_in = omega arith }
 
-fetches-there : tie.Need-returns-2
+fetches-there : tie.Need-returns
 unfolding contents made_over with_store
 fetches-there c =
-    let h = c.before.before.before in
-    let r = h.before.before in
-    let e = r.before.before in
-    let s = e.before.before.before in
+    let h = c in
+    let r = h in
+    let e = r in
+    let s = e in
     let w = s.args.plan.now in
-    acceptance (fetch-free (contents w) s.requires.reached s.requires.sound (in-ready e)) c.plain.ensures
-    ((wrote-head h.hold-alone.new.0 0 Phase.over (ap (λ (d : Contents). d.extent) h.hold-alone.ensures ∙ s.requires.sound.long) (omega arith)
-    c.before.set-cell.ensures).0
-    ∙ ap (with_head 0 Phase.over) h.hold-alone.ensures
-    ∙ ap (λ (i : ℕ). made_over i (contents w)) r.root.ensures)
-    (fetches (contents w) s.requires.reached s.requires.sound (in-ready e))
-    (fetch-sound (contents w) s.requires.reached s.requires.sound (in-ready e))
+    acceptance (fetch-free (contents w) s.requires.reached s.requires.sound (in-ready e.before.before.before.before.before.before)) c.plain.ensures
+    ((wrote-head h.hold_alone.new.plan 0 Phase.over (ap (λ (d : Contents). d.extent) h.hold_alone.ensures ∙ s.requires.sound.long) (omega arith)
+    c.set_cell.ensures).0
+    ∙ ap (with_head 0 Phase.over) h.hold_alone.ensures
+    ∙ ap (λ (i : ℕ). made_over i (contents w)) r.root-task.ensures)
+    (fetches (contents w) s.requires.reached s.requires.sound (in-ready e.before.before.before.before.before.before))
+    (fetch-sound (contents w) s.requires.reached s.requires.sound (in-ready e.before.before.before.before.before.before))
 
 pub fetch_spec : {M : Type 1} → statement M
 fetch_spec =

@@ -11,40 +11,40 @@ use Rattle.day.proofs.Fetching.{root-task, last_entry}
 use Rattle.day.proofs.fetch.root.Statement.{statement}
 use Rattle.day.proofs.fetch.root.Tie as tie
 
-sub-entry : tie.Need-overflow-sub-entry
+sub-entry : tie.Need-overflow_sub-size
 unfolding contents
 sub-entry c =
-    let s = c.before in
+    let s = c in
     let t = root-task (contents s.args.plan.now) s.requires.0.reached s.requires.0.sound s.requires.1 in
     let low = t.low in
     let high = t.high in
-    let size = c.cell.ensures in
+    let size = c.cell-size.ensures in
     omega arith
 
 entry-requires : tie.Need-entry-requires
 unfolding contents
 entry-requires c κs =
-    let s = c.before in
+    let s = c in
     let small = s.requires.0.sound.small in
-    let size = c.cell.ensures in
+    let size = c.cell-size.ensures in
     omega arith
 
 returns : tie.Need-returns
 unfolding contents
 returns c =
-    let s = c.before.before in
+    let s = c in
     let w = s.args.plan.now in
     let t = root-task (contents w) s.requires.0.reached s.requires.0.sound s.requires.1 in
     let small = s.requires.0.sound.small in
     let low = t.low in
     let high = t.high in
     c.entry.ensures
-    ∙ ap (λ (k : ℕ). at w (activation_base + (k - 1))) c.before.cell.ensures
+    ∙ ap (λ (k : ℕ). at w (activation_base + (k - 1))) c.cell-size.ensures
     ∙ part_at activation_base entries w ((contents w).size - 1) (omega arith)
     ∙ last_entry (contents w) s.requires.0.reached s.requires.0.sound s.requires.1
 
-pub root-spec : {M : Type 1} → statement M
-root-spec =
+pub root_spec : {M : Type 1} → statement M
+root_spec =
     tie.close
     (tie.spec
     (λ c κs. search rules)

@@ -4,17 +4,17 @@ use Rattle.day.proofs.Days.{end-advances, went_on}
 use Rattle.day.proofs.report.go_on.Statement.{statement}
 use Rattle.day.proofs.report.go_on.Tie as tie
 
-finish-requires : tie.Need-finish-requires
-finish-requires c κs = c.before.before.requires.may
+finish-requires : tie.Need-finish-offers-requires
+finish-requires c κs = c.requires.may
 
-advance-requires : tie.Need-advance-requires
-advance-requires c κs = end-advances c.before.before.before.before.before.requires c.before.before.finish.ensures
+advance-requires : tie.Need-advance-started-requires
+advance-requires c κs = end-advances c.requires c.finish-offers.ensures
 
 returns : tie.Need-returns
 returns c =
-    let a = c.before.before in
-    let f = a.before.before.before in
-    went_on f.before.before.before.requires f.finish.ensures a.advance.ensures
+    let a = c in
+    let f = a in
+    went_on f.requires f.finish-offers.ensures a.advance-started.ensures
 
-pub go-on-spec : {M : Type 1} → statement M
-go-on-spec = tie.close (tie.spec finish-requires advance-requires (λ c. search rules) returns)
+pub go_on_spec : {M : Type 1} → statement M
+go_on_spec = tie.close (tie.spec finish-requires advance-requires (λ c. search rules) returns)

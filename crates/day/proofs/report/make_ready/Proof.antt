@@ -14,11 +14,11 @@ use Rattle.day.proofs.report.make_ready.Tie as tie
 returns : tie.Need-returns
 unfolding contents made_ready root_ended ended with_progress with_store
 returns c =
-    let k = c.before.before in
-    let s = k.before.before in
-    let w = k.end-root.new.0 in
-    (wrote-head w 0 Phase.ready (ap (λ (d : Contents). d.extent) k.end-root.ensures ∙ s.requires.long) (omega arith) c.set-cell.ensures).0
-    ∙ ap (with_head 0 Phase.ready) k.end-root.ensures
+    let k = c in
+    let s = k in
+    let w = k.end_root.new.plan in
+    (wrote-head w 0 Phase.ready (ap (λ (d : Contents). d.extent) k.end_root.ensures ∙ s.requires.long) (omega arith) c.set_cell.ensures).0
+    ∙ ap (with_head 0 Phase.ready) k.end_root.ensures
 
-pub make-ready-spec : {M : Type 1} → statement M
-make-ready-spec = tie.close (tie.spec (λ c κs. search rules) (λ c κs. search rules) returns)
+pub make_ready_spec : {M : Type 1} → statement M
+make_ready_spec = tie.close (tie.spec (λ c κs. search rules) (λ c κs. search rules) returns)

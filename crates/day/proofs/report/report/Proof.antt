@@ -18,13 +18,13 @@ use Rattle.day.proofs.Closing.{may-end-root, makes-ready, ready-sound}
 use Rattle.day.proofs.report.report.Statement.{statement}
 use Rattle.day.proofs.report.report.Tie as tie
 
-refuses : tie.Need-returns
+refuses : tie.Need-returns-then-ground-ne0
 refuses c =
-    refusal c.before.before.report-ground.result c.before.before.before.before.before.requires.0.sound c.refused.ensures c.before.if1.true (sym c.before.before.report-ground.ensures)
-    c.before.before.before.before.before.args.starts.now
+    refusal c.report_ground-ground.result c.requires.0.sound c.refused.ensures c.if-ground-ne0.true (sym c.report_ground-ground.ensures)
+    c.args.starts.now
 
 -- no ground is left
-module _ (c : tie.Else1) where
+module _ (c : tie.Else-ground-ne0) where
   abbrev start : tie.Start
   start = c.before.before.before.before
 
@@ -35,10 +35,10 @@ module _ (c : tie.Else1) where
   task = start.args.task
 
   abbrev valid : ValidPlan start.args.plan.now
-  valid = start.pre.0
+  valid = start.requires.0
 
   none : ground_for (plan_of w) (done task) ≡ 0
-  none = sym c.before.report-ground.ensures ∙ c.if1.false
+  none = sym c.before.report_ground-ground.ensures ∙ c.if-ground-ne0.false
 
   done-there : Accepted (contents w) task
   done-there = accepted (contents w) task valid.sound none
@@ -51,44 +51,44 @@ module _ (c : tie.Else1) where
   parent_is = column-at 0 w task task_in
 
 -- a task that is not the root has a parent
-higher : (c : tie.Else2) → at (contents (w c.before.before.before)).parents (task c.before.before.before) ≡ 0 → ⊥
-higher c z = c.if2.false (c.before.cell.ensures ∙ parent_is c.before.before.before ∙ z)
+higher : (c : tie.Else-cell-eq0) → at (contents (w c)).parents (task c) ≡ 0 → ⊥
+higher c z = c.if-cell-eq0.false (c.cell.ensures ∙ parent_is c ∙ z)
 
 cell-requires : tie.Need-cell-requires
-cell-requires c κs = let low = task_in c.before in (omega arith, omega arith)
+cell-requires c κs = let low = task_in c in (omega arith, omega arith)
 
-make-ready-requires : tie.Need-make-ready-requires
+make-ready-requires : tie.Need-make_ready-requires
 make-ready-requires c κs =
-    let e = c.before.before.before.before in
+    let e = c in
     may-end-root (contents (w e)) (task e) (valid e).reached (valid e).sound (done-there e)
 
-root : tie.Need-returns-2
+root : tie.Need-returns-then-cell-eq0
 root c =
-    let t = c.before.before.before in
-    let e = t.before.before.before in
-    let is-root = sym (parent_is e) ∙ sym t.before.cell.ensures ∙ t.if2.true in
-    acceptance (none e) c.plain.ensures c.before.make-ready.ensures
+    let t = c in
+    let e = t in
+    let is-root = sym (parent_is e) ∙ sym t.cell.ensures ∙ t.if-cell-eq0.true in
+    acceptance (none e) c.plain.ensures c.make_ready.ensures
     (makes-ready (contents (w e)) (task e) (valid e).reached (valid e).sound (done-there e) is-root)
     (ready-sound (contents (w e)) (task e) (valid e).reached (valid e).sound (done-there e) is-root) (start e).args.starts.now
 
-go-on-requires : tie.Need-go-on-requires
+go-on-requires : tie.Need-go_on-counted-requires
 go-on-requires c κs =
-    let t = c.before.before in
-    let e = t.before.before.before in
+    let t = c in
+    let e = t in
     may-go-on (contents (w e)) (task e) (valid e).reached (valid e).sound (done-there e)
-    (higher t) (start e).args.starts.now (start e).requires.1
+    (higher t.before.before) (start e).args.starts.now (start e).requires.1
 
-other : tie.Need-returns-3
+other : tie.Need-returns
 other c =
-    let g = c.before.before in
-    let t = g.before.before.before in
-    let e = t.before.before.before in
+    let g = c in
+    let t = g in
+    let e = t in
     judged (none e) refl
-    (report-answers (contents (w e)) (task e) (valid e).reached (valid e).sound (done-there e) (higher t) g.go_on.ensures (start e).args.used)
-    (report-sound (contents (w e)) (task e) (valid e).reached (valid e).sound (done-there e) (higher t) g.go_on.ensures)
+    (report-answers (contents (w e)) (task e) (valid e).reached (valid e).sound (done-there e) (higher t.before.before.before.before.before) g.go_on-counted.ensures (start e).args.used)
+    (report-sound (contents (w e)) (task e) (valid e).reached (valid e).sound (done-there e) (higher t.before.before.before.before.before) g.go_on-counted.ensures)
 
-pub report-spec : {M : Type 1} → statement M
-report-spec =
+pub report_spec : {M : Type 1} → statement M
+report_spec =
     tie.close
     (tie.spec
     (λ c κs. search rules)

@@ -17,17 +17,17 @@ use Rattle.day.proofs.Reporting.{report-late, report-outside, report-idle, repor
 use Rattle.day.proofs.report.report_ground.Statement.{statement}
 use Rattle.day.proofs.report.report_ground.Tie as tie
 
-late : tie.Need-returns
+late : tie.Need-returns-then-cell-ne-RUNNING
 unfolding contents
 late c =
-    sym (report-late (contents c.before.before.args.plan.now) c.before.before.args.task (λ e. c.if1.true (c.before.cell.ensures ∙ e)))
+    sym (report-late (contents c.args.plan.now) c.args.task (λ e. c.if-cell-ne-RUNNING.true (c.cell.ensures ∙ e)))
 
-outside : tie.Need-returns-2
+outside : tie.Need-returns-then-not-is_within
 unfolding contents
 outside c =
     sym
-    (report-outside (contents c.before.before.before.before.before.args.plan.now) c.before.before.before.before.before.args.task (sym c.before.before.before.before.cell.ensures ∙ c.before.before.before.if1.false)
-    (ap (within c.before.before.before.before.before.args.task) (sym c.before.before.cell2.ensures) ∙ sym c.before.is_Within.ensures ∙ not-true _ c.if2.true))
+    (report-outside (contents c.args.plan.now) c.args.task (sym c.cell.ensures ∙ c.if-cell-ne-RUNNING.false)
+    (ap (within c.args.task) (sym c.cell-2.ensures) ∙ sym c.is_within.ensures ∙ c.if-not-is_within.true))
 
 -- the task is in the rows, and its standing is read there
 module _ (w : List ℕ) (valid : ValidPlan w) (task size : ℕ) (is-size : size ≡ (contents w).size) (inside : within task size ≡ true) where
@@ -42,37 +42,37 @@ cell-requires-3 : tie.Need-cell-requires-3
 unfolding contents
 cell-requires-3 c κs =
     let low =
-    task_in c.before.before.before.before.before.args.plan.now c.before.before.before.before.before.requires c.before.before.before.before.before.args.task c.before.before.cell2.result c.before.before.cell2.ensures
-    (sym c.before.is_Within.ensures ∙ not-false _ c.if2.false)
+    task_in c.args.plan.now c.requires c.args.task c.cell-2.result c.cell-2.ensures
+    (sym c.is_within.ensures ∙ c.if-not-is_within.false)
     in
     (omega arith, omega arith)
 
-idle : tie.Need-returns-3
+idle : tie.Need-returns-then-cell-ne-STARTED
 unfolding contents
 idle c =
-    let w = c.before.before.before.before.before.before.before.args.plan.now in
-    let inside = sym c.before.before.before.is_Within.ensures ∙ not-false _ c.before.before.if2.false in
+    let w = c.args.plan.now in
+    let inside = sym c.is_within.ensures ∙ c.if-not-is_within.false in
     sym
-    (report-idle (contents w) c.before.before.before.before.before.before.before.args.task (sym c.before.before.before.before.before.before.cell.ensures ∙ c.before.before.before.before.before.if1.false) c.before.before.before.before.before.before.before.requires.sound
-    (ap (within c.before.before.before.before.before.before.before.args.task) (sym c.before.before.before.before.cell2.ensures) ∙ inside)
+    (report-idle (contents w) c.args.task (sym c.cell.ensures ∙ c.if-cell-ne-RUNNING.false) c.requires.sound
+    (ap (within c.args.task) (sym c.cell-2.ensures) ∙ inside)
     (λ e.
-    c.if3.true
-    (c.before.cell3.ensures ∙ standing_is w c.before.before.before.before.before.before.before.requires c.before.before.before.before.before.before.before.args.task c.before.before.before.before.cell2.result c.before.before.before.before.cell2.ensures inside ∙ e)))
+    c.if-cell-ne-STARTED.true
+    (c.cell-3.ensures ∙ standing_is w c.requires c.args.task c.cell-2.result c.cell-2.ensures inside ∙ e)))
 
-free : tie.Need-returns-4
+free : tie.Need-returns
 unfolding contents
 free c =
-    let w = c.before.before.before.before.before.before.before.args.plan.now in
-    let inside = sym c.before.before.before.is_Within.ensures ∙ not-false _ c.before.before.if2.false in
+    let w = c.args.plan.now in
+    let inside = sym c.is_within.ensures ∙ c.if-not-is_within.false in
     sym
-    (report-free (contents w) c.before.before.before.before.before.before.before.args.task (sym c.before.before.before.before.before.before.cell.ensures ∙ c.before.before.before.before.before.if1.false) c.before.before.before.before.before.before.before.requires.sound
-    (ap (within c.before.before.before.before.before.before.before.args.task) (sym c.before.before.before.before.cell2.ensures) ∙ inside)
-    (sym (standing_is w c.before.before.before.before.before.before.before.requires c.before.before.before.before.before.before.before.args.task c.before.before.before.before.cell2.result c.before.before.before.before.cell2.ensures inside)
-    ∙ sym c.before.cell3.ensures
-    ∙ c.if3.false))
+    (report-free (contents w) c.args.task (sym c.cell.ensures ∙ c.if-cell-ne-RUNNING.false) c.requires.sound
+    (ap (within c.args.task) (sym c.cell-2.ensures) ∙ inside)
+    (sym (standing_is w c.requires c.args.task c.cell-2.result c.cell-2.ensures inside)
+    ∙ sym c.cell-3.ensures
+    ∙ c.if-cell-ne-STARTED.false))
 
-pub report-ground-spec : {M : Type 1} → statement M
-report-ground-spec =
+pub report_ground_spec : {M : Type 1} → statement M
+report_ground_spec =
     tie.close
     (tie.spec
     (λ c κs. search rules)

@@ -12,26 +12,26 @@ use Rattle.day.proofs.resize.advance_within.Tie as tie
 
 -- the words with the new bound
 bound-is :
-    (c : tie.After-set-cell)
-    → contents c.set-cell.new.0 ≡ with_bound c.before.before.before.args.bound (contents c.before.before.before.args.plan.now)
+    (c : tie.After-set_cell)
+    → contents c.set_cell.new.plan ≡ with_bound c.args.bound (contents c.args.plan.now)
 unfolding contents with_bound
 bound-is c =
-    let s = c.before.before.before in
-    (wrote-head s.args.plan.now chilled s.args.bound s.requires.kept.cached.long (omega arith) c.set-cell.ensures).0
+    let s = c in
+    (wrote-head s.args.plan.now chilled s.args.bound s.requires.kept.cached.long (omega arith) c.set_cell.ensures).0
 
 advance-requires : tie.Need-advance-requires
 advance-requires c κs =
-    let written = c.before.before in
-    resize-advances written.before.before.before.requires (bound-is written)
+    let written = c in
+    resize-advances written.requires (bound-is written.before.before)
 
 returns : tie.Need-returns
 returns c =
-    let advanced = c.before.before in
-    let written = advanced.before.before.before in
-    resized written.before.before.before.requires (bound-is written) advanced.advance.ensures
+    let advanced = c in
+    let written = advanced in
+    resized written.requires (bound-is written.before.before.before.before.before) advanced.advance.ensures
 
-pub advance-within-spec : {M : Type 1} → statement M
-advance-within-spec =
+pub advance_within_spec : {M : Type 1} → statement M
+advance_within_spec =
     tie.close
     (tie.spec
     (λ c. search rules)

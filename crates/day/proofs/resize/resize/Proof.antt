@@ -10,35 +10,35 @@ use Rattle.day.proofs.Resizing.{may-resize, resize-sound, resize-answers}
 use Rattle.day.proofs.resize.resize.Statement.{statement}
 use Rattle.day.proofs.resize.resize.Tie as tie
 
-refuses : tie.Need-returns
+refuses : tie.Need-returns-then-ground-ne0
 refuses c =
-    let asked = c.before.before in
-    let s = asked.before.before.before in
-    refusal asked.resize-ground.result s.requires.0.sound c.refused.ensures c.before.if1.true
-    (sym asked.resize-ground.ensures) s.args.starts.now
+    let asked = c in
+    let s = asked in
+    refusal asked.resize_ground-ground.result s.requires.0.sound c.refused.ensures c.if-ground-ne0.true
+    (sym asked.resize_ground-ground.ensures) s.args.starts.now
 
 -- no ground is left
-none : (c : tie.Else1) → ground_for (plan_of c.before.before.before.before.args.plan.now) (places c.before.before.before.before.args.bound) ≡ 0
-none c = sym c.before.resize-ground.ensures ∙ c.if1.false
+none : (c : tie.Else-ground-ne0) → ground_for (plan_of c.args.plan.now) (places c.args.bound) ≡ 0
+none c = sym c.resize_ground-ground.ensures ∙ c.if-ground-ne0.false
 
-advance-within-requires : tie.Need-advance-within-requires
+advance-within-requires : tie.Need-advance_within-started-requires
 advance-within-requires c κs =
-    let e = c.before.before in
-    let s = e.before.before.before.before in
-    may-resize (contents s.args.plan.now) s.requires.0.reached s.requires.0.sound s.args.bound s.ranges.bound.fits (none e)
+    let e = c in
+    let s = e in
+    may-resize (contents s.args.plan.now) s.requires.0.reached s.requires.0.sound s.args.bound s.ranges.bound.fits (none e.before.before)
     s.args.starts.now s.requires.1
 
-taken : tie.Need-returns-2
+taken : tie.Need-returns
 taken c =
-    let advanced = c.before.before in
-    let e = advanced.before.before.before in
-    let s = e.before.before.before.before in
+    let advanced = c in
+    let e = advanced in
+    let s = e in
     let w = s.args.plan.now in
-    judged (none e) refl
-    (resize-answers (contents w) s.requires.0.reached s.requires.0.sound s.args.bound s.ranges.bound.fits (none e)
-    advanced.advance-within.ensures s.args.used)
-    (resize-sound (contents w) s.requires.0.reached s.requires.0.sound s.args.bound s.ranges.bound.fits (none e)
-    advanced.advance-within.ensures)
+    judged (none e.before.before.before.before.before) refl
+    (resize-answers (contents w) s.requires.0.reached s.requires.0.sound s.args.bound s.ranges.bound.fits (none e.before.before.before.before.before)
+    advanced.advance_within-started.ensures s.args.used)
+    (resize-sound (contents w) s.requires.0.reached s.requires.0.sound s.args.bound s.ranges.bound.fits (none e.before.before.before.before.before)
+    advanced.advance_within-started.ensures)
 
 pub resize_spec : {M : Type 1} → statement M
 resize_spec =

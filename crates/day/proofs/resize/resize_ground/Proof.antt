@@ -9,54 +9,54 @@ use Rattle.day.proofs.Resizing.{resize-late, may-survey, resize-high, resize-boo
 use Rattle.day.proofs.resize.resize_ground.Statement.{statement}
 use Rattle.day.proofs.resize.resize_ground.Tie as tie
 
-late : tie.Need-returns
+late : tie.Need-returns-then-cell-ne-RUNNING
 unfolding contents
 late c =
-    let s = c.before.before in
-    sym (resize-late (contents s.args.plan.now) s.args.bound (λ e. c.if1.true (c.before.cell.ensures ∙ e)))
+    let s = c in
+    sym (resize-late (contents s.args.plan.now) s.args.bound (λ e. c.if-cell-ne-RUNNING.true (c.cell.ensures ∙ e)))
 
 -- in turn
-in-running : (c : tie.Else1) → (contents c.before.before.args.plan.now).phase ≡ Phase.running
+in-running : (c : tie.Else-cell-ne-RUNNING) → (contents c.args.plan.now).phase ≡ Phase.running
 unfolding contents
-in-running c = sym c.before.cell.ensures ∙ c.if1.false
+in-running c = sym c.cell.ensures ∙ c.if-cell-ne-RUNNING.false
 
-survey-requires : tie.Need-survey-requires
+survey-requires : tie.Need-survey-surveyed-requires
 survey-requires c κs =
-    let s = c.before.before in
+    let s = c in
     may-survey (contents s.args.plan.now) (lengths s.args.plan.now) s.requires.reached s.requires.sound (in-running c)
 
-too-high : tie.Need-returns-2
+too-high : tie.Need-returns-then-bound-surveyed
 too-high c =
-    let surveyed = c.before.before in
-    let s = surveyed.before.before.before in
+    let surveyed = c in
+    let s = surveyed in
     sym
-    (resize-high (contents s.args.plan.now) (lengths s.args.plan.now) s.requires.reached s.requires.sound (in-running surveyed.before)
-    s.args.bound s.ranges.bound.fits surveyed.survey.ensures.1 (omega (arith, c.if2.true)))
+    (resize-high (contents s.args.plan.now) (lengths s.args.plan.now) s.requires.reached s.requires.sound (in-running surveyed.before.before.before)
+    s.args.bound s.ranges.bound.fits surveyed.survey-surveyed.ensures.1 (omega (arith, c.if-bound-surveyed.true)))
 
-below-booked : tie.Need-returns-3
+below-booked : tie.Need-returns-then-bound-cell
 unfolding contents store_contents
 below-booked c =
-    let above = c.before.before in
-    let surveyed = above.before.before in
-    let s = surveyed.before.before.before in
+    let above = c in
+    let surveyed = above in
+    let s = surveyed in
     sym
-    (resize-booked (contents s.args.plan.now) (lengths s.args.plan.now) s.requires.reached s.requires.sound (in-running surveyed.before)
-    s.args.bound s.ranges.bound.fits surveyed.survey.ensures.1 (omega (arith, above.if2.false))
-    (omega (arith, c.if3.true, c.before.cell2.ensures)))
+    (resize-booked (contents s.args.plan.now) (lengths s.args.plan.now) s.requires.reached s.requires.sound (in-running surveyed.before.before.before.before.before)
+    s.args.bound s.ranges.bound.fits surveyed.survey-surveyed.ensures.1 (omega (arith, above.if-bound-surveyed.false))
+    (omega (arith, c.if-bound-cell.true, c.cell-2.ensures)))
 
-free : tie.Need-returns-4
+free : tie.Need-returns
 unfolding contents store_contents
 free c =
-    let above = c.before.before in
-    let surveyed = above.before.before in
-    let s = surveyed.before.before.before in
+    let above = c in
+    let surveyed = above in
+    let s = surveyed in
     sym
-    (resize-free (contents s.args.plan.now) (lengths s.args.plan.now) s.requires.reached s.requires.sound (in-running surveyed.before)
-    s.args.bound s.ranges.bound.fits surveyed.survey.ensures.1 (omega (arith, above.if2.false))
-    (omega (arith, c.if3.false, c.before.cell2.ensures)))
+    (resize-free (contents s.args.plan.now) (lengths s.args.plan.now) s.requires.reached s.requires.sound (in-running surveyed.before.before.before.before.before)
+    s.args.bound s.ranges.bound.fits surveyed.survey-surveyed.ensures.1 (omega (arith, above.if-bound-surveyed.false))
+    (omega (arith, c.if-bound-cell.false, c.cell-2.ensures)))
 
-pub resize-ground-spec : {M : Type 1} → statement M
-resize-ground-spec =
+pub resize_ground_spec : {M : Type 1} → statement M
+resize_ground_spec =
     tie.close
     (tie.spec
     (λ c κs. search rules)
