@@ -69,7 +69,7 @@ loop-again c =
     let k = turn.before.loop-k.k in
     let inside : k < entries = (let m = more turn in let small = s.requires.small in omega arith) in
     let there : (read c).entry-task.result ≡ at (part order entries w) k = (read c).entry-task.ensures ∙ part_at order entries w k inside in
-    let t = turn.loop-k-test.taken in (
+    let t = turn.loop-k-test.true in (
       omega arith,
       entry-turn (next_in order) (part order entries w) k (rw (part_length order entries w) inside) there turn.before.loop-k.invariant.1
           c.write_entry-next.ensures,

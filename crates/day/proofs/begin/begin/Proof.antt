@@ -55,13 +55,13 @@ over-the-bound c =
 -- there is no ground against it: what the checks have found
 module _ (c : tie.Else-bound-surveyed) where
   abbrev start : tie.Start
-  start = c.before.before.before.before.before.before.before.before.before.before.before.before
+  start = c.before.before.before.before.before.before.before.before.before
 
   abbrev w : List ℕ
   w = start.args.plan.now
 
   turn : begins (contents w) ≡ true
-  turn = sym c.before.before.before.before.before.before.before.before.before.is_in_turn.ensures ∙ c.before.before.before.before.before.before.before.before.if-not-is_in_turn.false
+  turn = sym c.is_in_turn.ensures ∙ c.if-not-is_in_turn.false
 
   in-turn-there : in_turn (plan_of w) begin ≡ true
   in-turn-there = in-turn (contents w) start.requires.0.sound (lengths w) turn
@@ -69,35 +69,35 @@ module _ (c : tie.Else-bound-surveyed) where
   no-ground-there : order_ground (plan_of w).size (at (plan_of w).parents) (plan_of w).activation ≡ 0
   no-ground-there =
       no-order-ground (contents w) start.requires.0.sound (lengths w) start.requires.0.reached turn
-      c.before.before.before.before.before.before.survey-surveyed.ensures.0 c.before.before.before.before.before.before.survey-surveyed.ensures.1 c.before.before.before.before.if-surveyed-ne0.false
+      c.survey-surveyed.ensures.0 c.survey-surveyed.ensures.1 c.if-surveyed-ne0.false
 
 complete-requires : tie.Need-complete-requires
-complete-requires c κs = ((start c).requires.0, in-turn-there c)
+complete-requires c κs = ((start c.before).requires.0, in-turn-there c.before)
 
 start-day-requires : tie.Need-start_day-started-requires
 start-day-requires c κs =
     let passed = c in
     let done = c.complete.ensures in
-    may-begin (contents (w passed)) done.valid.sound (lengths _) done.valid.reached done.means (in-turn-there passed)
-    (no-ground-there passed) _ (start passed).requires.1
+    may-begin (contents (w passed.before.before.before.before)) done.valid.sound (lengths _) done.valid.reached done.means (in-turn-there passed.before.before.before.before)
+    (no-ground-there passed.before.before.before.before) _ (start passed.before.before.before.before).requires.1
 
 begun : tie.Need-returns
 unfolding contents store_contents
 begun c =
     let passed = c in
-    let valid = (start passed).requires.0 in
-    let found = w passed in
+    let valid = (start passed.before.before.before.before.before.before.before).requires.0 in
+    let found = w passed.before.before.before.before.before.before.before in
     let number = passed.survey-surveyed.ensures.0 in
     let high = passed.survey-surveyed.ensures.1 in
     let fine = passed.if-surveyed-ne0.false in
     let done = c.complete.ensures in
     judged
-    (low-enough (contents found) valid.sound (lengths found) valid.reached (turn passed) number high fine
+    (low-enough (contents found) valid.sound (lengths found) valid.reached (turn passed.before.before.before.before.before.before.before) number high fine
     (omega (arith, passed.if-bound-surveyed.false, passed.cell-bound.ensures)))
     refl
-    (begin-answers (contents found) done.valid.sound (lengths _) done.valid.reached done.means (in-turn-there passed) c.start_day-started.ensures
-    (high_is (contents found) valid.sound (lengths found) valid.reached (turn passed) number high fine) (start passed).args.used)
-    (begin-sound (contents found) done.valid.sound (lengths _) done.valid.reached done.means (in-turn-there passed) c.start_day-started.ensures)
+    (begin-answers (contents found) done.valid.sound (lengths _) done.valid.reached done.means (in-turn-there passed.before.before.before.before.before.before.before) c.start_day-started.ensures
+    (high_is (contents found) valid.sound (lengths found) valid.reached (turn passed.before.before.before.before.before.before.before) number high fine) (start passed.before.before.before.before.before.before.before).args.used)
+    (begin-sound (contents found) done.valid.sound (lengths _) done.valid.reached done.means (in-turn-there passed.before.before.before.before.before.before.before) c.start_day-started.ensures)
 
 pub begin_spec : {M : Type 1} → statement M
 begin_spec =

@@ -31,25 +31,25 @@ not-ranked c =
 -- what both ways out know that are left: the plan is in orders, with a full activation order
 module _ (c : tie.After-cell-placed) where
   abbrev w : List ℕ
-  w = c.before.before.before.before.before.before.args.plan.now
+  w = c.args.plan.now
 
   is-orders : eqb (contents w).phase Phase.orders ≡ true
   unfolding contents
   is-orders =
       eq-eqb (contents w).phase Phase.orders
-      (sym c.before.before.before.before.before.cell.ensures ∙ c.before.before.before.before.if-cell-ne-ORDERS.false)
+      (sym c.cell.ensures ∙ c.if-cell-ne-ORDERS.false)
 
   is-ranked : eqb (contents w).ranked (contents w).size ≡ true
   unfolding contents
   is-ranked =
       eq-eqb (contents w).ranked (contents w).size
-      (sym c.before.before.cell-2.ensures ∙ c.before.if-cell-size.false ∙ c.before.before.before.cell-size.ensures)
+      (sym c.cell-2.ensures ∙ c.if-cell-size.false ∙ c.cell-size.ensures)
 
 alone : tie.Need-returns-then-placed-eq0
 unfolding contents begins
 alone c =
-    let d = contents (w c) in
-    rw (is-orders c, is-ranked c)
+    let d = contents (w c.before) in
+    rw (is-orders c.before, is-ranked c.before)
     (sym
     (or_right (eqb d.placed d.size) (eqb d.placed 0)
     (eq-eqb d.placed 0 (sym c.cell-placed.ensures ∙ c.if-placed-eq0.true))))
@@ -58,9 +58,9 @@ placed : tie.Need-returns
 unfolding contents begins
 placed c =
     rw (
-      is-orders c,
-      is-ranked c,
-      ne_eqb (contents (w c)).placed 0 (λ e. c.if-placed-eq0.false (c.cell-placed.ensures ∙ e)),
+      is-orders c.before,
+      is-ranked c.before,
+      ne_eqb (contents (w c.before)).placed 0 (λ e. c.if-placed-eq0.false (c.cell-placed.ensures ∙ e)),
       ← c.cell-placed.ensures,
       ← c.cell-size.ensures,
     )

@@ -26,7 +26,7 @@ refuses c =
 -- no ground is left
 module _ (c : tie.Else-ground-ne0) where
   abbrev start : tie.Start
-  start = c.before.before.before.before
+  start = c.before.before.before
 
   abbrev w : List ℕ
   w = start.args.plan.now
@@ -38,7 +38,7 @@ module _ (c : tie.Else-ground-ne0) where
   valid = start.requires.0
 
   none : ground_for (plan_of w) (done task) ≡ 0
-  none = sym c.before.report_ground-ground.ensures ∙ c.if-ground-ne0.false
+  none = sym c.report_ground-ground.ensures ∙ c.if-ground-ne0.false
 
   done-there : Accepted (contents w) task
   done-there = accepted (contents w) task valid.sound none
@@ -51,8 +51,8 @@ module _ (c : tie.Else-ground-ne0) where
   parent_is = column-at 0 w task task_in
 
 -- a task that is not the root has a parent
-higher : (c : tie.Else-cell-eq0) → at (contents (w c)).parents (task c) ≡ 0 → ⊥
-higher c z = c.if-cell-eq0.false (c.cell.ensures ∙ parent_is c ∙ z)
+higher : (c : tie.Else-cell-eq0) → at (contents (w c.before.before)).parents (task c.before.before) ≡ 0 → ⊥
+higher c z = c.if-cell-eq0.false (c.cell.ensures ∙ parent_is c.before.before ∙ z)
 
 cell-requires : tie.Need-cell-requires
 cell-requires c κs = let low = task_in c in (omega arith, omega arith)
@@ -60,32 +60,32 @@ cell-requires c κs = let low = task_in c in (omega arith, omega arith)
 make-ready-requires : tie.Need-make_ready-requires
 make-ready-requires c κs =
     let e = c in
-    may-end-root (contents (w e)) (task e) (valid e).reached (valid e).sound (done-there e)
+    may-end-root (contents (w e.before.before.before)) (task e.before.before.before) (valid e.before.before.before).reached (valid e.before.before.before).sound (done-there e.before.before.before)
 
 root : tie.Need-returns-then-cell-eq0
 root c =
     let t = c in
     let e = t in
-    let is-root = sym (parent_is e) ∙ sym t.cell.ensures ∙ t.if-cell-eq0.true in
-    acceptance (none e) c.plain.ensures c.make_ready.ensures
-    (makes-ready (contents (w e)) (task e) (valid e).reached (valid e).sound (done-there e) is-root)
-    (ready-sound (contents (w e)) (task e) (valid e).reached (valid e).sound (done-there e) is-root) (start e).args.starts.now
+    let is-root = sym (parent_is e.before.before.before.before.before) ∙ sym t.cell.ensures ∙ t.if-cell-eq0.true in
+    acceptance (none e.before.before.before.before.before) c.plain.ensures c.make_ready.ensures
+    (makes-ready (contents (w e.before.before.before.before.before)) (task e.before.before.before.before.before) (valid e.before.before.before.before.before).reached (valid e.before.before.before.before.before).sound (done-there e.before.before.before.before.before) is-root)
+    (ready-sound (contents (w e.before.before.before.before.before)) (task e.before.before.before.before.before) (valid e.before.before.before.before.before).reached (valid e.before.before.before.before.before).sound (done-there e.before.before.before.before.before) is-root) (start e.before.before.before.before.before).args.starts.now
 
 go-on-requires : tie.Need-go_on-counted-requires
 go-on-requires c κs =
     let t = c in
     let e = t in
-    may-go-on (contents (w e)) (task e) (valid e).reached (valid e).sound (done-there e)
-    (higher t.before.before) (start e).args.starts.now (start e).requires.1
+    may-go-on (contents (w e.before.before.before.before)) (task e.before.before.before.before) (valid e.before.before.before.before).reached (valid e.before.before.before.before).sound (done-there e.before.before.before.before)
+    (higher t.before.before) (start e.before.before.before.before).args.starts.now (start e.before.before.before.before).requires.1
 
 other : tie.Need-returns
 other c =
     let g = c in
     let t = g in
     let e = t in
-    judged (none e) refl
-    (report-answers (contents (w e)) (task e) (valid e).reached (valid e).sound (done-there e) (higher t.before.before.before.before.before) g.go_on-counted.ensures (start e).args.used)
-    (report-sound (contents (w e)) (task e) (valid e).reached (valid e).sound (done-there e) (higher t.before.before.before.before.before) g.go_on-counted.ensures)
+    judged (none e.before.before.before.before.before.before.before) refl
+    (report-answers (contents (w e.before.before.before.before.before.before.before)) (task e.before.before.before.before.before.before.before) (valid e.before.before.before.before.before.before.before).reached (valid e.before.before.before.before.before.before.before).sound (done-there e.before.before.before.before.before.before.before) (higher t.before.before.before.before.before) g.go_on-counted.ensures (start e.before.before.before.before.before.before.before).args.used)
+    (report-sound (contents (w e.before.before.before.before.before.before.before)) (task e.before.before.before.before.before.before.before) (valid e.before.before.before.before.before.before.before).reached (valid e.before.before.before.before.before.before.before).sound (done-there e.before.before.before.before.before.before.before) (higher t.before.before.before.before.before) g.go_on-counted.ensures)
 
 pub report_spec : {M : Type 1} → statement M
 report_spec =
