@@ -12,7 +12,7 @@ use Rattle.embedded.proofs.first_answer.Statement.{statement}
 use Rattle.embedded.proofs.first_answer.Tie as tie
 
 command-requires : tie.Need-command-requires
-command-requires c κs = new-valid c.before.before.new.ensures
+command-requires c κs = new-valid c.new-plan.ensures
 
 -- what the words of a new plan answer
 answer-of-none : {w : List ℕ} → NewPlan w → (a : Asking) → (command (plan_of w) a).answer ≡ (command none a).answer
@@ -20,9 +20,9 @@ answer-of-none new a = ap (λ (s : State). (command s a).answer) (new-empty new)
 
 returns : tie.Need-returns
 returns c =
-    let call = c.before in
+    let call = c in
     ap (λ (r : Answered). r.answer) call.command.ensures.same
-    ∙ answer-of-none call.before.before.before.new.ensures _
+    ∙ answer-of-none call.new-plan.ensures _
 
-pub first-answer-spec : {M : Type 1} → statement M
-first-answer-spec = tie.close (tie.spec (λ c κs. search rules) (λ c. search rules) command-requires returns)
+pub first_answer_spec : {M : Type 1} → statement M
+first_answer_spec = tie.close (tie.spec (λ c κs. search rules) (λ c. search rules) command-requires returns)

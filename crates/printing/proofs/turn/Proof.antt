@@ -5,45 +5,45 @@ use Rattle.printing.proofs.turn.Statement.{statement}
 use Rattle.printing.proofs.turn.Tie as tie
 
 -- more input is waited for
-returns : tie.Need-returns
+returns : tie.Need-returns-then-is_awaited
 returns c =
-    let awaited = c.before.before in
-    let start = awaited.before.before.before.before.before in
-    waiting _ _ _ _ awaited.before.decode.ensures _ start.requires awaited.is-awaited.ensures c.before.if1.true
+    let awaited = c in
+    let start = awaited in
+    waiting _ _ _ _ awaited.decode-asked.ensures _ start.requires awaited.is_awaited.ensures c.if-is_awaited.true
     c.idle.ensures
 
 -- the input has ended between commands
-returns-2 : tie.Need-returns-2
+returns-2 : tie.Need-returns-then-part-place
 returns-2 c =
-    let awaited = c.before.before.before in
-    let start = awaited.before.before.before.before.before in
-    ending _ _ _ _ awaited.before.decode.ensures _ start.requires awaited.is-awaited.ensures c.before.before.if1.false
-    c.before.if2.true c.idle2.ensures
+    let awaited = c in
+    let start = awaited in
+    ending _ _ _ _ awaited.decode-asked.ensures _ start.requires awaited.is_awaited.ensures c.if-is_awaited.false
+    c.if-part-place.true c.idle-then-part-place.ensures
 
 -- the command is refused
-returns-3 : tie.Need-returns-3
+returns-3 : tie.Need-returns-then-answer-ne0
 returns-3 c =
-    let line = c.before.before in
-    let test = line.before.before in
-    let asked = test.before.before.before.before in
-    let more = asked.before.before.before in
-    let awaited = more.before.before in
-    refusing _ _ _ _ awaited.before.decode.ensures awaited.is-awaited.ensures more.before.if1.false more.if2.false
-    asked.command.ensures test.if3.true line.refused-line.ensures
+    let line = c in
+    let test = line in
+    let asked = test in
+    let more = asked in
+    let awaited = more in
+    refusing _ _ _ _ awaited.decode-asked.ensures awaited.is_awaited.ensures more.if-is_awaited.false more.if-part-place.false
+    asked.command-answer.ensures test.if-answer-ne0.true line.refused_line.ensures
 
 -- the command is accepted
-returns-4 : tie.Need-returns-4
+returns-4 : tie.Need-returns
 returns-4 c =
-    let line = c.before.before in
-    let test = line.before.before.before.before in
-    let asked = test.before.before.before.before in
-    let more = asked.before.before.before in
-    let awaited = more.before.before in
-    accepting _ _ _ _ awaited.before.decode.ensures awaited.is-awaited.ensures more.before.if1.false more.if2.false
-    asked.command.ensures awaited.before.before.before.before.before.requires test.if3.false line.accepted-line.ensures
+    let line = c in
+    let test = line in
+    let asked = test in
+    let more = asked in
+    let awaited = more in
+    accepting _ _ _ _ awaited.decode-asked.ensures awaited.is_awaited.ensures more.if-is_awaited.false more.if-part-place.false
+    asked.command-answer.ensures awaited.requires test.if-answer-ne0.false line.accepted_line.ensures
 
-accepted-line-requires : tie.Need-accepted-line-requires
-accepted-line-requires c κs = c.before.before.before.before.before.before.before.command.ensures.valid
+accepted-line-requires : tie.Need-accepted_line-requires
+accepted-line-requires c κs = c.command-answer.ensures.valid
 
 pub turn_spec : {M : Type 1} → statement M
 turn_spec =

@@ -12,12 +12,12 @@ use Rattle.question.proofs.booked.Tie as tie
 returns : tie.Need-returns
 unfolding contents store_contents
 returns c =
-    c.while-held.ensures
-    ∙ ap₂ (λ (p figure : ℕ). only (Phase.holds_trays p) figure) c.before.phase.ensures c.before.before.cell.ensures
-    ∙ booked-kept (contents c.before.before.before.args.plan.now) c.before.before.before.requires.sound
+    c.while_held.ensures
+    ∙ ap₂ (λ (p figure : ℕ). only (Phase.holds_trays p) figure) c.phase.ensures c.cell-total.ensures
+    ∙ booked-kept (contents c.args.plan.now) c.requires.sound
 
-pub booked-spec : {M : Type 1} → statement M
-booked-spec =
+pub booked_spec : {M : Type 1} → statement M
+booked_spec =
     tie.close
     (tie.spec
     (λ c. search rules)

@@ -12,13 +12,13 @@ use Rattle.question.proofs.fullness.Tie as tie
 returns : tie.Need-returns
 unfolding contents store_contents rules.fullness
 returns c =
-    c.while-held.ensures
-    ∙ ap₂ (λ (p figure : ℕ). only (Phase.holds_trays p) figure) c.before.before.before.phase.ensures
-    (c.before.fullness.ensures
-    ∙ ap₂ rules.fullness_of c.before.before.booked.ensures c.before.before.before.before.cell.ensures)
+    c.while_held.ensures
+    ∙ ap₂ (λ (p figure : ℕ). only (Phase.holds_trays p) figure) c.phase.ensures
+    (c.fullness.ensures
+    ∙ ap₂ rules.fullness_of c.booked.ensures c.cell-bound.ensures)
 
-pub fullness-spec : {M : Type 1} → statement M
-fullness-spec =
+pub fullness_spec : {M : Type 1} → statement M
+fullness_spec =
     tie.close
     (tie.spec
     (λ c. search rules)

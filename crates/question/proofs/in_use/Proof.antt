@@ -12,12 +12,12 @@ use Rattle.question.proofs.in_use.Tie as tie
 returns : tie.Need-returns
 unfolding contents store_contents
 returns c =
-    c.while-held.ensures
-    ∙ ap₂ (λ (p figure : ℕ). only (Phase.holds_trays p) figure) c.before.phase.ensures c.before.before.cell.ensures
-    ∙ in-use-kept (contents c.before.before.before.args.plan.now) c.before.before.before.requires.reached c.before.before.before.requires.sound
+    c.while_held.ensures
+    ∙ ap₂ (λ (p figure : ℕ). only (Phase.holds_trays p) figure) c.phase.ensures c.cell-used.ensures
+    ∙ in-use-kept (contents c.args.plan.now) c.requires.reached c.requires.sound
 
-pub in-use-spec : {M : Type 1} → statement M
-in-use-spec =
+pub in_use_spec : {M : Type 1} → statement M
+in_use_spec =
     tie.close
     (tie.spec
     (λ c. search rules)

@@ -8,5 +8,5 @@ returns : tie.Need-returns
 unfolding contents
 returns c = c.cell.ensures
 
-pub phase-spec : {M : Type 1} → statement M
-phase-spec = tie.close (tie.spec (λ c κs. search rules) returns)
+pub phase_spec : {M : Type 1} → statement M
+phase_spec = tie.close (tie.spec (λ c κs. search rules) returns)

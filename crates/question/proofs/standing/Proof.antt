@@ -13,12 +13,12 @@ use Rattle.question.proofs.Questions.{standing-early, tallied}
 use Rattle.question.proofs.standing.Statement.{statement}
 use Rattle.question.proofs.standing.Tie as tie
 
-early : tie.Need-returns
+early : tie.Need-returns-then-phase-lt-RUNNING
 unfolding contents
 early c =
-    let phase = c.before.phase.ensures in
-    let low = c.if1.true in
-    standing-early (contents c.before.before.args.plan.now) (omega arith)
+    let phase = c.phase.ensures in
+    let low = c.if-phase-lt-RUNNING.true in
+    standing-early (contents c.args.plan.now) (omega arith)
 
 -- the numbers that were read, from BEGIN on
 pub record Read (w : List ℕ) (size next active ended : ℕ) : Type 0 where
@@ -49,30 +49,30 @@ read w phase size next active ended valid phase_is day size_is next-is active-is
     }
 
 reads :
-    (c : tie.After-cell4)
-    → Read c.before.before.before.before.before.before.args.plan.now c.before.before.before.cell.result
-    c.before.before.cell2.result c.before.cell3.result c.cell4.result
+    (c : tie.After-cell-ended)
+    → Read c.args.plan.now c.cell-size.result
+    c.cell-next.result c.cell-active.result c.cell-ended.result
 unfolding contents
 reads c =
-    let start = c.before.before.before.before.before.before in
-    read start.args.plan.now _ _ _ _ _ start.requires c.before.before.before.before.before.phase.ensures
-    c.before.before.before.before.if1.false c.before.before.before.cell.ensures c.before.before.cell2.ensures
-    c.before.cell3.ensures c.cell4.ensures
+    let start = c in
+    read start.args.plan.now _ _ _ _ _ start.requires c.phase.ensures
+    c.if-phase-lt-RUNNING.false c.cell-size.ensures c.cell-next.ensures
+    c.cell-active.ensures c.cell-ended.ensures
 
-waiting : tie.Need-overflow-sub-t6
+waiting : tie.Need-overflow_sub-result
 waiting c = (reads c).waits
 
-running : tie.Need-overflow-sub-t8
+running : tie.Need-overflow_sub-result-2
 running c = (reads c).runs
 
-booked : tie.Need-overflow-sub-t9
+booked : tie.Need-overflow_sub-result-3
 booked c = (reads c).ends
 
-counts : tie.Need-returns-2
+counts : tie.Need-returns
 counts c = (reads c).same
 
-pub standing-spec : {M : Type 1} → statement M
-standing-spec =
+pub standing_spec : {M : Type 1} → statement M
+standing_spec =
     tie.close
     (tie.spec
     (λ c κs. search rules)

@@ -4,11 +4,11 @@ use borrow.Author.Rules.{rules}
 use Rattle.question.proofs.while_held.Statement.{statement}
 use Rattle.question.proofs.while_held.Tie as tie
 
-held : tie.Need-returns
-held c = rw (sym c.before.holds-trays.ensures ∙ c.if1.true)
+held : tie.Need-returns-then-holds_trays
+held c = rw (sym c.holds_trays.ensures ∙ c.if-holds_trays.true)
 
-elsewhere : tie.Need-returns-2
-elsewhere c = rw (sym c.before.holds-trays.ensures ∙ c.if1.false)
+elsewhere : tie.Need-returns
+elsewhere c = rw (sym c.holds_trays.ensures ∙ c.if-holds_trays.false)
 
-pub while-held-spec : {M : Type 1} → statement M
-while-held-spec = tie.close (tie.spec (λ c κs. search rules) held elsewhere)
+pub while_held_spec : {M : Type 1} → statement M
+while_held_spec = tie.close (tie.spec (λ c κs. search rules) held elsewhere)

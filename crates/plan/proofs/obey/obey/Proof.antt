@@ -5,60 +5,60 @@ use Rattle.plan.proofs.obey.obey.Statement.{statement}
 use Rattle.plan.proofs.obey.obey.Tie as tie
 
 -- no command was decoded
-nothing : tie.Need-returns
+nothing : tie.Need-returns-in-Refused
 nothing c =
-    as-refused c.before.before.asked.given.1
-    (not-a-command c.before.before.before.before.before.args.plan.now _ c.before.before.before.before.before.args.starts.now c.refused.result c.before.before.before.before.before.requires.0 c.before.before.before.before.before.requires.1 c.refused.ensures)
+    as-refused c.in-Refused.is
+    (not-a-command c.args.plan.now _ c.args.starts.now c.refused.result c.requires.0 c.requires.1 c.refused.ensures)
 
 -- the commands that start nothing
-opens : tie.Need-returns-2
+opens : tie.Need-returns-in-Plan
 opens c =
-    as_read c.before.before.before.before.before.before.asked2.given.1 c.before.before.before.command.given.1
-    (no_start c.before.before.before.before.before.before.before.before.before.args.starts.now c.before.before.before.before.before.before.before.before.before.requires.0 c.before.before.before.before.before.before.before.before.before.requires.1 c.«open».ensures)
+    as_read c.in-Read.is c.in-Plan.is
+    (no_start c.args.starts.now c.requires.0 c.requires.1 c.«open».ensures)
 
-adds : tie.Need-returns-3
+adds : tie.Need-returns-in-Task
 adds c =
-    as_read c.before.before.before.before.before.before.asked2.given.1 c.before.before.before.command2.given.1
-    (no_start c.before.before.before.before.before.before.before.before.before.args.starts.now c.before.before.before.before.before.before.before.before.before.requires.0 c.before.before.before.before.before.before.before.before.before.requires.1 c.add-task.ensures)
+    as_read c.in-Read.is c.in-Task.is
+    (no_start c.args.starts.now c.requires.0 c.requires.1 c.add_task.ensures)
 
-ranks : tie.Need-returns-4
+ranks : tie.Need-returns-in-Activation
 ranks c =
-    as_read c.before.before.before.before.before.before.asked2.given.1 c.before.before.before.command3.given.1
-    (no_start c.before.before.before.before.before.before.before.before.before.args.starts.now c.before.before.before.before.before.before.before.before.before.requires.0 c.before.before.before.before.before.before.before.before.before.requires.1 c.rank.ensures)
+    as_read c.in-Read.is c.in-Activation.is
+    (no_start c.args.starts.now c.requires.0 c.requires.1 c.rank.ensures)
 
-places : tie.Need-returns-5
+places : tie.Need-returns-in-Execution
 places c =
-    as_read c.before.before.before.before.before.before.asked2.given.1 c.before.before.before.command4.given.1
-    (no_start c.before.before.before.before.before.before.before.before.before.args.starts.now c.before.before.before.before.before.before.before.before.before.requires.0 c.before.before.before.before.before.before.before.before.before.requires.1 c.place.ensures)
+    as_read c.in-Read.is c.in-Execution.is
+    (no_start c.args.starts.now c.requires.0 c.requires.1 c.place.ensures)
 
 -- BEGIN and DONE
-begins : tie.Need-returns-6
+begins : tie.Need-returns-in-Begin
 begins c =
-    as_read c.before.before.before.before.before.before.before.before.asked2.given.1 c.before.before.before.before.before.enum_told.given.1 (a-start c.before.before.before.before.before.before.before.before.before.before.before.requires.0 c.before.before.before.before.before.before.before.before.before.before.before.requires.1 c.before.before.begin.ensures)
+    as_read c.in-Read.is c.in-Begin.is (a-start c.requires.0 c.requires.1 c.begin.ensures)
 
-reports : tie.Need-returns-7
+reports : tie.Need-returns-in-Done
 reports c =
-    as_read c.before.before.before.before.before.before.before.before.before.asked2.given.1 c.before.before.before.before.before.before.command5.given.1 (a-start c.before.before.before.before.before.before.before.before.before.before.before.before.requires.0 c.before.before.before.before.before.before.before.before.before.before.before.before.requires.1 c.before.before.report.ensures)
+    as_read c.in-Read.is c.in-Done.is (a-start c.requires.0 c.requires.1 c.report.ensures)
 
 -- FETCH starts nothing
-fetches : tie.Need-returns-8
+fetches : tie.Need-returns-in-Fetch
 fetches c =
-    let told = c.before.before in
-    let start = told.before.before.before.before.before.before in
-    as_read told.before.before.before.asked2.given.1 told.enum-told2.given.1
+    let told = c in
+    let start = told in
+    as_read told.in-Read.is told.in-Fetch.is
     (no_start start.args.starts.now start.requires.0 start.requires.1 c.fetch.ensures)
 
 -- 08 may start tasks
-resizes : tie.Need-returns-9
+resizes : tie.Need-returns-in-Places
 resizes c =
-    let done = c.before.before in
-    let told = done.before.before.before.before in
-    let start = told.before.before.before.before.before.before in
-    as_read told.before.before.before.asked2.given.1 told.command6.given.1
+    let done = c in
+    let told = done in
+    let start = told in
+    as_read told.in-Read.is told.in-Places.is
     (a-start start.requires.0 start.requires.1 done.resize.ensures)
 
-pub obey-spec : {M : Type 1} → statement M
-obey-spec =
+pub obey_spec : {M : Type 1} → statement M
+obey_spec =
     tie.close
     (tie.spec
     (λ c. search rules)

@@ -6,62 +6,62 @@ use Rattle.printing.proofs.Printed.{as-text, no_text, of-refused, of-read, of-be
 use Rattle.printing.proofs.accepted.accepted_line.Statement.{statement}
 use Rattle.printing.proofs.accepted.accepted_line.Tie as tie
 
-returns : tie.Need-returns
-returns c = as-text (of-refused _ c.enum_told.given.1) (no_text _ _)
+returns : tie.Need-returns-in-Refused
+returns c = as-text (of-refused _ c.in-Refused.is) (no_text _ _)
 
-returns-2 : tie.Need-returns-2
+returns-2 : tie.Need-returns-in-Plan
 unfolding line
-returns-2 c = as-text (of-read _ c.before.before.before.asked.given.1 c.enum-told2.given.1) (no_text _ _)
+returns-2 c = as-text (of-read _ c.in-Read.is c.in-Plan.is) (no_text _ _)
 
-returns-3 : tie.Need-returns-3
+returns-3 : tie.Need-returns-in-Task
 unfolding line
-returns-3 c = as-text (of-read _ c.before.before.before.asked.given.1 c.enum-told3.given.1) (no_text _ _)
+returns-3 c = as-text (of-read _ c.in-Read.is c.in-Task.is) (no_text _ _)
 
-returns-4 : tie.Need-returns-4
+returns-4 : tie.Need-returns-in-Activation
 unfolding line
-returns-4 c = as-text (of-read _ c.before.before.before.asked.given.1 c.enum-told4.given.1) (no_text _ _)
+returns-4 c = as-text (of-read _ c.in-Read.is c.in-Activation.is) (no_text _ _)
 
-returns-5 : tie.Need-returns-5
+returns-5 : tie.Need-returns-in-Execution
 unfolding line
-returns-5 c = as-text (of-read _ c.before.before.before.asked.given.1 c.enum-told5.given.1) (no_text _ _)
+returns-5 c = as-text (of-read _ c.in-Read.is c.in-Execution.is) (no_text _ _)
 
-returns-6 : tie.Need-returns-6
+returns-6 : tie.Need-returns-in-Begin
 returns-6 c =
-    let figures = c.before.before.before in
-    let read = figures.before.before.before.before in
+    let figures = c in
+    let read = figures in
     as-text
-    (of-read _ read.before.before.before.asked.given.1 read.enum-told6.given.1
-    ∙ of-begin _ figures.before.before.booked.ensures figures.before.in_use.ensures figures.fullness.ensures)
-    c.before.before.begin-line.ensures
+    (of-read _ read.in-Read.is read.in-Begin.is
+    ∙ of-begin _ figures.booked.ensures figures.in_use.ensures figures.fullness.ensures)
+    c.begin_line.ensures
 
-returns-7 : tie.Need-returns-7
+returns-7 : tie.Need-returns-in-Done
 returns-7 c =
-    let figures = c.before.before.before in
-    let read = figures.before.before.before.before.before in
+    let figures = c in
+    let read = figures in
     as-text
-    (of-read _ read.before.before.before.asked.given.1 read.command.given.1
-    ∙ of-done _ figures.before.before.booked2.ensures figures.before.in-use2.ensures figures.fullness2.ensures _)
-    c.before.before.done-line.ensures
+    (of-read _ read.in-Read.is read.in-Done.is
+    ∙ of-done _ figures.booked-in-Done.ensures figures.in_use-in-Done.ensures figures.fullness-in-Done.ensures _)
+    c.done_line.ensures
 
-returns-8 : tie.Need-returns-8
+returns-8 : tie.Need-returns-in-Fetch
 returns-8 c =
-    let fetch = c.before.before in
-    let read = fetch.before.before.before in
+    let fetch = c in
+    let read = fetch in
     as-text
-    (of-read _ read.before.before.before.asked.given.1 read.enum-told7.given.1 ∙ of-fetch _ fetch.before.booked3.ensures)
-    (no-tasks fetch.fetch-line.ensures)
+    (of-read _ read.in-Read.is read.in-Fetch.is ∙ of-fetch _ fetch.booked-in-Fetch.ensures)
+    (no-tasks fetch.fetch_line.ensures)
 
-returns-9 : tie.Need-returns-9
+returns-9 : tie.Need-returns-in-Places
 returns-9 c =
-    let figures = c.before.before.before in
-    let read = figures.before.before.before.before.before in
+    let figures = c in
+    let read = figures in
     as-text
-    (of-read _ read.before.before.before.asked.given.1 read.command2.given.1
-    ∙ of_places _ figures.before.before.booked4.ensures figures.before.in-use3.ensures figures.fullness3.ensures _)
-    c.before.before.places-line.ensures
+    (of-read _ read.in-Read.is read.in-Places.is
+    ∙ of_places _ figures.booked-in-Places.ensures figures.in_use-in-Places.ensures figures.fullness-in-Places.ensures _)
+    c.places_line.ensures
 
-pub accepted-line-spec : {M : Type 1} → statement M
-accepted-line-spec =
+pub accepted_line_spec : {M : Type 1} → statement M
+accepted_line_spec =
     tie.close
     (tie.spec
     (λ c. search rules)
