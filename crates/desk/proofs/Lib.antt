@@ -1,8 +1,7 @@
 -- What the proofs cite.
--- a list in an array of a fixed length, the columns as they are copied, and local arrays in memory
+-- a list in an array of a fixed length, the columns as they are copied
 mod Padding
 mod Columns
-mod Arrays
 -- the order: its entries are tasks, and none stands twice
 mod Listing
 mod Ranking

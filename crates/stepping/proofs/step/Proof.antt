@@ -14,95 +14,95 @@ use Rattle.stepping.proofs.Stepping.{StepLoop, begun, size, filled-up, listed-af
 use Rattle.stepping.proofs.step.Statement.{statement}
 use Rattle.stepping.proofs.step.Tie as tie
 
-abbrev invariant-loop : tie.invariant-loop
+abbrev invariant-loop : tie.invariant-loop-output
 invariant-loop plan₀ input starts₀ output₀ filled position₀ written₀ plan starts output position written =
     StepLoop (take position₀.filled input) starts₀ output₀ plan₀ position₀ plan position starts output written
 
-abbrev decreases-loop : tie.decreases-loop
+abbrev decreases-loop : tie.decreases-loop-output
 decreases-loop plan₀ input starts₀ output₀ filled position₀ written₀ plan starts output position written =
     length (take position₀.filled input) - position.place
 
-loop-holds : tie.Need-loop-init invariant-loop decreases-loop
+loop-holds : tie.Need-loop-output-init invariant-loop decreases-loop
 loop-holds c =
-    let start = c.before.before.before.before in
+    let start = c in
     let stands = start.requires.1 in
     let size = length-take-le start.args.position.filled start.args.input.now stands.in_buffer in
     begun _ _ _ _ _ start.requires.0 (omega (arith, size, stands.at_hand)) (omega (arith, size, stands.counted))
 
 -- the turn was asked with what the position answered
-turned : (c : tie.After-turn invariant-loop decreases-loop)
-    → let loop = c.before.before.before.before.before.before.before.before.before.loop in
-    let start = c.before.before.before.before.before.before.before.before.before.before.before.before.before.before in
+turned : (c : tie.After-turn-turned invariant-loop decreases-loop)
+    → let loop = c.loop-output in
+    let start = c in
     Taken loop.plan
     (rules.turn (plan_of loop.plan)
     (record { stream = take start.args.position.filled start.args.input.now; place = loop.position.place; list = loop.starts })
     loop.position.offset loop.position.is_last)
     (take (length loop.output - loop.written) (drop loop.written loop.output))
-    c.turn.result c.turn.new.0 c.turn.new.1.1.1.1.1.0 c.turn.new.1.1.1.1.1.1.0
+    c.turn-turned.result c.turn-turned.new.plan c.turn-turned.new.starts c.turn-turned.new.buffer
 turned c =
-    let last = c.before.before.before in
-    let filled = c.before.before.before.before.before.before.before.before.before.before in
-    rw (← last.is_last.ensures, ← last.before.offset.ensures, ← last.before.before.place.ensures, ← filled.filled.ensures) c.turn.ensures
+    let last = c in
+    let filled = c in
+    rw (← last.is_last.ensures, ← last.offset.ensures, ← last.place.ensures, ← filled.filled-filled.ensures) c.turn-turned.ensures
 
-turn-requires : tie.Need-turn-requires invariant-loop decreases-loop
-turn-requires c κs = c.before.before.before.before.before.before.before.before.loop.invariant.valid
+turn-requires : tie.Need-turn-turned-requires invariant-loop decreases-loop
+turn-requires c κs = c.loop-output.invariant.valid
 
-moved-requires : tie.Need-moved-requires invariant-loop decreases-loop
+moved-requires : tie.Need-moved-position-requires invariant-loop decreases-loop
 moved-requires c κs =
-    let turn = c.before.before.before.before in
-    let test = turn.before.before.before.before.before.before.before.before in
-    let start = test.before.before.before.before.before.before in
-    counts _ _ _ _ _ test.before.loop.invariant test.loop-test.true (turned turn)
+    let turn = c in
+    let test = turn in
+    let start = test in
+    counts _ _ _ _ _ test.loop-output.invariant test.loop-output-test.true (turned turn.before.before.before.before)
     (omega (arith, length-take start.args.position.filled start.args.input.now))
 
-add-written : tie.Need-overflow-add-written invariant-loop decreases-loop
+add-written : tie.Need-overflow_add-written invariant-loop decreases-loop
 add-written c =
-    let turn = c.before.before.before.before.before.before in
-    let test = turn.before.before.before.before.before.before.before.before in
-    let start = test.before.before.before.before.before.before in
-    let few = told-after _ _ _ _ _ test.before.loop.invariant test.loop-test.true (turned turn) (omega (arith, start.well-formed)) in
+    let turn = c in
+    let test = turn in
+    let start = test in
+    let few = told-after _ _ _ _ _ test.loop-output.invariant test.loop-output-test.true (turned turn.before.before.before.before.before.before) (omega (arith, start.well_formed)) in
     omega (arith, few)
 
-same_length : tie.Need-same-length invariant-loop decreases-loop
+same_length : tie.Need-shape_of-starts-then-turned-ne-GOES_ON invariant-loop decreases-loop
 same_length c =
-    let turn = c.before.before.before.before.before.before.before.before in
-    let test = turn.before.before.before.before.before.before.before.before in
-    listed-after _ _ _ _ _ test.before.loop.invariant test.loop-test.true (turned turn)
+    let turn = c in
+    let test = turn in
+    listed-after _ _ _ _ _ test.loop-output.invariant test.loop-output-test.true (turned turn.before.before.before.before.before.before.before.before)
 
-same-length-2 : tie.Need-same-length-2 invariant-loop decreases-loop
+same-length-2 : tie.Need-shape_of-output-then-turned-ne-GOES_ON invariant-loop decreases-loop
 same-length-2 c =
-    let turn = c.before.before.before.before.before.before.before.before in
-    let test = turn.before.before.before.before.before.before.before.before in
-    size-after _ _ _ _ _ test.before.loop.invariant test.loop-test.true (turned turn)
+    let turn = c in
+    let test = turn in
+    size-after _ _ _ _ _ test.loop-output.invariant test.loop-output-test.true (turned turn.before.before.before.before.before.before.before.before)
 
-returns : tie.Need-returns invariant-loop decreases-loop
+returns : tie.Need-returns-then-turned-ne-GOES_ON invariant-loop decreases-loop
 returns c =
-    let turn = c.before.before.before.before.before.before.before.before in
-    let test = turn.before.before.before.before.before.before.before.before in
-    ended _ _ _ _ _ test.before.loop.invariant test.loop-test.true (turned turn) c.before.before.before.moved.ensures c.if1.true
+    let turn = c in
+    let test = turn in
+    ended _ _ _ _ _ test.loop-output.invariant test.loop-output-test.true (turned turn.before.before.before.before.before.before.before.before) c.moved-position.ensures c.if-turned-ne-GOES_ON.true
 
-loop-less : tie.Need-loop-smaller invariant-loop decreases-loop
+loop-less : tie.Need-loop-output-smaller invariant-loop decreases-loop
 loop-less c =
-    let turn = c.before.before.before.before.before.before.before.before in
-    let test = turn.before.before.before.before.before.before.before.before in
-    let more = some _ _ _ _ _ test.before.loop.invariant test.loop-test.true (turned turn) c.before.before.before.moved.ensures c.if1.false in
-    let held = onward _ _ _ _ _ test.before.loop.invariant test.loop-test.true (turned turn) c.before.before.before.moved.ensures c.if1.false in
+    let turn = c in
+    let test = turn in
+    let more = some _ _ _ _ _ test.loop-output.invariant test.loop-output-test.true (turned turn.before.before.before.before.before.before.before.before) c.moved-position.ensures c.if-turned-ne-GOES_ON.false in
+    let held = onward _ _ _ _ _ test.loop-output.invariant test.loop-output-test.true (turned turn.before.before.before.before.before.before.before.before) c.moved-position.ensures c.if-turned-ne-GOES_ON.false in
     omega (arith, more, held.within)
 
-loop-again : tie.Need-loop-preserved invariant-loop decreases-loop
+loop-again : tie.Need-loop-output-preserved invariant-loop decreases-loop
 loop-again c =
-    let turn = c.before.before.before.before.before.before.before.before in
-    let test = turn.before.before.before.before.before.before.before.before in
-    onward _ _ _ _ _ test.before.loop.invariant test.loop-test.true (turned turn) c.before.before.before.moved.ensures c.if1.false
+    let turn = c in
+    let test = turn in
+    onward _ _ _ _ _ test.loop-output.invariant test.loop-output-test.true (turned turn.before.before.before.before.before.before.before.before) c.moved-position.ensures c.if-turned-ne-GOES_ON.false
 
-same-length-3 : tie.Need-same-length-3 invariant-loop decreases-loop
-same-length-3 c = c.before.loop.invariant.listed
+same-length-3 : tie.Need-shape_of-starts invariant-loop decreases-loop
+same-length-3 c = c.loop-output.invariant.listed
 
-same-length-4 : tie.Need-same-length-4 invariant-loop decreases-loop
-same-length-4 c = size _ _ _ _ _ c.before.loop.invariant
+same-length-4 : tie.Need-shape_of-output invariant-loop decreases-loop
+same-length-4 c = size _ _ _ _ _ c.loop-output.invariant
 
-returns-2 : tie.Need-returns-2 invariant-loop decreases-loop
-returns-2 c = filled-up _ _ _ _ _ c.before.loop.invariant c.loop-test.false
+returns-2 : tie.Need-returns invariant-loop decreases-loop
+returns-2 c = filled-up _ _ _ _ _ c.loop-output.invariant c.loop-output-test.false
 
 -- what is written is in the buffer
 fits : {part list₀ output₀ w₀ w list output : List ℕ} {x₀ x : Position} {written : ℕ}
@@ -118,16 +118,16 @@ step_spec =
     decreases-loop
     (λ c κs. tt)
     loop-holds
-    (λ c. fits c.loop.invariant)
+    (λ c. fits c.loop-output.invariant)
     (λ c.
-    let filled = c.before.before.before.before in
-    let start = filled.before.before.before.before in
-    sym (length-take-le filled.filled.result start.args.input.now (omega (arith, filled.filled.ensures, start.requires.1.in_buffer))))
+    let filled = c in
+    let start = filled in
+    sym (length-take-le filled.filled-filled.result start.args.input.now (omega (arith, filled.filled-filled.ensures, start.requires.1.in_buffer))))
     (λ c κs. tt)
     (λ c κs. tt)
     (λ c κs. tt)
-    (λ c. fits c.before.before.before.before.before.before.before.loop.invariant)
-    (λ c. fits c.before.before.before.before.before.before.before.loop.invariant)
+    (λ c. fits c.loop-output.invariant)
+    (λ c. fits c.loop-output.invariant)
     (λ c. search rules)
     turn-requires
     moved-requires
