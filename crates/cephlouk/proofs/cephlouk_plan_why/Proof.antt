@@ -6,7 +6,7 @@ use Rattle.cephlouk.proofs.cephlouk_plan_why.Statement.{statement}
 use Rattle.cephlouk.proofs.cephlouk_plan_why.Tie as tie
 
 returns : tie.Need-returns
-returns c = c.flatten.ensures ∙ ap flat c.before.why.ensures
+returns c = c.flatten.ensures ∙ ap flat c.why-reason.ensures
 
-pub cephlouk-plan-why-spec : {M : Type 1} → statement M
-cephlouk-plan-why-spec = tie.close (tie.spec (λ c κs. search rules) (λ c κs. search rules) returns)
+pub cephlouk_plan_why_spec : {M : Type 1} → statement M
+cephlouk_plan_why_spec = tie.close (tie.spec (λ c κs. search rules) (λ c κs. search rules) returns)

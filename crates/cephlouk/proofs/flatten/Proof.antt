@@ -7,27 +7,27 @@ use Rattle.cephlouk.proofs.flatten.Statement.{statement}
 use Rattle.cephlouk.proofs.flatten.Tie as tie
 
 -- refused
-refuses : tie.Need-returns
-refuses c = sym (ap (λ r. flat (reason_of r)) c.before.reason.given.1)
+refuses : tie.Need-returns-in-Refused
+refuses c = sym (ap (λ r. flat (reason_of r)) c.in-Refused.is)
 
 -- what is told
-ends : tie.Need-returns-2
-ends c = c.told.ensures ∙ sym (ap (λ r. flat (reason_of r)) c.before.enum_told.given.1)
+ends : tie.Need-returns-in-Ended
+ends c = c.told.ensures ∙ sym (ap (λ r. flat (reason_of r)) c.in-Ended.is)
 
-runs : tie.Need-returns-3
-runs c = c.told2.ensures ∙ sym (ap (λ r. flat (reason_of r)) c.before.enum-told2.given.1)
+runs : tie.Need-returns-in-Running
+runs c = c.told-in-Running.ensures ∙ sym (ap (λ r. flat (reason_of r)) c.in-Running.is)
 
-waits : tie.Need-returns-4
-waits c = c.told3.ensures ∙ sym (ap (λ r. flat (reason_of r)) c.before.before.reason2.given.1)
+waits : tie.Need-returns-in-NotBooked
+waits c = c.told-in-NotBooked.ensures ∙ sym (ap (λ r. flat (reason_of r)) c.in-NotBooked.is)
 
-is-unfed : tie.Need-returns-5
-is-unfed c = c.told4.ensures ∙ sym (ap (λ r. flat (reason_of r)) c.before.before.reason3.given.1)
+is-unfed : tie.Need-returns-in-Unfed
+is-unfed c = c.told-in-Unfed.ensures ∙ sym (ap (λ r. flat (reason_of r)) c.in-Unfed.is)
 
-has-no-processor : tie.Need-returns-6
-has-no-processor c = c.told5.ensures ∙ sym (ap (λ r. flat (reason_of r)) c.before.enum-told3.given.1)
+has-no-processor : tie.Need-returns-in-NoProcessor
+has-no-processor c = c.told-in-NoProcessor.ensures ∙ sym (ap (λ r. flat (reason_of r)) c.in-NoProcessor.is)
 
-pub flatten-spec : {M : Type 1} → statement M
-flatten-spec =
+pub flatten_spec : {M : Type 1} → statement M
+flatten_spec =
     tie.close
     (tie.spec (λ c. search rules) (λ c. search rules) (λ c κs. search rules) (λ c. search rules) (λ c κs. search rules)
     (λ c. search rules) (λ c κs. search rules) (λ c. search rules) (λ c κs. search rules) (λ c. search rules)

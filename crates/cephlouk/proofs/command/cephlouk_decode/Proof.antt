@@ -6,17 +6,17 @@ use Rattle.cephlouk.specs.FlatCommand.{flat_decoded}
 use Rattle.cephlouk.proofs.command.cephlouk_decode.Statement.{statement}
 use Rattle.cephlouk.proofs.command.cephlouk_decode.Tie as tie
 
-refuses : tie.Need-returns
+refuses : tie.Need-returns-in-Refused
 refuses c =
-    let arm = c.before.before in
-    rw (c.bare.ensures, ← arm.before.before.decode.ensures, arm.found.given.1)
+    let arm = c in
+    rw (c.bare-command.ensures, ← arm.decode-found.ensures, arm.in-Refused.is)
 
-reads : tie.Need-returns-2
+reads : tie.Need-returns-in-Read
 reads c =
-    let arm = c.before.before in
-    rw (c.of.ensures, ← arm.before.before.decode.ensures, arm.found2.given.1)
+    let arm = c in
+    rw (c.of-command.ensures, ← arm.decode-found.ensures, arm.in-Read.is)
 
-pub cephlouk-decode-spec : {M : Type 1} → statement M
-cephlouk-decode-spec =
+pub cephlouk_decode_spec : {M : Type 1} → statement M
+cephlouk_decode_spec =
     tie.close
     (tie.spec (λ c κs. search rules) (λ c. search rules) (λ c κs. search rules) (λ c. search rules) (λ c κs. search rules) refuses reads)

@@ -16,34 +16,34 @@ use Rattle.cephlouk.proofs.command.cephlouk_encode.Statement.{statement}
 use Rattle.cephlouk.proofs.command.cephlouk_encode.Tie as tie
 
 -- the list is too short
-short : tie.Need-returns
+short : tie.Need-returns-then-list-used
 short c =
-    let arm = c.before.before.before in
-    unwritten _ 11 _ c.refused2.ensures
-    ∙ sym (encode-short _ _ _ _ (sym (ap decoded arm.named3.given.1) ∙ arm.before.before.named.ensures) c.before.if1.true)
+    let arm = c in
+    unwritten _ 11 _ c.refused-then-list-used.ensures
+    ∙ sym (encode-short _ _ _ _ (sym (ap decoded arm.in-Read.is) ∙ arm.named-named.ensures) c.if-list-used.true)
 
 -- the byte is unknown
-unknown : tie.Need-returns-2
+unknown : tie.Need-returns-in-Refused
 unknown c =
-    let arm = c.before.before in
+    let arm = c in
     unwritten _ _ _ c.refused.ensures
-    ∙ sym (encode-unknown _ _ _ (sym (ap decoded arm.named2.given.1) ∙ arm.before.before.named.ensures))
+    ∙ sym (encode-unknown _ _ _ (sym (ap decoded arm.in-Refused.is) ∙ arm.named-named.ensures))
 
-whole : tie.Need-returns-3
+whole : tie.Need-returns-else-list-used
 unfolding writing.at_front front
 whole c =
-    let put = c.before.before in
-    let test = put.before.before in
-    let arm = test.before.before in
-    let e = sym (ap decoded arm.named3.given.1) ∙ arm.before.before.named.ensures in
+    let put = c in
+    let test = put in
+    let arm = test in
+    let e = sym (ap decoded arm.in-Read.is) ∙ arm.named-named.ensures in
     let size = known-sized _ _ _ e in
-    let enough = test.if1.false in
-    let room = with-room put.encode.ensures (omega arith) in
+    let enough = test.if-list-used.false in
+    let room = with-room put.encode-count.ensures (omega arith) in
     ap₂ (λ (count : ℕ) (list : List ℕ). record { number = 0; count = count; list = list }) room.1 room.0
     ∙ sym (encode-whole _ _ _ _ e enough)
 
-pub cephlouk-encode-spec : {M : Type 1} → statement M
-cephlouk-encode-spec =
+pub cephlouk_encode_spec : {M : Type 1} → statement M
+cephlouk_encode_spec =
     tie.close
     (tie.spec (λ c κs. search rules) (λ c. search rules) (λ c κs. search rules) (λ c. search rules) (λ c κs. search rules) short
     (λ c κs. search rules) unknown (λ c. search rules) whole)

@@ -11,29 +11,29 @@ use Rattle.cephlouk.proofs.command.FlatCommand.of.Tie as tie
 of-case : {a b : Command} → a ≡ b → flat_command (command_of b) ≡ flat_command (command_of a)
 of-case e = sym (ap (λ x. flat_command (command_of x)) e)
 
-plan : tie.Need-returns
-plan c = rw c.bare.ensures (of-case c.before.before.command.given.1)
+plan : tie.Need-returns-in-Plan
+plan c = rw c.bare-command.ensures (of-case c.in-Plan.is)
 
-task : tie.Need-returns-2
-task c = rw c.bare2.ensures (of-case c.before.before.command2.given.1)
+task : tie.Need-returns-in-Task
+task c = rw c.bare-command-in-Task.ensures (of-case c.in-Task.is)
 
-activation : tie.Need-returns-3
-activation c = c.of-task.ensures ∙ of-case c.before.before.command3.given.1
+activation : tie.Need-returns-in-Activation
+activation c = c.of_task.ensures ∙ of-case c.in-Activation.is
 
-execution : tie.Need-returns-4
-execution c = c.of-task2.ensures ∙ of-case c.before.before.command4.given.1
+execution : tie.Need-returns-in-Execution
+execution c = c.of_task-in-Execution.ensures ∙ of-case c.in-Execution.is
 
-begin : tie.Need-returns-5
-begin c = c.bare3.ensures ∙ of-case c.before.enum_told.given.1
+begin : tie.Need-returns-in-Begin
+begin c = c.bare.ensures ∙ of-case c.in-Begin.is
 
-done : tie.Need-returns-6
-done c = c.of-task3.ensures ∙ of-case c.before.before.command5.given.1
+done : tie.Need-returns-in-Done
+done c = c.of_task-in-Done.ensures ∙ of-case c.in-Done.is
 
-fetch : tie.Need-returns-7
-fetch c = c.bare4.ensures ∙ of-case c.before.enum-told2.given.1
+fetch : tie.Need-returns-in-Fetch
+fetch c = c.bare-in-Fetch.ensures ∙ of-case c.in-Fetch.is
 
-places : tie.Need-returns-8
-places c = rw c.bare5.ensures (of-case c.before.before.command6.given.1)
+places : tie.Need-returns-in-Places
+places c = rw c.bare-command-in-Places.ensures (of-case c.in-Places.is)
 
 pub of_spec : {M : Type 1} → statement M
 of_spec =
