@@ -1,6 +1,6 @@
 // The day printer.
 #![tactic(auto)]
 
-fn main() {
-    pump::run();
+fn main(rt: HostRuntime) {
+    pump::run(&rt);
 }

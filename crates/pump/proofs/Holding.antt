@@ -2,44 +2,45 @@
 use mathlib.Core.Path.{◌≡◌, sym, ap, subst, ◌∙◌}
 use mathlib.Core.Bool.{true, false, cond}
 use mathlib.Core.List.{List}
+use Rattle.std.specs.Prelude.{Option}
 use Prim.Native.Nat.{ℕ, zero, suc, ◌+◌, ◌-◌, ◌≤◌, ◌<◌}
 use native.Mathlib.Omega.{arith}
 use borrow.Author.Tests.{leb-true, ne_eqb}
-use lib.IntN.{ℤ, pos, negsuc}
-use lib.ListN.{length, take, drop, length-append}
+use lib.ListN.{length, take}
 use lib.Seq.{length-take-le}
+use Rattle.numbers.specs.Limits.{least_starts}
 use Rattle.texts.specs.Printer as rules
 use Rattle.texts.specs.Printer.{waits, stops, moved, fronted, fed, is_counted, max_offset, step}
 use Rattle.answer.specs.Meaning.{plan_of}
 use Rattle.answer.specs.ValidPlan.{ValidPlan}
-use Rattle.io.specs.Counts.{clamp_len}
 use Rattle.position.specs.declared.Position.{Position}
 use Rattle.stepping.specs.declared.Stepped.{Stepped}
+use Rattle.pump.specs.declared.TheConstants.{ROOM}
 use Rattle.pump.specs.declared.room.Refilled.{Refilled}
 use Rattle.position.specs.Standing.{position_of, Stands}
 use Rattle.stepping.specs.Stepped.{Step}
-use Rattle.pump.specs.Filled.{left_of, Filled}
+use Rattle.pump.specs.Filled.{left_of, came, Filled}
 use Rattle.stepping.proofs.Reach.{Reach, step-reach, step-some}
 
 pub record PumpLoop (input output starts w : List ℕ) (x : Position) : Type 0 where
   pub valid : ValidPlan w
-  pub input-size : 65536 ≡ length input
-  pub output-size : 65536 ≡ length output
-  pub starts-size : 64 ≡ length starts
-  pub stands : Stands x 65536
+  pub input-size : ROOM ≡ length input
+  pub output-size : ROOM ≡ length output
+  pub starts-size : least_starts ≡ length starts
+  pub stands : Stands x ROOM
 
-pub at_size : {x : Position} {n : ℕ} → 65536 ≡ n → Stands x 65536 → Stands x n
+pub at_size : {x : Position} {n : ℕ} → ROOM ≡ n → Stands x ROOM → Stands x n
 at_size {x} e h = subst (Stands x) e h
 
 -- before the first step
-pub at-start : {x : Position} → position_of x ≡ rules.start → Stands x 65536
+pub at-start : {x : Position} → position_of x ≡ rules.start → Stands x ROOM
 at-start e =
     let place = ap (λ (y : rules.Position). y.place) e in
     let filled = ap (λ (y : rules.Position). y.filled) e in
     let offset = ap (λ (y : rules.Position). y.offset) e in
     record { at_hand = omega arith; in_buffer = omega arith; counted = omega arith }
 
--- the bytes that can still be counted bytes_left of the next command and bytes_left of what is read next, and the end of the input
+-- the bytes that can still be counted from the next command on and from what is read next on, and the end of the input
 abbrev pub bytes_left : rules.Position → ℕ
 bytes_left y = (max_offset - y.offset) + (max_offset - (y.offset + (y.filled - y.place))) + cond y.is_last 0 1
 
@@ -81,10 +82,6 @@ read-in used (suc count) y within more counted =
     rw (more, ne_eqb (suc count) 0 (λ e. omega arith), again y.offset y.place used y.filled (suc count) within)
     (fewer max_offset y.offset (y.offset + (y.filled - y.place)) (y.offset + used) _ 1 1 (omega arith) counted (omega arith) (omega arith))
 
-clamped-most : (z : ℤ) (n : ℕ) → clamp_len z n ≤ n
-clamped-most (pos k) n = omega arith
-clamped-most (negsuc k) n = omega arith
-
 module _ {input output starts w : List ℕ} {x : Position} (loop : PumpLoop input output starts w x) where
   -- the bytes at hand
   abbrev part : List ℕ
@@ -100,6 +97,10 @@ module _ {input output starts w : List ℕ} {x : Position} (loop : PumpLoop inpu
   reach =
       step-reach (plan_of w) part starts (length output) (position_of x) loop.valid.reached
       (omega (arith, part-size, loop.stands.at_hand))
+
+  -- the step ends among them
+  pub within : x.place + taken.used ≤ length part
+  within = reach.within
 
   module _ {r : Stepped} {w' starts' output' : List ℕ} (stepped : Step x taken output r w' starts' output') where
     place' : r.position.place ≡ x.place + taken.used
@@ -117,24 +118,14 @@ module _ {input output starts w : List ℕ} {x : Position} (loop : PumpLoop inpu
     inside : x.place + taken.used ≤ x.filled
     inside = omega (arith, reach.within, part-size)
 
-    -- what is to be written stands in the buffer
-    pub in-output : r.written ≤ length output'
-    in-output =
-        omega (
-          arith,
-          stepped.written,
-          ap length stepped.printed,
-          length-append taken.text (drop (length taken.text) output),
-        )
-
     -- what holds goes on holding
-    pub onward : length starts' ≡ 64 → length output' ≡ 65536 → PumpLoop input output' starts' w' r.position
-    onward starts-size output-size =
+    pub onward : length starts' ≡ length starts → length output' ≡ length output → PumpLoop input output' starts' w' r.position
+    onward same-starts same-output =
         record {
           valid = stepped.valid;
           input-size = loop.input-size;
-          output-size = sym output-size;
-          starts-size = sym starts-size;
+          output-size = loop.output-size ∙ sym same-output;
+          starts-size = loop.starts-size ∙ sym same-starts;
           stands =
               record {
                 at_hand = omega (arith, place', filled', inside);
@@ -144,8 +135,14 @@ module _ {input output starts w : List ℕ} {x : Position} (loop : PumpLoop inpu
         }
 
     -- where more input is waited for, there is room for it
-    pub room : r.verdict ≡ waits → r.position.filled - r.position.place < 65536
-    room e = omega (arith, reach.few (sym stepped.verdict ∙ e), part-size, place', filled')
+    pub room : length starts' ≡ length starts
+        → length output' ≡ length output
+        → r.verdict ≡ waits
+        → Stands r.position (length input) × (r.position.filled - r.position.place < length input)
+    room same-starts same-output e = (
+      at_size loop.input-size (onward same-starts same-output).stands,
+      omega (arith, loop.input-size, reach.few (sym stepped.verdict ∙ e), part-size, place', filled'),
+    )
 
     -- a step that neither waits nor stops has used a byte
     pub falls : (r.verdict ≡ waits → ⊥) → (r.verdict ≡ stops → ⊥) → bytes_left (position_of r.position) < bytes_left (position_of x)
@@ -156,16 +153,16 @@ module _ {input output starts w : List ℕ} {x : Position} (loop : PumpLoop inpu
         subst (λ (y : rules.Position). bytes_left y < bytes_left (position_of x)) (sym stepped.position)
         (used-up taken.used (position_of x) some inside loop.stands.counted)
 
-    module _ {input' : List ℕ} {f : Refilled} (filled : Filled input r.position input' f) (counted : is_counted (length input) (position_of r.position) ≡ true) where
+    module _ {had has : Option (List ℕ)} {input' : List ℕ} {f : Refilled} (filled : Filled input r.position had input' has f) (counted : is_counted (length input) (position_of r.position) ≡ true) where
       abbrev count : ℕ
-      count = clamp_len f.got (length input - left_of r.position)
+      count = came f.got
 
       far : r.position.offset + length input ≤ max_offset
       unfolding is_counted
       far = leb-true (r.position.offset + length input) max_offset counted
 
       most : count ≤ length input - left_of r.position
-      most = clamped-most f.got (length input - left_of r.position)
+      most = filled.within
 
       -- a read waits for what comes next
       pub refalls : r.verdict ≡ waits → bytes_left (position_of f.position) < bytes_left (position_of x)
@@ -187,9 +184,9 @@ module _ {input output starts w : List ℕ} {x : Position} (loop : PumpLoop inpu
       unfolding fed fronted
       offset'' = ap (λ (y : rules.Position). y.offset) filled.position
 
-      pub refilled : length starts' ≡ 64 → length output' ≡ 65536 → PumpLoop input' output' starts' w' f.position
-      refilled starts-size output-size =
-          let before = onward starts-size output-size in
+      pub refilled : length starts' ≡ length starts → length output' ≡ length output → PumpLoop input' output' starts' w' f.position
+      refilled same-starts same-output =
+          let before = onward same-starts same-output in
           record {
             valid = before.valid;
             input-size = loop.input-size ∙ sym filled.size;

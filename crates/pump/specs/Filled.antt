@@ -1,7 +1,7 @@
 -- More input behind the bytes at hand.
-use Rattle.std.specs.Prelude.{◌≡◌, List, ℕ, ◌-◌, length, take, drop}
+use Rattle.std.specs.Prelude.{◌≡◌, ◌≤◌, List, ℕ, ◌-◌, length, take, drop, Option, Result, Ok, Err}
+use Rattle.std.specs.Io.KnownBytes.{ReadConsumes}
 use Rattle.texts.specs.Printer as rules
-use Rattle.io.specs.Counts.{clamp_len}
 use Rattle.position.specs.declared.Position.{Position}
 use Rattle.pump.specs.declared.room.Refilled.{Refilled}
 use Rattle.position.specs.Standing.{position_of}
@@ -10,11 +10,18 @@ use Rattle.position.specs.Standing.{position_of}
 abbrev pub left_of : Position → ℕ
 left_of x = x.filled - x.place
 
-pub record Filled (before : List ℕ) (x : Position) (after : List ℕ) (r : Refilled) : Type 0 where
-  -- they stand at the front of the buffer
+-- how many bytes a read gave: none where it failed
+abbrev pub came : {E : Type 0} → Result ℕ E → ℕ
+came (Ok n) = n
+came (Err e) = 0
+
+-- a buffer before a read and after it, and the bytes that the reader had left and has left, where they are known
+pub record Filled (before : List ℕ) (x : Position) (had : Option (List ℕ)) (after : List ℕ) (has : Option (List ℕ)) (r : Refilled) : Type 0 where
+  -- the bytes at hand stand at the front of the buffer
   pub front : take (left_of x) after ≡ take (left_of x) (drop x.place before)
   pub size : length after ≡ length before
-  -- and as many bytes as the read answered behind them, none where it failed, never more than there was room for
-  pub position :
-      position_of r.position
-      ≡ rules.fed (clamp_len r.got (length before - left_of x)) (rules.fronted (position_of x))
+  -- what the read gave stands behind them, and is gone from the reader; nothing is gone where it failed
+  pub behind : ReadConsumes had has r.got (drop (left_of x) after)
+  -- it is as many bytes as the read answered, none where it failed, never more than there was room for
+  pub within : came r.got ≤ length before - left_of x
+  pub position : position_of r.position ≡ rules.fed (came r.got) (rules.fronted (position_of x))
