@@ -32,6 +32,6 @@ returns c =
     let h = c.loop-i.invariant in
     let all : c.loop-i.i ≡ min (length c.args.records.now) max_tasks = omega (arith, c.copied-tasks.ensures) in (
       sym (answers c.args.records.now c.args.activation.now c.loop-i.i all)
-      ∙ (rw (h.parents, h.works, h.outs) at c.assess.ensures.0),
+          ∙ (rw (h.parents, h.works, h.outs) at c.assess.ensures.0),
       c.assess.ensures.1,
     )
