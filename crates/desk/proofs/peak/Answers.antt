@@ -1,8 +1,7 @@
 -- `peak` meets its contract: every record that is copied stands in the columns, and these are assessed.
-use Rattle.std.proofs.Common.{◌≡◌, ◌<◌, refl, ◌+◌, ◌∙◌, sym, ap, arith, min, length, ℕ, List}
+use Rattle.std.proofs.Common.{◌≡◌, ◌<◌, refl, ◌∙◌, sym, arith, min, length, ℕ}
 use Rattle.numbers.specs.Limits.{max_tasks}
-use Rattle.desk.specs.Records.{step_records}
-use Rattle.desk.proofs.Columns.{filled, filled_none, filled_next}
+use Rattle.desk.proofs.Columns.{filled_none, filled_next}
 use Rattle.desk.proofs.Answers.{answers}
 use Rattle.desk.proofs.peak.Goals as goal
 
