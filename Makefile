@@ -21,16 +21,16 @@ DAY := examples/breakfast.plan
 day: kitchen
 	@kitchen/target/release/cephlouk run "$(DAY)"
 
-# The day printer, proved and built: target/bin/printer. It tells what is proved as it goes, on standard error, and nothing where no
-# crate has changed since.
+# The day printer, proved and built: target/bin/printer. `rt run` builds it, and runs it on plan A. It tells each crate that it has proved
+# as it goes, on standard error, and nothing where no crate has changed since.
 printer: toolchain
-	@mkdir -p target
-	@[ -z "$$(find crates crates.txt -newer target/printer.log -print -quit 2>&1)" ] \
-	    || echo "Proving what has changed of the day printer and the crates under it: two to four minutes on two cores." >&2
+	@mkdir -p target/bin
+	@[ -z "$$(find crates crates.txt -name out -prune -o -newer target/bin/printer -print -quit 2>&1)" ] \
+	    || echo "Proving what has changed of the day printer and the crates under it: some minutes." >&2
 	@set -o pipefail; \
-	    rt check printer 2>&1 | tee target/printer.part | { grep --line-buffered ' proved ([0-9]' >&2; true; } \
-	    && mv target/printer.part target/printer.log \
-	    || { cat target/printer.part >&2; exit 1; }
+	    (cd crates/printer && rt run <stdin 2>&1 >/dev/null) | tee target/printer.log | { grep --line-buffered '^crate ' >&2; true; } \
+	    && cp crates/printer/out/printer target/bin/printer \
+	    || { cat target/printer.log >&2; exit 1; }
 
 # The command for planners and kitchens: kitchen/target/release/cephlouk.
 kitchen:

@@ -2,6 +2,7 @@
 //! where it is. `libraries` does the work and says what is missing.
 
 use std::env;
+use std::fs;
 use std::path::{Path, PathBuf};
 use std::process::Command;
 
@@ -14,13 +15,11 @@ const NO_FILE: &str = "no-library";
 
 fn main() {
     println!("cargo:rerun-if-env-changed={GIVEN}");
-    for path in [
-        "libraries",
-        "../crates",
-        "../crates.txt",
-        "../include/cephlouk.h",
-    ] {
+    for path in ["libraries", "../crates.txt", "../include/cephlouk.h"] {
         println!("cargo:rerun-if-changed={path}");
+    }
+    for path in sources(Path::new("../crates")) {
+        println!("cargo:rerun-if-changed={}", path.display());
     }
     println!("cargo:rustc-link-lib=static=cephlouk");
     let target = env::var("TARGET").expect("cargo names the target");
@@ -36,6 +35,16 @@ fn main() {
         let library = folder.join("libcephlouk.a");
         println!("cargo:rerun-if-changed={}", library.display());
     }
+}
+
+/// What the crates are written in: beside it stands what the toolchain keeps, which
+/// changes with every check.
+fn sources(crates: &Path) -> Vec<PathBuf> {
+    let folders = fs::read_dir(crates).into_iter().flatten().flatten();
+    folders
+        .flat_map(|one| ["src", "specs", "proofs"].map(|part| one.path().join(part)))
+        .filter(|path| path.is_dir())
+        .collect()
 }
 
 /// Where the library is, unless the toolchain that writes it is missing.

@@ -54,12 +54,14 @@ fn owner_of<'a>(words: &[Word<'a>]) -> &'a str {
     }
 }
 
-/// Where a function's body begins: the first block that is not of its contract.
-fn body(words: &[Word], function: usize) -> usize {
-    let open = find(words, function, "{");
-    match words[open - 1].text {
-        "requires" | "ensures" => body(words, close(words, open)),
-        _ => open,
+/// Where a function's body begins: the first block that is not of its contract,
+/// whose clauses may have names.
+fn body(words: &[Word], from: usize) -> usize {
+    let open = find(words, from, "{");
+    let is_clause = |word: &Word| ["ghost", "requires", "ensures"].contains(&word.text);
+    match words[from..open].iter().any(is_clause) {
+        true => body(words, close(words, open)),
+        false => open,
     }
 }
 

@@ -1,6 +1,6 @@
 //! Writes `must-fail/group_*.edit` of each crate from the single edits in its
-//! `must-fail/grouped/`: `groups`. With `--check` it writes nothing, and fails
-//! where a crate's groups are not as they would be written.
+//! `edits/grouped/`: `groups`. With `--check` it writes nothing, and fails where
+//! a crate's groups are not as they would be written.
 
 mod code;
 mod edit;
@@ -29,12 +29,13 @@ impl Crate {
     fn read(name: String) -> io::Result<Crate> {
         let code = Code::read(&name)?;
         let folder = format!("crates/{name}/must-fail");
-        let singles = Edit::all(&format!("{folder}/grouped"), "")?;
+        let single = format!("crates/{name}/edits/grouped");
+        let singles = Edit::all(&single, "")?;
         let mut wrong = Vec::new();
         for edit in &singles {
             wrong.push(Wrong::of(&code, edit).ok_or_else(|| {
                 io::Error::other(format!(
-                    "{folder}/grouped/{}.edit is not within one function: it belongs in {folder}",
+                    "{single}/{}.edit is not within one function: it belongs in {folder}",
                     edit.name
                 ))
             })?);

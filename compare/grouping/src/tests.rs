@@ -10,12 +10,14 @@ const MOST: u8 = 4;
 // fn no_function() {}
 impl<'a> Pair<'a> {
     pub fn low(self) -> u8
-        ensures { λ r. ⌜ r ≡ 1 ⌝ }
+        requires { self.left ≡ 0 }
+        ensures low { result ≡ 1 }
+        ensures alike { result ≡ record { value = 3 }.value }
     {
         1
     }
 }
-fn middle() -> u8 requires { ⌜ a ≡ record { b = 2 } ⌝ } {
+fn middle() -> u8 requires { a ≡ record { b = 2 } } {
     two + pair.low()
 }
 fn high() -> [u8; 2] { three + middle() }
@@ -95,7 +97,9 @@ fn what_is_of_no_function_is_not_grouped() {
     let code = code();
     for (old, new) in [
         ("u8 = 4", "u8 = 5"),
-        ("r ≡ 1", "r ≡ 2"),
+        ("left ≡ 0", "left ≡ 1"),
+        ("result ≡ 1", "result ≡ 2"),
+        ("value = 3", "value = 4"),
         ("b = 2", "b = 3"),
         ("no_function", "function"),
         ("u8", "u16"),

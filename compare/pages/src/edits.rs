@@ -14,8 +14,8 @@ edit gets wrong. `make test` tries those of its name, some in a group that share
 /// Who tries the edits of a folder.
 const TRIED: [(&str, &str); 3] = [
     ("must-fail", "`make test`"),
-    ("must-fail/grouped", "`make test`, in a group"),
-    ("must-fail/more", "`make edits`"),
+    ("edits/grouped", "`make test`, in a group"),
+    ("edits/more", "`make edits`"),
 ];
 
 /// An edit in its file.

@@ -17,7 +17,7 @@ impl Names {
         let mut names = Names::default();
         for line in text.text.lines() {
             let line = line.strip_prefix("ghost ").unwrap_or(line);
-            if let Some(used) = line.strip_prefix("use Rattle·") {
+            if let Some(used) = line.strip_prefix("use Rattle.") {
                 names.take(used.trim_end_matches(';'));
             }
         }
@@ -44,22 +44,29 @@ impl Names {
         }
     }
 
-    /// The file and the name that a word stands for, in the file at `path`.
+    /// The file and the name that a word stands for, in the file at `path`. What
+    /// is behind the name are fields.
     pub fn meaning<'w>(&self, path: &str, word: &'w str) -> (String, &'w str) {
-        if let Some((file, name)) = word.split_once('.') {
+        if let Some((file, rest)) = word.split_once('.') {
             if let Some(path) = self.files.get(file) {
-                return (path.clone(), name);
+                return (path.clone(), first(rest));
             }
         }
+        let word = first(word);
         let path = self.taken.get(word).map_or(path, String::as_str);
         (path.to_string(), word)
     }
 }
 
+/// A word without the fields behind it.
+fn first(word: &str) -> &str {
+    word.split('.').next().unwrap_or(word)
+}
+
 /// The path of a file of definitions, from `crate.specs.File`.
 fn file(used: &str) -> Option<String> {
     let mut parts = used.split('.');
-    let name = parts.next()?.split('·').next()?;
+    let name = parts.next()?;
     match [parts.next()?, parts.next()?, parts.next().unwrap_or("")] {
         ["specs", file, ""] => Some(format!("crates/{name}/specs/{file}.antt")),
         _ => None,
@@ -68,7 +75,7 @@ fn file(used: &str) -> Option<String> {
 
 /// The words of a line of definitions or of a contract.
 pub fn words(line: &str) -> impl Iterator<Item = &str> {
-    line.split(|c: char| c.is_whitespace() || "(){}[];,⌜⌝λ".contains(c))
+    line.split(|c: char| c.is_whitespace() || "(){}[];,λ".contains(c))
         .filter(|word| !word.is_empty() && !word.starts_with('.'))
         .map(|word| word.trim_end_matches('.'))
 }

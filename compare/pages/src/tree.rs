@@ -38,7 +38,8 @@ impl Tree {
             .lines()
             .filter(|line| !line.starts_with('#'))
             .filter_map(|line| line.split_once(':'));
-        let crates = names.map(|(name, _)| Crate::read(name));
+        // A static library says so behind its name.
+        let crates = names.filter_map(|(name, _)| Some(Crate::read(name.split(' ').next()?)));
         Ok(Tree {
             crates: crates.collect::<io::Result<_>>()?,
         })

@@ -8,7 +8,6 @@ use lib.ListN.{set}
 use lib.Dec.{eqb, leb}
 use lib.Seq.{get_or-take}
 use Rattle.books.specs.Kind.{Kind, of, all}
-use Rattle.books.specs.Kind
 use Rattle.numbers.specs.Lists.{at}
 use Rattle.books.specs.Standing.{activated, running, finished, count}
 use Rattle.words.specs.Layout.{words, chilled, offset, standing, next, activation_base, entries}

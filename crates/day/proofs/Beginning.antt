@@ -13,7 +13,7 @@ use Rattle.books.specs.Kind.{each, all}
 use Rattle.numbers.specs.Lists.{at, every, distinct}
 use Rattle.numbers.specs.Limits.{least_starts}
 use Rattle.tree.specs.Tree.{roots, ordered}
-use Rattle.tree.specs.Peak.{peak, Peaked}
+use Rattle.tree.specs.Peak.{Peaked}
 use Rattle.rules.specs.Phase
 use Rattle.rules.specs.State.{State}
 use Rattle.format.specs.Command.{begin}

@@ -10,7 +10,6 @@ use lib.ListN.{length, set, length-set}
 use lib.Seq.{get_or-set_same, get_or-set_other}
 use borrow.Author.Tests.{eq-eqb, ne_eqb}
 use Rattle.books.specs.Kind.{Kind, Each, of, each}
-use Rattle.books.specs.Kind
 use Rattle.numbers.specs.Sums.{Task, only, sum_to}
 use Rattle.numbers.specs.Lists.{at}
 use Rattle.tree.specs.Need.{need}

@@ -4,7 +4,6 @@ use Prim.Native.Nat.{ℕ, ◌+◌, ◌-◌, ◌≤◌}
 use native.Mathlib.Omega.{arith}
 use lib.ListN.{set}
 use Rattle.books.specs.Kind.{Kind, of}
-use Rattle.books.specs.Kind
 use Rattle.numbers.specs.Lists.{at}
 use Rattle.books.specs.Standing.{finished}
 use Rattle.books.specs.Booking.{Terms, booked_in, climb}

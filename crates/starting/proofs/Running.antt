@@ -9,7 +9,6 @@ use lib.Dec.{eqb}
 use lib.ListN.{length, set, length-set}
 use borrow.Author.Tests.{eqb-true, eq-eqb, ne_eqb}
 use Rattle.books.specs.Kind.{Kind, of, each}
-use Rattle.books.specs.Kind
 use Rattle.numbers.specs.Sums.{Task}
 use Rattle.numbers.specs.Lists.{at}
 use Rattle.numbers.specs.Limits.{max_tasks}

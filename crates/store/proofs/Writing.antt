@@ -7,7 +7,6 @@ use native.Mathlib.Omega.{arith}
 use lib.Dec.{eqb}
 use lib.ListN.{length, set, length-set}
 use Rattle.books.specs.Kind.{Kind, of}
-use Rattle.books.specs.Kind
 use Rattle.numbers.specs.Lists.{at}
 use Rattle.books.proofs.EachStore.{of-each}
 use Rattle.words.specs.Layout.{row, rows, words, offset, kind_at}

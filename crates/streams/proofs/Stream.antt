@@ -8,7 +8,7 @@ use native.Mathlib.Nat.{zero-add, add-zero, suc-add}
 use native.Mathlib.Omega.{arith}
 use borrow.Author.Tests.{eqb-true, eqb-false, eq-eqb, ne_eqb, le-leb, lt-leb, le-ltb}
 use lib.Dec.{eqb, leb}
-use lib.ListN.{length, take, replicate, length-append}
+use lib.ListN.{length, replicate, length-append}
 use Rattle.numbers.specs.Limits.{least_starts}
 use Rattle.rules.specs.State.{State, none}
 use Rattle.format.specs.Command.{Command, bytes, read, decode}

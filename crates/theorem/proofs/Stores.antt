@@ -8,14 +8,13 @@ use native.Mathlib.Omega.{arith}
 use lib.Dec.{eqb}
 use borrow.Author.Tests.{eqb-true, eq-eqb, ne_eqb, le-leb}
 use Rattle.books.specs.Kind.{Kind}
-use Rattle.numbers.specs.Sums.{only, sum_to, within}
+use Rattle.numbers.specs.Sums.{only, sum_to}
 use Rattle.numbers.specs.Lists.{at, mem}
 use Rattle.tree.specs.Need
 use Rattle.rules.specs.Phase
 use Rattle.books.specs.Standing.{running, finished}
 use Rattle.rules.specs.State.{Store, State, needs_in, store_of}
-use Rattle.format.specs.Command.{fetch}
-use Rattle.books.specs.Booking.{total, ready}
+use Rattle.books.specs.Booking.{total}
 use Rattle.rules.specs.Question
 use Rattle.rules.specs.Day.{Event, starts, ends, runs}
 use Rattle.theorem.specs.Theorem.{used_by, StoreHolds}

@@ -9,7 +9,6 @@ use lib.ListN.{length, set, length-set}
 use lib.Seq.{get_or-set_same, get_or-set_other}
 use borrow.Author.Tests.{eq-eqb, ne_eqb}
 use Rattle.books.specs.Kind.{Kind, of, each}
-use Rattle.books.specs.Kind
 use Rattle.numbers.specs.Lists.{at}
 use Rattle.numbers.proofs.Tests.{same_or_not}
 use Rattle.books.proofs.EachStore.{of-each}

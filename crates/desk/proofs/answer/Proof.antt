@@ -2,7 +2,6 @@
 use mathlib.Core.Path.{◌≡◌, sym, ◌∙◌}
 use mathlib.Core.Bool.{true}
 use native.Mathlib.Omega.{arith}
-use borrow.Author.Tests.{not-true, not-false}
 use Rattle.numbers.specs.Lists.{distinct}
 use Rattle.numbers.specs.Limits.{max_tasks}
 use Rattle.tree.proofs.Orders.{within-task}

@@ -1,8 +1,7 @@
 -- `peak` meets its contract: every record that is copied stands in the columns, and these are assessed.
-use Rattle.std.proofs.Common.{◌≡◌, ◌<◌, refl, ◌+◌, ◌∙◌, sym, ap, arith, min, length, ℕ, List}
+use Rattle.std.proofs.Common.{◌≡◌, ◌<◌, refl, ◌∙◌, sym, arith, min, length, ℕ}
 use Rattle.numbers.specs.Limits.{max_tasks}
-use Rattle.desk.specs.Records.{step_records}
-use Rattle.desk.proofs.Columns.{filled, filled_none, filled_next}
+use Rattle.desk.proofs.Columns.{filled_none, filled_next}
 use Rattle.desk.proofs.Answers.{answers}
 use Rattle.desk.proofs.peak.Goals as goal
 
@@ -32,6 +31,6 @@ returns c =
     let h = c.loop-i.invariant in
     let all : c.loop-i.i ≡ min (length c.args.records.now) max_tasks = omega (arith, c.copied-tasks.ensures) in (
       sym (answers c.args.records.now c.args.activation.now c.loop-i.i all)
-      ∙ (rw (h.parents, h.works, h.outs) at c.assess.ensures.0),
+          ∙ (rw (h.parents, h.works, h.outs) at c.assess.ensures.0),
       c.assess.ensures.1,
     )

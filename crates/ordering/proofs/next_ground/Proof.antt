@@ -2,7 +2,6 @@
 use mathlib.Core.Path.{sym, ◌∙◌}
 use native.Mathlib.Omega.{arith}
 use borrow.Author.Rules.{rules}
-use borrow.Author.Tests.{not-true, not-false}
 use Rattle.ordering.proofs.Ordering.{sought, other-phase, whole-order, outside, again, no-ground}
 use Rattle.ordering.proofs.next_ground.Statement.{statement}
 use Rattle.ordering.proofs.next_ground.Tie as tie

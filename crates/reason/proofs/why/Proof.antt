@@ -1,7 +1,6 @@
 -- `why` meets its contract: outside running 3, then 4 for what is no task, then the first that is true.
 use mathlib.Core.Path.{◌≡◌, sym, ap, ◌∙◌}
 use borrow.Author.Rules.{rules}
-use borrow.Author.Tests.{not-true, not-false}
 use Rattle.numbers.specs.Sums.{within}
 use Rattle.rules.specs.Phase
 use Rattle.numbers.proofs.Tests.{clash}

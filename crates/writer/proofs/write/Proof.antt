@@ -4,7 +4,6 @@ use mathlib.Core.List.{List}
 use Prim.Native.Nat.{ℕ, ◌+◌, ◌*◌}
 use native.Mathlib.Omega.{arith}
 use borrow.Author.Rules.{rules}
-use borrow.Author.Tests.{not-true, not-false}
 use Rattle.streams.specs.Instance.{instance_of}
 use Rattle.rules.specs.Answer.{front}
 use Rattle.streams.specs.Write as writing

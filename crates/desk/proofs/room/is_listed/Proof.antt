@@ -3,7 +3,6 @@ use mathlib.Core.Path.{sym, ◌∙◌}
 use Prim.Native.Nat.{◌-◌}
 use native.Mathlib.Omega.{arith}
 use lib.ListN.{length}
-use borrow.Author.Tests.{not-true, not-false}
 use Rattle.numbers.specs.Sums.{within}
 use Rattle.desk.proofs.Listing.{Tested, tested-none, tested-next, tested-not, tested-all}
 use Rattle.desk.proofs.room.is_listed.Statement.{statement}

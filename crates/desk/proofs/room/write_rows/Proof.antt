@@ -3,7 +3,6 @@ use mathlib.Core.Path.{sym, ◌∙◌}
 use mathlib.Core.Bool.{false≢true}
 use Prim.Native.Nat.{◌-◌, ◌≤◌}
 use native.Mathlib.Omega.{arith}
-use borrow.Author.Tests.{not-true, not-false}
 use Rattle.numbers.specs.Limits.{max_tasks}
 use Rattle.desk.proofs.Rowing.{Rowing, rowing-none, rowing-at, rowing-next, rowing-stray, rowing-all}
 use Rattle.desk.proofs.room.write_rows.Statement.{statement}
