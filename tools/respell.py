@@ -81,9 +81,11 @@ def main():
         text = WORD.sub(lambda m: camel.get(m.group(0), m.group(0)), text)
         return NAME.sub(lambda m: dashed[m.group(0)] if m.group(0) in dashed and file.startswith(local.get(m.group(0), "")) else m.group(0), text)
 
+    # where a refusal's number is bound by that name it is k, as in the other definitions
     def grounds(text):
         return "\n".join(
-            re.sub(r"(?<![A-Za-z0-9_'-])ground(?![A-Za-z0-9_'-])", "ground_for", code(line)) + line[len(code(line)):]
+            re.sub(r"(?<![A-Za-z0-9_'-])ground(?![A-Za-z0-9_'-])", "k" if re.search(r"\([Rr]efused ground\)", line) else "ground_for", code(line))
+            + line[len(code(line)):]
             for line in text.split("\n"))
 
     for f, t in texts.items():

@@ -4,7 +4,7 @@ use Rattle.cephlouk.specs.ReasonKind
 use Rattle.cephlouk.specs.declared.FlatReason.{FlatReason}
 
 abbrev pub flat : Reason → FlatReason
-flat (refused ground_for) = record { number = ground_for; kind = ReasonKind.refused; task = 0; lack = 0 }
+flat (refused k) = record { number = k; kind = ReasonKind.refused; task = 0; lack = 0 }
 flat ended = record { number = 0; kind = ReasonKind.ended; task = 0; lack = 0 }
 flat running = record { number = 0; kind = ReasonKind.running; task = 0; lack = 0 }
 flat (not_booked first lack) = record { number = 0; kind = ReasonKind.not_booked; task = first; lack = lack.chilled }

@@ -29,7 +29,7 @@ flat_command (places bound) =
 
 -- what stands at a place of a stream; in a refusal all but the number is 0
 abbrev pub flat_decoded : Decoded → FlatDecoded
-flat_decoded (refused ground_for) = record { number = ground_for; used = 0; command = bare 0 }
+flat_decoded (refused k) = record { number = k; used = 0; command = bare 0 }
 flat_decoded (read c used) = record { number = 0; used = used; command = flat_command c }
 
 -- the command of a byte and its operands, whatever the other numbers are; none where the byte is unknown

@@ -41,7 +41,7 @@ pub extern "C" fn cephlouk_plan_command(
     starts: &mut [u16],
 ) -> Answer
     requires { ValidPlan plan.old }
-    ensures { Commanded plan.old (record { stream = stream.entry.now; place = place; list = starts.old }) result plan.new starts.new }
+    ensures { Commanded plan.old (record { stream = stream.now; place = place; list = starts.old }) result plan.new starts.new }
 {
     command(plan, stream, place, starts)
 }

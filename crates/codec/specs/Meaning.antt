@@ -16,5 +16,5 @@ command_of Fetch = rules.fetch
 command_of (Places bound) = rules.places bound
 
 abbrev pub decoded : Decoded → rules.Decoded
-decoded (Refused ground_for) = rules.refused ground_for
+decoded (Refused k) = rules.refused k
 decoded (Read command used) = rules.read (command_of command) used

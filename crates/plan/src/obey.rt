@@ -43,7 +43,7 @@ pub fn command(
     starts: &mut [u16],
 ) -> Answer
     requires { ValidPlan plan.old }
-    ensures { Commanded plan.old (record { stream = stream.entry.now; place = place; list = starts.old }) result plan.new starts.new }
+    ensures { Commanded plan.old (record { stream = stream.now; place = place; list = starts.old }) result plan.new starts.new }
 {
     if starts.len() < Plan::LEAST_STARTS {
         return Answer::refused(10);

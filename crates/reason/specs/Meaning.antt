@@ -5,7 +5,7 @@ use Rattle.reason.specs.declared.Reason.{Reason}
 use Rattle.reason.specs.declared.Reason.TheVariants.{Refused, Ended, Running, NotBooked, Unfed, NoProcessor}
 
 abbrev pub reason_of : Reason → rules.Reason
-reason_of (Refused ground_for) = rules.refused ground_for
+reason_of (Refused k) = rules.refused k
 reason_of Ended = rules.ended
 reason_of Running = rules.running
 reason_of (NotBooked first lack) = rules.not_booked first (each (λ _. lack))
