@@ -15,8 +15,6 @@ impl Code {
     pub fn read(name: &str) -> io::Result<Code> {
         let mut files = Files::new();
         read_folder(&format!("crates/{name}"), "src", &mut files)?;
-        // An edit that changes what a goal is named after names it so in the proof too.
-        read_folder(&format!("crates/{name}"), "proofs", &mut files)?;
         Ok(Code::of(name, files))
     }
 
@@ -38,13 +36,8 @@ impl Code {
     }
 }
 
-/// Nothing where there is no such folder.
 fn read_folder(root: &str, folder: &str, files: &mut Files) -> io::Result<()> {
-    let path = Path::new(root).join(folder);
-    if !path.is_dir() {
-        return Ok(());
-    }
-    for entry in fs::read_dir(path)? {
+    for entry in fs::read_dir(Path::new(root).join(folder))? {
         let entry = entry?;
         let path = format!("{folder}/{}", entry.file_name().to_string_lossy());
         if entry.file_type()?.is_dir() {

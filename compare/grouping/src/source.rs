@@ -4,7 +4,7 @@ use crate::functions::Function;
 use crate::words::words;
 use std::collections::{BTreeMap, BTreeSet};
 
-/// The files of a crate's `src/` and `proofs/`, by their paths in the crate.
+/// The files of a crate's `src/`, by their paths in the crate.
 pub type Files = BTreeMap<String, String>;
 
 /// The functions that each one calls, directly or through others.
@@ -24,8 +24,7 @@ impl Source {
             bodies: BTreeMap::new(),
             rest: String::new(),
         };
-        let code = files.iter().filter(|(path, _)| path.starts_with("src/"));
-        for (path, text) in code {
+        for (path, text) in files {
             let module = module(name, path);
             let mut behind = 0;
             for Function { name, body } in Function::all(text) {
