@@ -8,7 +8,7 @@ use Rattle.rules.specs.Obey.{Outcome, plain, obey}
 use Rattle.rules.specs.Answer as answers
 use Rattle.rules.proofs.Judging.{judge-refused, judge-accepted}
 use Rattle.words.specs.Contents.{Contents, contents}
-use Rattle.answer.specs.declared.Answer.{Answer}
+use Rattle.answer.specs.declared.flat.Answer.{Answer}
 use Rattle.answer.specs.Meaning.{meaning, plan_of, answered_of}
 use Rattle.answer.specs.Sound.{Sound}
 use Rattle.answer.specs.ValidPlan.{Judged, Obeyed}

@@ -1,3 +1,4 @@
 pub mod Meaning
 pub mod Sound
+pub mod Told
 pub mod ValidPlan

@@ -1,10 +1,13 @@
 // One word of a plan: of a row, and of an order. All other functions speak of rows and columns.
 #![tactic(auto)]
 
+mod named;
+
 ghost use Rattle.std.specs.Prelude.{◌≡◌, ◌+◌, ◌*◌, ◌≤◌, ◌<◌, set};
 ghost use Rattle.numbers.specs.Lists.{at};
 ghost use Rattle.words.specs.Layout.{row, rows, words};
 
+pub use named::{holds_trays, is_in, set_phase, set_standing, stands};
 use words::plan::Plan;
 
 // A word of a row.

@@ -22,7 +22,7 @@ use Rattle.words.specs.Contents as held
 use Rattle.words.specs.Contents.{Contents, contents, with_cell, store_with_cell, with_head, store_with_head}
 use Rattle.words.proofs.Contents.{Lengths, lengths, contents-activation, contents-execution, wrote-cell, wrote-head}
 use Rattle.store.proofs.InStore.{by_kind}
-use Rattle.answer.specs.declared.Answer.{Answer}
+use Rattle.answer.specs.declared.flat.Answer.{Answer}
 use Rattle.answer.specs.Meaning.{meaning}
 use Rattle.answer.specs.Sound.{Noted, Sound}
 use Rattle.answer.specs.ValidPlan.{Obeyed}

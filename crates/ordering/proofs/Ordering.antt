@@ -17,7 +17,7 @@ use Rattle.words.specs.Layout.{row, head_base, entries}
 use Rattle.words.specs.Views.{column, part}
 use Rattle.words.proofs.Views.{column-at, part_at}
 use Rattle.words.specs.Contents.{head_word}
-use Rattle.answer.specs.declared.Answer.{Answer}
+use Rattle.answer.specs.declared.flat.Answer.{Answer}
 use Rattle.ordering.specs.Order.{next_ground, ground_at, Sought, OrderAt, MayAppend, appended_to, Appended}
 use Rattle.ordering.proofs.Placing.{Listed, seen, unseen}
 

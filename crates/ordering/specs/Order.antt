@@ -8,7 +8,7 @@ use Rattle.rules.specs.Grounds.{demand}
 use Rattle.words.specs.Layout.{row, rows, words, head_base, entries}
 use Rattle.words.specs.Views.{column, part}
 use Rattle.words.specs.Contents.{head_word}
-use Rattle.answer.specs.declared.Answer.{Answer}
+use Rattle.answer.specs.declared.flat.Answer.{Answer}
 use Rattle.answer.specs.Sound.{Noted}
 
 -- the ground against it: 3, 4 and 5; 0 is none

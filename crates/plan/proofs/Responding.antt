@@ -16,7 +16,7 @@ use Rattle.codec.specs.declared.Command as commands
 use Rattle.codec.specs.declared.Decoded as codec
 use Rattle.codec.specs.declared.Decoded.TheVariants.{Refused, Read}
 use Rattle.words.specs.Contents.{contents}
-use Rattle.answer.specs.declared.Answer.{Answer}
+use Rattle.answer.specs.declared.flat.Answer.{Answer}
 use Rattle.answer.specs.Meaning.{plan_of, answered_of}
 use Rattle.answer.specs.Sound.{Sound}
 use Rattle.answer.specs.ValidPlan.{ValidPlan, Obeyed, Judged, Responded, Commanded}

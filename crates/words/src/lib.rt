@@ -1,4 +1,7 @@
 // The words of a plan: its limits, and where everything lies.
 #![tactic(auto)]
 
+pub mod order;
+pub mod phase;
 pub mod plan;
+pub mod standing;
