@@ -1,9 +1,11 @@
 -- What the code's commands and answers mean in the rules, case by case.
+use Rattle.std.specs.Prelude.{Result, Ok, Err}
 use Rattle.format.specs.Command as rules
+use Rattle.refusal.specs.declared.Refusal.{Refusal}
+use Rattle.refusal.specs.Number.{number_of}
 use Rattle.codec.specs.declared.Command.{Command}
 use Rattle.codec.specs.declared.Command.TheVariants.{Plan, Task, Activation, Execution, Begin, Done, Fetch, Places}
-use Rattle.codec.specs.declared.Decoded.{Decoded}
-use Rattle.codec.specs.declared.Decoded.TheVariants.{Refused, Read}
+use Rattle.codec.specs.declared.Read.{Read}
 
 abbrev pub command_of : Command → rules.Command
 command_of (Plan n p bound) = rules.plan n p bound
@@ -15,6 +17,6 @@ command_of (Done i) = rules.done i
 command_of Fetch = rules.fetch
 command_of (Places bound) = rules.places bound
 
-abbrev pub decoded : Decoded → rules.Decoded
-decoded (Refused k) = rules.refused k
-decoded (Read command used) = rules.read (command_of command) used
+abbrev pub decoded : Result Read Refusal → rules.Decoded
+decoded (Ok read) = rules.read (command_of read.command) read.used
+decoded (Err refusal) = rules.refused (number_of refusal)

@@ -6,7 +6,9 @@ ghost use Rattle.format.specs.Command as rules;
 ghost use Rattle.put.specs.Put.{Put};
 ghost use Rattle.codec.specs.Meaning.{command_of, decoded};
 
-#[derive(Clone, Copy)]
+use refusal::Refusal;
+
+#[derive(Clone, Copy, Debug, PartialEq, Eq)]
 pub enum Command {
     // PLAN: n, p and M
     Plan { n: u16, p: u8, bound: u32 },
@@ -24,13 +26,11 @@ pub enum Command {
     Places(u32),
 }
 
-// What stands at a place of a stream.
-#[derive(Clone, Copy)]
-pub enum Decoded {
-    // the number of the ground for refusing
-    Refused(u8),
-    // a command and the bytes that it uses
-    Read { command: Command, used: usize },
+// What is read at a place of a stream: a command, and the bytes that it uses.
+#[derive(Clone, Copy, Debug, PartialEq, Eq)]
+pub struct Read {
+    pub command: Command,
+    pub used: usize,
 }
 
 // What follows the first `count` bytes: nothing, where there are fewer.
@@ -77,19 +77,21 @@ fn four(given: &[u8]) -> u32
 }
 
 // A command with `width` bytes of operands, or "operands are cut short" (1).
-fn whole(given: &[u8], width: usize, command: Command) -> Decoded
+fn whole(given: &[u8], width: usize, command: Command) -> Result<Read, Refusal>
     ensures { decoded result ≡ rules.whole given.now width (command_of command) }
 {
     if given.len() < width {
-        return Decoded::Refused(1);
+        return Err(Refusal::CutShort);
     }
-    let used = 1 + width;
-    Decoded::Read { command, used }
+    Ok(Read {
+        command,
+        used: 1 + width,
+    })
 }
 
 // The table of commands: the byte picks operand width and meaning; "the byte is none of 01 to 06" (2);
 // 07 "leaves the unknown ones", and 08 "is known".
-fn table(byte: u8, given: &[u8]) -> Decoded
+fn table(byte: u8, given: &[u8]) -> Result<Read, Refusal>
     ensures { decoded result ≡ rules.table byte given.now }
 {
     match byte {
@@ -117,16 +119,16 @@ fn table(byte: u8, given: &[u8]) -> Decoded
         6 => whole(given, 2, Command::Done(two(given))),
         7 => whole(given, 0, Command::Fetch),
         8 => whole(given, 4, Command::Places(four(given))),
-        _ => Decoded::Refused(2),
+        _ => Err(Refusal::UnknownByte),
     }
 }
 
 // The command at a place of a stream, or "no byte is left" (1).
-pub fn decode(stream: &[u8], place: usize) -> Decoded
+pub fn decode(stream: &[u8], place: usize) -> Result<Read, Refusal>
     ensures { decoded result ≡ rules.decode stream.now place }
 {
     if stream.len() <= place {
-        return Decoded::Refused(1);
+        return Err(Refusal::CutShort);
     }
     table(stream[place], after(stream, place + 1))
 }
