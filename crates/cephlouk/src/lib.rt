@@ -26,30 +26,30 @@ use writer::write;
 
 // The words become the empty plan.
 #[unsafe(no_mangle)]
-pub extern "C" fn cephlouk_plan_empty(plan: &mut [u32; Plan::WORDS])
-    ensures { plan.new ≡ replicate words 0 }
+pub extern "C" fn cephlouk_plan_empty(plan: &mut Plan)
+    ensures { plan.new.words ≡ replicate words 0 }
 {
-    *plan = [0u32; Plan::WORDS];
+    *plan = Plan::new();
 }
 
 // One command, asked in bytes.
 #[unsafe(no_mangle)]
 pub extern "C" fn cephlouk_plan_command(
-    plan: &mut [u32; Plan::WORDS],
+    plan: &mut Plan,
     stream: &[u8],
     place: usize,
     starts: &mut [u16],
 ) -> Answer
-    requires { ValidPlan plan.old }
-    ensures { Commanded plan.old (record { stream = stream.now; place = place; list = starts.old }) result plan.new starts.new }
+    requires { ValidPlan plan.old.words }
+    ensures { Commanded plan.old.words (record { stream = stream.now; place = place; list = starts.old }) result plan.new.words starts.new }
 {
     command(plan, stream, place, starts)
 }
 
 // "Phases: empty, steps, orders, running, over": 0 to 4.
 #[unsafe(no_mangle)]
-pub extern "C" fn cephlouk_plan_phase(plan: &[u32; Plan::WORDS]) -> u32
-    ensures { result ≡ (plan_of plan.now).phase }
+pub extern "C" fn cephlouk_plan_phase(plan: &Plan) -> u32
+    ensures { result ≡ (plan_of plan.now.words).phase }
 {
     phase(plan)
 }
@@ -57,25 +57,25 @@ pub extern "C" fn cephlouk_plan_phase(plan: &[u32; Plan::WORDS]) -> u32
 // "Booked trays, trays in use and fullness can be asked of the plan at any time, and are 0 outside
 // running."
 #[unsafe(no_mangle)]
-pub extern "C" fn cephlouk_plan_booked(plan: &[u32; Plan::WORDS]) -> u32
-    requires { ValidPlan plan.now }
-    ensures { result ≡ questions.booked (plan_of plan.now) }
+pub extern "C" fn cephlouk_plan_booked(plan: &Plan) -> u32
+    requires { ValidPlan plan.now.words }
+    ensures { result ≡ questions.booked (plan_of plan.now.words) }
 {
     booked(plan)
 }
 
 #[unsafe(no_mangle)]
-pub extern "C" fn cephlouk_plan_in_use(plan: &[u32; Plan::WORDS]) -> u32
-    requires { ValidPlan plan.now }
-    ensures { result ≡ questions.in_use (plan_of plan.now) }
+pub extern "C" fn cephlouk_plan_in_use(plan: &Plan) -> u32
+    requires { ValidPlan plan.now.words }
+    ensures { result ≡ questions.in_use (plan_of plan.now.words) }
 {
     in_use(plan)
 }
 
 #[unsafe(no_mangle)]
-pub extern "C" fn cephlouk_plan_fullness(plan: &[u32; Plan::WORDS]) -> u32
-    requires { ValidPlan plan.now }
-    ensures { result ≡ questions.fullness (plan_of plan.now) }
+pub extern "C" fn cephlouk_plan_fullness(plan: &Plan) -> u32
+    requires { ValidPlan plan.now.words }
+    ensures { result ≡ questions.fullness (plan_of plan.now.words) }
 {
     fullness(plan)
 }
@@ -97,9 +97,9 @@ pub struct Standing {
 }
 
 #[unsafe(no_mangle)]
-pub extern "C" fn cephlouk_plan_standing(plan: &[u32; Plan::WORDS]) -> Standing
-    requires { ValidPlan plan.now }
-    ensures { result.counts ≡ questions.standing (plan_of plan.now) }
+pub extern "C" fn cephlouk_plan_standing(plan: &Plan) -> Standing
+    requires { ValidPlan plan.now.words }
+    ensures { result.counts ≡ questions.standing (plan_of plan.now.words) }
 {
     let counts = standing(plan);
     Standing { counts }
@@ -164,9 +164,9 @@ fn flatten(reason: Reason) -> FlatReason
 
 // "Given a step in the running phase, the tool says the first that is true".
 #[unsafe(no_mangle)]
-pub extern "C" fn cephlouk_plan_why(plan: &[u32; Plan::WORDS], task: u16) -> FlatReason
-    requires { ValidPlan plan.now }
-    ensures { result ≡ flat (reasons.why (plan_of plan.now) task) }
+pub extern "C" fn cephlouk_plan_why(plan: &Plan, task: u16) -> FlatReason
+    requires { ValidPlan plan.now.words }
+    ensures { result ≡ flat (reasons.why (plan_of plan.now.words) task) }
 {
     let reason = why(plan, task);
     flatten(reason)
@@ -174,9 +174,9 @@ pub extern "C" fn cephlouk_plan_why(plan: &[u32; Plan::WORDS], task: u16) -> Fla
 
 // "Write a plan back out": to the front of a lent list of bytes, which a refusal leaves as it was.
 #[unsafe(no_mangle)]
-pub extern "C" fn cephlouk_plan_write(plan: &[u32; Plan::WORDS], list: &mut [u8]) -> Wrote
-    requires { ValidPlan plan.now }
-    ensures { wrote_of result list.new ≡ writing.write (plan_of plan.now) list.old }
+pub extern "C" fn cephlouk_plan_write(plan: &Plan, list: &mut [u8]) -> Wrote
+    requires { ValidPlan plan.now.words }
+    ensures { wrote_of result list.new ≡ writing.write (plan_of plan.now.words) list.old }
 {
     write(plan, list)
 }
@@ -184,9 +184,9 @@ pub extern "C" fn cephlouk_plan_write(plan: &[u32; Plan::WORDS], list: &mut [u8]
 // "Find a good activation order": to the front of a lent list of step numbers, which a refusal leaves as
 // it was.
 #[unsafe(no_mangle)]
-pub extern "C" fn cephlouk_plan_find_order(plan: &[u32; Plan::WORDS], list: &mut [u16]) -> Wrote
-    requires { ValidPlan plan.now }
-    ensures { wrote_of result list.new ≡ orders.find_order (plan_of plan.now) list.old }
+pub extern "C" fn cephlouk_plan_find_order(plan: &Plan, list: &mut [u16]) -> Wrote
+    requires { ValidPlan plan.now.words }
+    ensures { wrote_of result list.new ≡ orders.find_order (plan_of plan.now.words) list.old }
 {
     find_order(plan, list)
 }

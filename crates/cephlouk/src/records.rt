@@ -13,10 +13,10 @@ use words::plan::Plan;
 pub extern "C" fn cephlouk_records_peak(
     records: &[TaskRecord],
     activation: &[u16],
-    room: &mut [u32; Plan::WORDS],
+    room: &mut Plan,
 ) -> DeskAnswer
     ensures { (desk (step_records records.now) activation.now
-        ≡ answer_of result) × (room.new ≡ replicate words 0) }
+        ≡ answer_of result) × (room.new.words ≡ replicate words 0) }
 {
     peak(records, activation, room)
 }

@@ -7,7 +7,6 @@ ghost use Rattle.children.specs.Scratch.{first, sibling};
 ghost use Rattle.children.specs.Listing.{MayList, Listed};
 
 use crate::scratch::{CELLS, FIRST, SIBLING, get, put};
-use cells::cell;
 use words::plan::Plan;
 
 // A child goes to the front of its parent's list.
@@ -22,14 +21,14 @@ fn add_child(scratch: &mut [u32; CELLS], parent: usize, child: usize)
 }
 
 // Every task in the list of its parent, and the root in that of nobody: each list is by falling number.
-pub fn list_children(plan: &[u32; Plan::WORDS], n: usize, scratch: &mut [u32; CELLS])
-    requires { MayList n (at (contents plan.now).parents) scratch.old }
-    ensures { Listed n (at (contents plan.now).parents) scratch.new }
+pub fn list_children(plan: &Plan, n: usize, scratch: &mut [u32; CELLS])
+    requires { MayList n (at (contents plan.now.words).parents) scratch.old }
+    ensures { Listed n (at (contents plan.now.words).parents) scratch.new }
 {
     let mut i = 0;
     while i < n {
         i += 1;
-        let parent = cell(plan, i, Plan::PARENT) as usize;
+        let parent = plan.cell(i, Plan::PARENT) as usize;
         add_child(scratch, parent, i);
     }
 }

@@ -8,9 +8,9 @@ use starting::start_ready;
 use words::plan::Plan;
 
 // How many tasks it starts.
-pub(crate) fn advance(plan: &mut [u32; Plan::WORDS], starts: &mut [u16]) -> usize
-    requires { MayStart (contents plan.old) starts.old }
-    ensures { Advanced (contents plan.old) (contents plan.new) starts.old starts.new result }
+pub(crate) fn advance(plan: &mut Plan, starts: &mut [u16]) -> usize
+    requires { MayStart (contents plan.old.words) starts.old }
+    ensures { Advanced (contents plan.old.words) (contents plan.new.words) starts.old starts.new result }
 {
     book_ahead(plan);
     start_ready(plan, starts)

@@ -8,23 +8,22 @@ ghost use Rattle.day.specs.Day.{begins, MayBegin, Begun};
 
 use crate::advance::advance;
 use answer::Answer;
-use cells::{cell, set_cell};
 use ordering::complete;
 use survey::{prepare, survey};
 use words::plan::Plan;
 
 // Whether the plan waits for its BEGIN: both orders are whole, or the activation order alone is given.
-fn is_in_turn(plan: &[u32; Plan::WORDS]) -> bool
-    ensures { result ≡ begins (contents plan.now) }
+fn is_in_turn(plan: &Plan) -> bool
+    ensures { result ≡ begins (contents plan.now.words) }
 {
-    if cell(plan, Plan::HEAD, Plan::PHASE) != Plan::ORDERS {
+    if plan.cell(Plan::HEAD, Plan::PHASE) != Plan::ORDERS {
         return false;
     }
-    let size = cell(plan, Plan::HEAD, Plan::SIZE);
-    if cell(plan, Plan::HEAD, Plan::RANKED) != size {
+    let size = plan.cell(Plan::HEAD, Plan::SIZE);
+    if plan.cell(Plan::HEAD, Plan::RANKED) != size {
         return false;
     }
-    let placed = cell(plan, Plan::HEAD, Plan::PLACED);
+    let placed = plan.cell(Plan::HEAD, Plan::PLACED);
     if placed == 0 {
         return true;
     }
@@ -32,19 +31,19 @@ fn is_in_turn(plan: &[u32; Plan::WORDS]) -> bool
 }
 
 // The day begins: booking ahead and starting follow.
-fn start_day(plan: &mut [u32; Plan::WORDS], starts: &mut [u16]) -> usize
-    requires { MayBegin (contents plan.old) starts.old }
-    ensures { Begun (contents plan.old) (contents plan.new) starts.old starts.new result }
+fn start_day(plan: &mut Plan, starts: &mut [u16]) -> usize
+    requires { MayBegin (contents plan.old.words) starts.old }
+    ensures { Begun (contents plan.old.words) (contents plan.new.words) starts.old starts.new result }
 {
     prepare(plan);
     let started = advance(plan, starts);
-    set_cell(plan, Plan::HEAD, Plan::PHASE, Plan::RUNNING);
+    plan.set_cell(Plan::HEAD, Plan::PHASE, Plan::RUNNING);
     started
 }
 
-pub fn begin(plan: &mut [u32; Plan::WORDS], used: usize, starts: &mut [u16]) -> Answer
-    requires { ValidPlan plan.old × (least_starts ≤ length starts.old) }
-    ensures { Judged plan.old rules.begin used starts.old result plan.new starts.new }
+pub fn begin(plan: &mut Plan, used: usize, starts: &mut [u16]) -> Answer
+    requires { ValidPlan plan.old.words × (least_starts ≤ length starts.old) }
+    ensures { Judged plan.old.words rules.begin used starts.old result plan.new.words starts.new }
 {
     if !is_in_turn(plan) {
         return Answer::refused(3);
@@ -53,7 +52,7 @@ pub fn begin(plan: &mut [u32; Plan::WORDS], used: usize, starts: &mut [u16]) -> 
     if surveyed.number != 0 {
         return Answer::refused(surveyed.number);
     }
-    let bound = cell(plan, Plan::HEAD, Plan::CHILLED + Plan::BOUND);
+    let bound = plan.cell(Plan::HEAD, Plan::CHILLED + Plan::BOUND);
     if (bound as u64) < surveyed.peak {
         return Answer::refused(9);
     }

@@ -11,7 +11,6 @@ ghost use Rattle.day.specs.Day.{MayGoOn, WentOn, made_ready};
 
 use crate::advance::advance;
 use answer::Answer;
-use cells::{cell, set_cell};
 use dispatch::{end_root, finish};
 use measure::is_within;
 use words::plan::Plan;
@@ -24,26 +23,26 @@ pub(crate) struct Counted {
 }
 
 // The ground against a report; 0 is none.
-fn report_ground(plan: &[u32; Plan::WORDS], task: usize) -> u8
-    requires { ValidPlan plan.now }
-    ensures { result ≡ ground_for (plan_of plan.now) (rules.done task) }
+fn report_ground(plan: &Plan, task: usize) -> u8
+    requires { ValidPlan plan.now.words }
+    ensures { result ≡ ground_for (plan_of plan.now.words) (rules.done task) }
 {
-    if cell(plan, Plan::HEAD, Plan::PHASE) != Plan::RUNNING {
+    if plan.cell(Plan::HEAD, Plan::PHASE) != Plan::RUNNING {
         return 3;
     }
-    if !is_within(task, cell(plan, Plan::HEAD, Plan::SIZE) as usize) {
+    if !is_within(task, plan.cell(Plan::HEAD, Plan::SIZE) as usize) {
         return 4;
     }
-    if cell(plan, task, Plan::STANDING) != Plan::STARTED {
+    if plan.cell(task, Plan::STANDING) != Plan::STARTED {
         return 6;
     }
     0
 }
 
 // "DONE shares out, books ahead and starts": a task that has a parent.
-fn go_on(plan: &mut [u32; Plan::WORDS], task: usize, starts: &mut [u16]) -> Counted
-    requires { MayGoOn (contents plan.old) task starts.old }
-    ensures { WentOn (contents plan.old) task (contents plan.new) starts.old starts.new result.starts result.offers }
+fn go_on(plan: &mut Plan, task: usize, starts: &mut [u16]) -> Counted
+    requires { MayGoOn (contents plan.old.words) task starts.old }
+    ensures { WentOn (contents plan.old.words) task (contents plan.new.words) starts.old starts.new result.starts result.offers }
 {
     let offers = finish(plan, task);
     let started = advance(plan, starts);
@@ -54,23 +53,23 @@ fn go_on(plan: &mut [u32; Plan::WORDS], task: usize, starts: &mut [u16]) -> Coun
 }
 
 // "When the root ends, its out remains booked and in use, and the phase is a new one, ready."
-fn make_ready(plan: &mut [u32; Plan::WORDS], root: usize)
-    requires { MayEnd root (contents plan.old) }
-    ensures { contents plan.new ≡ made_ready root (contents plan.old) }
+fn make_ready(plan: &mut Plan, root: usize)
+    requires { MayEnd root (contents plan.old.words) }
+    ensures { contents plan.new.words ≡ made_ready root (contents plan.old.words) }
 {
     end_root(plan, root);
-    set_cell(plan, Plan::HEAD, Plan::PHASE, Plan::READY);
+    plan.set_cell(Plan::HEAD, Plan::PHASE, Plan::READY);
 }
 
-pub fn report(plan: &mut [u32; Plan::WORDS], task: u16, used: usize, starts: &mut [u16]) -> Answer
-    requires { ValidPlan plan.old × (least_starts ≤ length starts.old) }
-    ensures { Judged plan.old (rules.done task) used starts.old result plan.new starts.new }
+pub fn report(plan: &mut Plan, task: u16, used: usize, starts: &mut [u16]) -> Answer
+    requires { ValidPlan plan.old.words × (least_starts ≤ length starts.old) }
+    ensures { Judged plan.old.words (rules.done task) used starts.old result plan.new.words starts.new }
 {
     let ground = report_ground(plan, task as usize);
     if ground != 0 {
         return Answer::refused(ground);
     }
-    if cell(plan, task as usize, Plan::PARENT) == 0 {
+    if plan.cell(task as usize, Plan::PARENT) == 0 {
         make_ready(plan, task as usize);
         return Answer::plain(used);
     }

@@ -12,7 +12,6 @@ ghost use Rattle.words.specs.Layout.{words};
 ghost use Rattle.desk.specs.Records.{step_records, answer_of};
 ghost use Rattle.desk.specs.Columns.{column_tasks};
 
-use cells::set_cell;
 use measure::{is_within, least};
 use survey::survey;
 use words::plan::Plan;
@@ -64,9 +63,9 @@ fn answer<'a>(
     works: &'a [u16; ENTRIES],
     outs: &'a [u16; ENTRIES],
     activation: &'a [u16],
-    room: &mut [u32; Plan::WORDS],
+    room: &mut Plan,
 ) -> DeskAnswer
-    requires { room.old ≡ replicate words 0 }
+    requires { room.old.words ≡ replicate words 0 }
     ensures { desk_answer (column_tasks n parents.now works.now outs.now) activation.now
         ≡ answer_of result }
 {
@@ -82,7 +81,7 @@ fn answer<'a>(
     if !room::is_listed(n, activation) {
         return refused(4);
     }
-    set_cell(room, Plan::HEAD, Plan::SIZE, n as u32);
+    room.set_cell(Plan::HEAD, Plan::SIZE, n as u32);
     room::write_order(room, activation);
     if !room::is_distinct(room, activation) {
         return refused(5);
@@ -96,10 +95,10 @@ fn answer<'a>(
 }
 
 // The room becomes an empty plan.
-fn empty(room: &mut [u32; Plan::WORDS])
-    ensures { room.new ≡ replicate words 0 }
+fn empty(room: &mut Plan)
+    ensures { room.new.words ≡ replicate words 0 }
 {
-    *room = [0u32; Plan::WORDS];
+    *room = Plan::new();
 }
 
 // The same in any room, which is left empty.
@@ -109,9 +108,9 @@ fn assess(
     works: [u16; ENTRIES],
     outs: [u16; ENTRIES],
     activation: &[u16],
-    room: &mut [u32; Plan::WORDS],
+    room: &mut Plan,
 ) -> DeskAnswer
-    ensures { (desk_answer (column_tasks n parents works outs) activation.now ≡ answer_of result) × (room.new ≡ replicate words 0) }
+    ensures { (desk_answer (column_tasks n parents works outs) activation.now ≡ answer_of result) × (room.new.words ≡ replicate words 0) }
 {
     empty(room);
     let answered = answer(n, &parents, &works, &outs, activation, room);
@@ -122,9 +121,9 @@ fn assess(
 // "The planners' desk may ask the peak of its own list of step records, one record a step, with an
 // activation list beside it. .. Both lists are only read." The rows of a plan are laid out in the room
 // that the caller lends; whatever was there, it is left empty.
-pub fn peak(records: &[TaskRecord], activation: &[u16], room: &mut [u32; Plan::WORDS]) -> DeskAnswer
+pub fn peak(records: &[TaskRecord], activation: &[u16], room: &mut Plan) -> DeskAnswer
     ensures { (desk (step_records records.now) activation.now
-        ≡ answer_of result) × (room.new ≡ replicate words 0) }
+        ≡ answer_of result) × (room.new.words ≡ replicate words 0) }
 {
     let mut parents = [0u16; ENTRIES];
     let mut works = [0u16; ENTRIES];

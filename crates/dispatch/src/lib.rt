@@ -7,7 +7,6 @@ ghost use Rattle.dispatch.specs.Climb.{MayClimb, DidClimb};
 ghost use Rattle.dispatch.specs.Ended.{MayEnd, ended, MayFeed, Fed, root_ended};
 ghost use Rattle.dispatch.specs.Finished.{MayFinish, Finished};
 
-use cells::{cell, set_cell};
 use ready::insert;
 use store::{free, hold_alone, pass, release, rest};
 use words::plan::Plan;
@@ -23,18 +22,18 @@ pub(crate) struct Passed {
 // "Then climb from parent to parent, from j's parent on, ending at the first of: past the root, a
 // step that is waiting, R is 0." `below` is j and `units` is R. The figures still have R in them, and
 // lose it where the climb passes or stops at a waiting task.
-fn climb(plan: &mut [u32; Plan::WORDS], store: usize, below: usize, units: u32) -> Passed
-    requires { MayClimb store below units (contents plan.old) }
-    ensures { DidClimb below units (contents plan.old) (contents plan.new) result.offers result.left }
+fn climb(plan: &mut Plan, store: usize, below: usize, units: u32) -> Passed
+    requires { MayClimb store below units (contents plan.old.words) }
+    ensures { DidClimb below units (contents plan.old.words) (contents plan.new.words) result.offers result.left }
 {
-    let mut i = cell(plan, below, Plan::PARENT) as usize;
+    let mut i = plan.cell(below, Plan::PARENT) as usize;
     let mut left = units;
     let mut offers = 0;
     loop {
         if i == 0 {
             break Passed { offers, left };
         }
-        if cell(plan, i, Plan::STANDING) == Plan::WAITING {
+        if plan.cell(i, Plan::STANDING) == Plan::WAITING {
             rest(plan, store, i, left);
             break Passed { offers, left };
         }
@@ -43,45 +42,45 @@ fn climb(plan: &mut [u32; Plan::WORDS], store: usize, below: usize, units: u32) 
         }
         left = pass(plan, store, i, left);
         offers += 1;
-        i = cell(plan, i, Plan::PARENT) as usize;
+        i = plan.cell(i, Plan::PARENT) as usize;
     }
 }
 
 // The parent waits for one child fewer, and is ready where it waits for none and is booked.
-fn feed(plan: &mut [u32; Plan::WORDS], parent: usize)
-    requires { MayFeed parent (contents plan.old) }
-    ensures { Fed parent (contents plan.old) (contents plan.new) }
+fn feed(plan: &mut Plan, parent: usize)
+    requires { MayFeed parent (contents plan.old.words) }
+    ensures { Fed parent (contents plan.old.words) (contents plan.new.words) }
 {
-    let unended = cell(plan, parent, Plan::UNENDED) - 1;
-    set_cell(plan, parent, Plan::UNENDED, unended);
+    let unended = plan.cell(parent, Plan::UNENDED) - 1;
+    plan.set_cell(parent, Plan::UNENDED, unended);
     if unended == 0 {
-        if cell(plan, parent, Plan::STANDING) == Plan::ACTIVATED {
-            let place = cell(plan, parent, Plan::PLACE) as usize;
+        if plan.cell(parent, Plan::STANDING) == Plan::ACTIVATED {
+            let place = plan.cell(parent, Plan::PLACE) as usize;
             insert(plan, place);
         }
     }
 }
 
 // The task is an ended one, and one fewer runs.
-fn end(plan: &mut [u32; Plan::WORDS], task: usize)
-    requires { MayEnd task (contents plan.old) }
-    ensures { contents plan.new ≡ ended task (contents plan.old) }
+fn end(plan: &mut Plan, task: usize)
+    requires { MayEnd task (contents plan.old.words) }
+    ensures { contents plan.new.words ≡ ended task (contents plan.old.words) }
 {
-    let active = cell(plan, Plan::HEAD, Plan::ACTIVE);
-    let ended = cell(plan, Plan::HEAD, Plan::ENDED);
-    set_cell(plan, task, Plan::STANDING, Plan::FINISHED);
-    set_cell(plan, Plan::HEAD, Plan::ACTIVE, active - 1);
-    set_cell(plan, Plan::HEAD, Plan::ENDED, ended + 1);
+    let active = plan.cell(Plan::HEAD, Plan::ACTIVE);
+    let ended = plan.cell(Plan::HEAD, Plan::ENDED);
+    plan.set_cell(task, Plan::STANDING, Plan::FINISHED);
+    plan.set_cell(Plan::HEAD, Plan::ACTIVE, active - 1);
+    plan.set_cell(Plan::HEAD, Plan::ENDED, ended + 1);
 }
 
 // "When step j ends, its booked trays, call them R, are taken from it. If it has a parent, the
 // parent is given j's out, and R falls by it. .. What is left of R is free. The answer carries the
 // number of offers made."
-pub fn finish(plan: &mut [u32; Plan::WORDS], task: usize) -> usize
-    requires { MayFinish (contents plan.old) task }
-    ensures { Finished (contents plan.old) task (contents plan.new) result }
+pub fn finish(plan: &mut Plan, task: usize) -> usize
+    requires { MayFinish (contents plan.old.words) task }
+    ensures { Finished (contents plan.old.words) task (contents plan.new.words) result }
 {
-    let parent = cell(plan, task, Plan::PARENT) as usize;
+    let parent = plan.cell(task, Plan::PARENT) as usize;
     end(plan, task);
     feed(plan, parent);
     let units = release(plan, Plan::CHILLED, task);
@@ -92,11 +91,11 @@ pub fn finish(plan: &mut [u32; Plan::WORDS], task: usize) -> usize
 
 // "When the root ends, its out remains booked and in use": what else it held is free, and nobody is
 // above it to be offered anything.
-pub fn end_root(plan: &mut [u32; Plan::WORDS], task: usize)
-    requires { MayEnd task (contents plan.old) }
-    ensures { contents plan.new ≡ root_ended task (contents plan.old) }
+pub fn end_root(plan: &mut Plan, task: usize)
+    requires { MayEnd task (contents plan.old.words) }
+    ensures { contents plan.new.words ≡ root_ended task (contents plan.old.words) }
 {
     end(plan, task);
-    let out = cell(plan, task, Plan::CHILLED + Plan::OUT);
+    let out = plan.cell(task, Plan::CHILLED + Plan::OUT);
     hold_alone(plan, Plan::CHILLED, task, out);
 }

@@ -16,5 +16,5 @@ pub fn first_answer(bytes: &[u8], place: usize) -> Answer
 {
     let mut plan = Plan::new();
     let mut starts = [0u16; Plan::LEAST_STARTS];
-    command(&mut plan.words, bytes, place, &mut starts)
+    command(&mut plan, bytes, place, &mut starts)
 }

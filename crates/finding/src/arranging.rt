@@ -10,11 +10,11 @@ use children::scratch::{AFTER, CELLS, HEAD, QUEUE, get};
 use words::plan::Plan;
 
 // From the last task reached to the root.
-pub(crate) fn arrange(plan: &[u32; Plan::WORDS], scratch: &mut [u32; CELLS], n: usize)
-    requires { (n ≡ (contents plan.now).size) × MayArrange (contents plan.now).size (at (contents plan.now).parents)
-        (at (contents plan.now).stores.chilled.works) (at (contents plan.now).stores.chilled.outs) scratch.old }
-    ensures { AllArranged (contents plan.now).size (at (contents plan.now).parents)
-        (at (contents plan.now).stores.chilled.works) (at (contents plan.now).stores.chilled.outs)
+pub(crate) fn arrange(plan: &Plan, scratch: &mut [u32; CELLS], n: usize)
+    requires { (n ≡ (contents plan.now.words).size) × MayArrange (contents plan.now.words).size (at (contents plan.now.words).parents)
+        (at (contents plan.now.words).stores.chilled.works) (at (contents plan.now.words).stores.chilled.outs) scratch.old }
+    ensures { AllArranged (contents plan.now.words).size (at (contents plan.now.words).parents)
+        (at (contents plan.now.words).stores.chilled.works) (at (contents plan.now.words).stores.chilled.outs)
         scratch.old scratch.new }
 {
     let mut k = n;

@@ -12,20 +12,19 @@ ghost use Rattle.finding.specs.Finding.{AllReached, MayFind, Finds};
 use crate::arranging::{arrange, write_order};
 use crate::reaching::reach;
 use answer::Wrote;
-use cells::cell;
 use children::list_children;
 use children::scratch::{CELLS, QUEUE, get};
 use survey::roots;
 use words::plan::Plan;
 
 // Where all tasks are reached from the root: its order at the front of the list.
-fn write_found(plan: &[u32; Plan::WORDS], scratch: &mut [u32; CELLS], n: usize, list: &mut [u16])
-    requires { (n ≡ (contents plan.now).size) × AllReached (contents plan.now).size (at (contents plan.now).parents)
-        (at (contents plan.now).stores.chilled.works) (at (contents plan.now).stores.chilled.outs) scratch.old list.old }
-    ensures { list.new ≡ best_postorder (contents plan.now).size (contents plan.now).size
-        (at (contents plan.now).parents) (at (contents plan.now).stores.chilled.works)
-        (at (contents plan.now).stores.chilled.outs) (field queue scratch.old 0)
-        ++ drop (contents plan.now).size list.old }
+fn write_found(plan: &Plan, scratch: &mut [u32; CELLS], n: usize, list: &mut [u16])
+    requires { (n ≡ (contents plan.now.words).size) × AllReached (contents plan.now.words).size (at (contents plan.now.words).parents)
+        (at (contents plan.now.words).stores.chilled.works) (at (contents plan.now.words).stores.chilled.outs) scratch.old list.old }
+    ensures { list.new ≡ best_postorder (contents plan.now.words).size (contents plan.now.words).size
+        (at (contents plan.now.words).parents) (at (contents plan.now.words).stores.chilled.works)
+        (at (contents plan.now.words).stores.chilled.outs) (field queue scratch.old 0)
+        ++ drop (contents plan.now.words).size list.old }
 {
     arrange(plan, scratch, n);
     let root = get(scratch, QUEUE, 0);
@@ -34,14 +33,14 @@ fn write_found(plan: &[u32; Plan::WORDS], scratch: &mut [u32; CELLS], n: usize, 
 
 // Where one task has no parent: 12 where the chain of parents of some task never reaches it, 11 where
 // the list is too short, or the order and 0.
-fn find_rooted(plan: &[u32; Plan::WORDS], list: &mut [u16]) -> u8
-    requires { MayFind (contents plan.now).size (at (contents plan.now).parents) (at (contents plan.now).stores.chilled.works)
-        (at (contents plan.now).stores.chilled.outs) }
-    ensures { Finds (contents plan.now).size (at (contents plan.now).parents)
-        (at (contents plan.now).stores.chilled.works) (at (contents plan.now).stores.chilled.outs) list.old
+fn find_rooted(plan: &Plan, list: &mut [u16]) -> u8
+    requires { MayFind (contents plan.now.words).size (at (contents plan.now.words).parents) (at (contents plan.now.words).stores.chilled.works)
+        (at (contents plan.now.words).stores.chilled.outs) }
+    ensures { Finds (contents plan.now.words).size (at (contents plan.now.words).parents)
+        (at (contents plan.now.words).stores.chilled.works) (at (contents plan.now.words).stores.chilled.outs) list.old
         list.new result }
 {
-    let n = cell(plan, Plan::HEAD, Plan::SIZE) as usize;
+    let n = plan.cell(Plan::HEAD, Plan::SIZE) as usize;
     let mut scratch = [0u32; CELLS];
     list_children(plan, n, &mut scratch);
     if reach(plan, &mut scratch) != n {
@@ -56,14 +55,14 @@ fn find_rooted(plan: &[u32; Plan::WORDS], list: &mut [u16]) -> u8
 
 // "3 until all steps are given; then 7; then 12 if some step's chain of parents never reaches the root;
 // then 11 if the list has fewer than n entries."
-pub fn find_order(plan: &[u32; Plan::WORDS], list: &mut [u16]) -> Wrote
-    requires { ValidPlan plan.now }
-    ensures { wrote_of result list.new ≡ rules.find_order (plan_of plan.now) list.old }
+pub fn find_order(plan: &Plan, list: &mut [u16]) -> Wrote
+    requires { ValidPlan plan.now.words }
+    ensures { wrote_of result list.new ≡ rules.find_order (plan_of plan.now.words) list.old }
 {
-    if cell(plan, Plan::HEAD, Plan::PHASE) < Plan::ORDERS {
+    if plan.cell(Plan::HEAD, Plan::PHASE) < Plan::ORDERS {
         return Wrote::refused(3);
     }
-    let n = cell(plan, Plan::HEAD, Plan::SIZE) as usize;
+    let n = plan.cell(Plan::HEAD, Plan::SIZE) as usize;
     if roots(plan, n) != 1 {
         return Wrote::refused(7);
     }

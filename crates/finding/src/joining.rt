@@ -7,7 +7,6 @@ ghost use Rattle.children.specs.Linked.{Linked};
 ghost use Rattle.finding.specs.Joining.{peak_along, MayWeigh, Joined};
 ghost use Rattle.finding.specs.Arranging.{MayJoin, HasJoined};
 
-use cells::cell;
 use children::scratch::{AFTER, CELLS, FIRST, HEAD, SIBLING, SUBTREE_PEAK, get, put};
 use children::sort_children;
 use words::plan::Plan;
@@ -20,9 +19,9 @@ fn larger(a: usize, b: usize) -> usize
 }
 
 // The peak of a subtree: each child's order begins at the level that those before it leave.
-fn subtree_peak(plan: &[u32; Plan::WORDS], scratch: &[u32; CELLS], task: usize) -> usize
-    requires { MayWeigh (at (contents plan.now).stores.chilled.works) (at (contents plan.now).stores.chilled.outs) scratch.now task }
-    ensures { result ≡ peak_along (at (contents plan.now).stores.chilled.works) (at (contents plan.now).stores.chilled.outs)
+fn subtree_peak(plan: &Plan, scratch: &[u32; CELLS], task: usize) -> usize
+    requires { MayWeigh (at (contents plan.now.words).stores.chilled.works) (at (contents plan.now.words).stores.chilled.outs) scratch.now task }
+    ensures { result ≡ peak_along (at (contents plan.now.words).stores.chilled.works) (at (contents plan.now.words).stores.chilled.outs)
         scratch.now task }
 {
     let mut best = 0;
@@ -30,11 +29,11 @@ fn subtree_peak(plan: &[u32; Plan::WORDS], scratch: &[u32; CELLS], task: usize) 
     let mut child = get(scratch, FIRST, task);
     while child != 0 {
         best = larger(best, level + get(scratch, SUBTREE_PEAK, child));
-        level += cell(plan, child, Plan::CHILLED + Plan::OUT) as usize;
+        level += plan.cell(child, Plan::CHILLED + Plan::OUT) as usize;
         child = get(scratch, SIBLING, child);
     }
-    let work = cell(plan, task, Plan::CHILLED + Plan::WORK) as usize;
-    let out = cell(plan, task, Plan::CHILLED + Plan::OUT) as usize;
+    let work = plan.cell(task, Plan::CHILLED + Plan::WORK) as usize;
+    let out = plan.cell(task, Plan::CHILLED + Plan::OUT) as usize;
     larger(best, level + work + out)
 }
 
@@ -58,11 +57,11 @@ fn link_orders(scratch: &mut [u32; CELLS], task: usize)
 }
 
 // A task's turn, where its children have had theirs: the order and the peak of its subtree.
-pub(crate) fn join(plan: &[u32; Plan::WORDS], scratch: &mut [u32; CELLS], task: usize)
-    requires { MayJoin (contents plan.now).size (at (contents plan.now).parents) (at (contents plan.now).stores.chilled.works)
-        (at (contents plan.now).stores.chilled.outs) task scratch.old }
-    ensures { HasJoined (contents plan.now).size (at (contents plan.now).parents)
-        (at (contents plan.now).stores.chilled.works) (at (contents plan.now).stores.chilled.outs) task
+pub(crate) fn join(plan: &Plan, scratch: &mut [u32; CELLS], task: usize)
+    requires { MayJoin (contents plan.now.words).size (at (contents plan.now.words).parents) (at (contents plan.now.words).stores.chilled.works)
+        (at (contents plan.now.words).stores.chilled.outs) task scratch.old }
+    ensures { HasJoined (contents plan.now.words).size (at (contents plan.now.words).parents)
+        (at (contents plan.now.words).stores.chilled.works) (at (contents plan.now.words).stores.chilled.outs) task
         scratch.old scratch.new }
 {
     sort_children(plan, scratch, task);

@@ -23,9 +23,9 @@ fn reach_children(scratch: &mut [u32; CELLS], task: usize, count: usize) -> usiz
 
 // From the root on, the children of each task that is reached. How many are reached is answered. The
 // contract names the plan's parents; the code goes by the lists of children.
-pub(crate) fn reach(plan: &[u32; Plan::WORDS], scratch: &mut [u32; CELLS]) -> usize
-    requires { MayReach (contents plan.now).size (at (contents plan.now).parents) scratch.old }
-    ensures { Reached (contents plan.now).size (at (contents plan.now).parents) scratch.old
+pub(crate) fn reach(plan: &Plan, scratch: &mut [u32; CELLS]) -> usize
+    requires { MayReach (contents plan.now.words).size (at (contents plan.now.words).parents) scratch.old }
+    ensures { Reached (contents plan.now.words).size (at (contents plan.now.words).parents) scratch.old
         scratch.new result }
 {
     let root = get(scratch, FIRST, 0);

@@ -8,26 +8,25 @@ ghost use Rattle.opening.specs.Cleared.{MayClear, Cleared, MayEmpty, Emptied};
 ghost use Rattle.answer.specs.ValidPlan.{ValidPlan, Obeyed};
 
 use answer::Answer;
-use cells::{cell, set_cell};
 use measure::is_within;
 use words::plan::Plan;
 
 // Sets the words from one to another to 0.
-fn clear(plan: &mut [u32; Plan::WORDS], from: usize, to: usize)
-    requires { MayClear from to plan.old }
-    ensures { Cleared from to plan.old plan.new }
+fn clear(plan: &mut Plan, from: usize, to: usize)
+    requires { MayClear from to plan.old.words }
+    ensures { Cleared from to plan.old.words plan.new.words }
 {
     let mut q = from;
     while q < to {
-        plan[q] = 0;
+        plan.words[q] = 0;
         q += 1;
     }
 }
 
 // Clears what the old plan has used: the rows of its tasks, the head and the ready set.
-fn empty(plan: &mut [u32; Plan::WORDS], tasks: usize)
-    requires { MayEmpty tasks plan.old }
-    ensures { Emptied tasks plan.old plan.new }
+fn empty(plan: &mut Plan, tasks: usize)
+    requires { MayEmpty tasks plan.old.words }
+    ensures { Emptied tasks plan.old.words plan.new.words }
 {
     clear(plan, 0, Plan::ROW * (tasks + 1));
     clear(plan, Plan::ROW * Plan::HEAD, Plan::ACTIVATION);
@@ -36,16 +35,16 @@ fn empty(plan: &mut [u32; Plan::WORDS], tasks: usize)
 
 // "PLAN: drop the old plan, open a new one"
 pub fn open(
-    plan: &mut [u32; Plan::WORDS],
+    plan: &mut Plan,
     n: u16,
     processors: u8,
     bound: u32,
     used: usize,
 ) -> Answer
-    requires { ValidPlan plan.old }
-    ensures { Obeyed plan.old (rules.plan n processors bound) used result plan.new }
+    requires { ValidPlan plan.old.words }
+    ensures { Obeyed plan.old.words (rules.plan n processors bound) used result plan.new.words }
 {
-    if Plan::holds_trays(cell(plan, Plan::HEAD, Plan::PHASE)) {
+    if Plan::holds_trays(plan.cell(Plan::HEAD, Plan::PHASE)) {
         return Answer::refused(3);
     }
     if !is_within(n as usize, Plan::MAX_TASKS) {
@@ -54,13 +53,13 @@ pub fn open(
     if !is_within(processors as usize, Plan::MAX_PROCESSORS) {
         return Answer::refused(4);
     }
-    let tasks = cell(plan, Plan::HEAD, Plan::SIZE) as usize;
+    let tasks = plan.cell(Plan::HEAD, Plan::SIZE) as usize;
     empty(plan, tasks);
-    set_cell(plan, Plan::HEAD, Plan::PHASE, Plan::STEPS);
-    set_cell(plan, Plan::HEAD, Plan::SIZE, n as u32);
-    set_cell(plan, Plan::HEAD, Plan::PROCESSORS, processors as u32);
-    set_cell(plan, Plan::HEAD, Plan::GIVEN, 1);
-    set_cell(plan, Plan::HEAD, Plan::CHILLED + Plan::BOUND, bound);
+    plan.set_cell(Plan::HEAD, Plan::PHASE, Plan::STEPS);
+    plan.set_cell(Plan::HEAD, Plan::SIZE, n as u32);
+    plan.set_cell(Plan::HEAD, Plan::PROCESSORS, processors as u32);
+    plan.set_cell(Plan::HEAD, Plan::GIVEN, 1);
+    plan.set_cell(Plan::HEAD, Plan::CHILLED + Plan::BOUND, bound);
     Answer::plain(used)
 }
 
@@ -77,28 +76,28 @@ fn phase_after(given: u32, size: u32) -> u32
 
 // "STEP: the next step; the first is step 1"
 pub fn add_task(
-    plan: &mut [u32; Plan::WORDS],
+    plan: &mut Plan,
     parent: u16,
     work: u16,
     out: u16,
     used: usize,
 ) -> Answer
-    requires { ValidPlan plan.old }
-    ensures { Obeyed plan.old (rules.task parent work out) used result plan.new }
+    requires { ValidPlan plan.old.words }
+    ensures { Obeyed plan.old.words (rules.task parent work out) used result plan.new.words }
 {
-    if cell(plan, Plan::HEAD, Plan::PHASE) != Plan::STEPS {
+    if plan.cell(Plan::HEAD, Plan::PHASE) != Plan::STEPS {
         return Answer::refused(3);
     }
-    let size = cell(plan, Plan::HEAD, Plan::SIZE);
+    let size = plan.cell(Plan::HEAD, Plan::SIZE);
     if size < parent as u32 {
         return Answer::refused(4);
     }
-    let given = cell(plan, Plan::HEAD, Plan::GIVEN);
+    let given = plan.cell(Plan::HEAD, Plan::GIVEN);
     let task = given as usize;
-    set_cell(plan, task, Plan::PARENT, parent as u32);
-    set_cell(plan, task, Plan::CHILLED + Plan::WORK, work as u32);
-    set_cell(plan, task, Plan::CHILLED + Plan::OUT, out as u32);
-    set_cell(plan, Plan::HEAD, Plan::GIVEN, given + 1);
-    set_cell(plan, Plan::HEAD, Plan::PHASE, phase_after(given, size));
+    plan.set_cell(task, Plan::PARENT, parent as u32);
+    plan.set_cell(task, Plan::CHILLED + Plan::WORK, work as u32);
+    plan.set_cell(task, Plan::CHILLED + Plan::OUT, out as u32);
+    plan.set_cell(Plan::HEAD, Plan::GIVEN, given + 1);
+    plan.set_cell(Plan::HEAD, Plan::PHASE, phase_after(given, size));
     Answer::plain(used)
 }

@@ -15,9 +15,9 @@ use ordering::{place, rank};
 use words::plan::Plan;
 
 // The answer to what was decoded.
-fn obey(plan: &mut [u32; Plan::WORDS], asked: Decoded, starts: &mut [u16]) -> Answer
-    requires { ValidPlan plan.old × (least_starts ≤ length starts.old) }
-    ensures { Responded plan.old (decoded asked) starts.old result plan.new starts.new }
+fn obey(plan: &mut Plan, asked: Decoded, starts: &mut [u16]) -> Answer
+    requires { ValidPlan plan.old.words × (least_starts ≤ length starts.old) }
+    ensures { Responded plan.old.words (decoded asked) starts.old result plan.new.words starts.new }
 {
     match asked {
         Decoded::Refused(number) => Answer::refused(number),
@@ -37,13 +37,13 @@ fn obey(plan: &mut [u32; Plan::WORDS], asked: Decoded, starts: &mut [u16]) -> An
 // The answer to the command at a place of a stream; the plan is changed where it stands, and the
 // tasks that it starts stand at the front of the start list.
 pub fn command(
-    plan: &mut [u32; Plan::WORDS],
+    plan: &mut Plan,
     stream: &[u8],
     place: usize,
     starts: &mut [u16],
 ) -> Answer
-    requires { ValidPlan plan.old }
-    ensures { Commanded plan.old (record { stream = stream.now; place = place; list = starts.old }) result plan.new starts.new }
+    requires { ValidPlan plan.old.words }
+    ensures { Commanded plan.old.words (record { stream = stream.now; place = place; list = starts.old }) result plan.new.words starts.new }
 {
     if starts.len() < Plan::LEAST_STARTS {
         return Answer::refused(10);

@@ -15,15 +15,15 @@ use words::plan::Plan;
 // It is put to the front of the buffer: a line of BEGIN, DONE, FETCH or 08, and nothing for the others.
 // The figures are those of the plan that the command leaves.
 pub(crate) fn accepted_line(
-    plan: &[u32; Plan::WORDS],
+    plan: &Plan,
     asked: Decoded,
     answer: Answer,
     starts: &[u16],
     buffer: &mut [u8],
 ) -> usize
-    requires { ValidPlan plan.now }
+    requires { ValidPlan plan.now.words }
     ensures { Line
-        (accepted_line (decoded asked) (answered_of answer (contents plan.now) starts.now))
+        (accepted_line (decoded asked) (answered_of answer (contents plan.now.words) starts.now))
         answer.starts buffer.old buffer.new result }
 {
     match asked {

@@ -65,7 +65,7 @@ fn is_awaited(is_last: bool, asked: Decoded) -> bool
 // front of the buffer. That place is `offset` bytes from the start of the input; `is_last` says that
 // the input ends with this part.
 pub fn turn(
-    plan: &mut [u32; Plan::WORDS],
+    plan: &mut Plan,
     part: &[u8],
     place: usize,
     offset: u64,
@@ -73,10 +73,10 @@ pub fn turn(
     starts: &mut [u16],
     buffer: &mut [u8],
 ) -> Turned
-    requires { ValidPlan plan.old }
-    ensures { Taken plan.old
-        (rules.turn (plan_of plan.old) (record { stream = part.now; place = place; list = starts.old }) offset is_last)
-        buffer.old result plan.new starts.new buffer.new }
+    requires { ValidPlan plan.old.words }
+    ensures { Taken plan.old.words
+        (rules.turn (plan_of plan.old.words) (record { stream = part.now; place = place; list = starts.old }) offset is_last)
+        buffer.old result plan.new.words starts.new buffer.new }
 {
     let asked = decode(part, place);
     if is_awaited(is_last, asked) {

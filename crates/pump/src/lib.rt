@@ -48,7 +48,7 @@ pub fn print_day<R: Read, W: Write>(input: &mut R, output: &mut W) -> Result<(),
     let mut plan = Plan::new();
     let mut position = Position::start();
     loop {
-        let stepped = step(&mut plan.words, &bytes, position, &mut starts, &mut lines);
+        let stepped = step(&mut plan, &bytes, position, &mut starts, &mut lines);
         put_out(output, &lines[..stepped.written])?;
         let is_over = stepped.verdict == Turned::STOPS;
         if is_over {

@@ -8,7 +8,6 @@ ghost use Rattle.rules.specs.Question as rules;
 ghost use Rattle.answer.specs.Meaning.{plan_of};
 ghost use Rattle.answer.specs.ValidPlan.{ValidPlan};
 
-use cells::cell;
 use words::plan::Plan;
 
 // A figure of the cold room, 0 where no trays of the plan lie in it.
@@ -22,51 +21,51 @@ fn while_held(phase: u32, figure: u32) -> u32
 }
 
 // "Phases: empty, steps, orders, running, over", and ready
-pub fn phase(plan: &[u32; Plan::WORDS]) -> u32
-    ensures { result ≡ (plan_of plan.now).phase }
+pub fn phase(plan: &Plan) -> u32
+    ensures { result ≡ (plan_of plan.now.words).phase }
 {
-    cell(plan, Plan::HEAD, Plan::PHASE)
+    plan.cell(Plan::HEAD, Plan::PHASE)
 }
 
 // "Booked trays, trays in use and fullness can be asked of the plan at any time, and are 0 outside
 // running"; they "are answered in ready as in running".
-pub fn booked(plan: &[u32; Plan::WORDS]) -> u32
-    requires { ValidPlan plan.now }
-    ensures { result ≡ rules.booked (plan_of plan.now) }
+pub fn booked(plan: &Plan) -> u32
+    requires { ValidPlan plan.now.words }
+    ensures { result ≡ rules.booked (plan_of plan.now.words) }
 {
-    let total = cell(plan, Plan::HEAD, Plan::CHILLED + Plan::TOTAL);
+    let total = plan.cell(Plan::HEAD, Plan::CHILLED + Plan::TOTAL);
     while_held(phase(plan), total)
 }
 
-pub fn in_use(plan: &[u32; Plan::WORDS]) -> u32
-    requires { ValidPlan plan.now }
-    ensures { result ≡ rules.in_use (plan_of plan.now) }
+pub fn in_use(plan: &Plan) -> u32
+    requires { ValidPlan plan.now.words }
+    ensures { result ≡ rules.in_use (plan_of plan.now.words) }
 {
-    let used = cell(plan, Plan::HEAD, Plan::CHILLED + Plan::USED);
+    let used = plan.cell(Plan::HEAD, Plan::CHILLED + Plan::USED);
     while_held(phase(plan), used)
 }
 
 // In thousandths of the memory bound.
-pub fn fullness(plan: &[u32; Plan::WORDS]) -> u32
-    requires { ValidPlan plan.now }
-    ensures { result ≡ rules.fullness (plan_of plan.now) }
+pub fn fullness(plan: &Plan) -> u32
+    requires { ValidPlan plan.now.words }
+    ensures { result ≡ rules.fullness (plan_of plan.now.words) }
 {
-    let bound = cell(plan, Plan::HEAD, Plan::CHILLED + Plan::BOUND);
+    let bound = plan.cell(Plan::HEAD, Plan::CHILLED + Plan::BOUND);
     while_held(phase(plan), measure::fullness(booked(plan), bound))
 }
 
 // "four counts, waiting, booked, running, ended; four zeros outside running and over"; "ready shows
 // the same standing as over"
-pub fn standing(plan: &[u32; Plan::WORDS]) -> [u32; 4]
-    requires { ValidPlan plan.now }
-    ensures { result ≡ rules.standing (plan_of plan.now) }
+pub fn standing(plan: &Plan) -> [u32; 4]
+    requires { ValidPlan plan.now.words }
+    ensures { result ≡ rules.standing (plan_of plan.now.words) }
 {
     if phase(plan) < Plan::RUNNING {
         return [0, 0, 0, 0];
     }
-    let size = cell(plan, Plan::HEAD, Plan::SIZE);
-    let next = cell(plan, Plan::HEAD, Plan::NEXT);
-    let active = cell(plan, Plan::HEAD, Plan::ACTIVE);
-    let ended = cell(plan, Plan::HEAD, Plan::ENDED);
+    let size = plan.cell(Plan::HEAD, Plan::SIZE);
+    let next = plan.cell(Plan::HEAD, Plan::NEXT);
+    let active = plan.cell(Plan::HEAD, Plan::ACTIVE);
+    let ended = plan.cell(Plan::HEAD, Plan::ENDED);
     [size - next, next - active - ended, active, ended]
 }

@@ -8,7 +8,6 @@ ghost use Rattle.words.specs.Layout.{bits};
 ghost use Rattle.words.specs.Contents.{contents};
 ghost use Rattle.words.specs.Marks.{MayChange, Changed, FirstMarked, Marked};
 
-use cells::{entry, set_entry};
 use words::plan::Plan;
 
 // The word with one bit.
@@ -27,44 +26,44 @@ fn lowest(word: u32) -> usize
 }
 
 // Adds a place that is not in the set.
-pub fn insert(plan: &mut [u32; Plan::WORDS], place: usize)
-    requires { MayChange place false (contents plan.old) }
-    ensures { Changed place true (contents plan.old) (contents plan.new) }
+pub fn insert(plan: &mut Plan, place: usize)
+    requires { MayChange place false (contents plan.old.words) }
+    ensures { Changed place true (contents plan.old.words) (contents plan.new.words) }
 {
     let block = place / Plan::BITS;
-    let word = entry(plan, Plan::READY_SET, block);
-    set_entry(plan, Plan::READY_SET, block, word + bit(place % Plan::BITS));
+    let word = plan.entry(Plan::READY_SET, block);
+    plan.set_entry(Plan::READY_SET, block, word + bit(place % Plan::BITS));
     if word == 0 {
-        let filled = entry(plan, Plan::FILLED, 0);
-        set_entry(plan, Plan::FILLED, 0, filled + bit(block));
+        let filled = plan.entry(Plan::FILLED, 0);
+        plan.set_entry(Plan::FILLED, 0, filled + bit(block));
     }
 }
 
 // Takes a place from the set.
-pub fn remove(plan: &mut [u32; Plan::WORDS], place: usize)
-    requires { MayChange place true (contents plan.old) }
-    ensures { Changed place false (contents plan.old) (contents plan.new) }
+pub fn remove(plan: &mut Plan, place: usize)
+    requires { MayChange place true (contents plan.old.words) }
+    ensures { Changed place false (contents plan.old.words) (contents plan.new.words) }
 {
     let block = place / Plan::BITS;
-    let word = entry(plan, Plan::READY_SET, block);
+    let word = plan.entry(Plan::READY_SET, block);
     let rest = word - bit(place % Plan::BITS);
-    set_entry(plan, Plan::READY_SET, block, rest);
+    plan.set_entry(Plan::READY_SET, block, rest);
     if rest == 0 {
-        let filled = entry(plan, Plan::FILLED, 0);
-        set_entry(plan, Plan::FILLED, 0, filled - bit(block));
+        let filled = plan.entry(Plan::FILLED, 0);
+        plan.set_entry(Plan::FILLED, 0, filled - bit(block));
     }
 }
 
 // The first place of the set, or `none` where it is empty.
-pub fn first_ready(plan: &[u32; Plan::WORDS], none: usize) -> usize
-    requires { Marked (contents plan.now) }
-    ensures { FirstMarked none (contents plan.now) result }
+pub fn first_ready(plan: &Plan, none: usize) -> usize
+    requires { Marked (contents plan.now.words) }
+    ensures { FirstMarked none (contents plan.now.words) result }
 {
-    let filled = entry(plan, Plan::FILLED, 0);
+    let filled = plan.entry(Plan::FILLED, 0);
     if filled == 0 {
         return none;
     }
     let block = lowest(filled);
-    let word = entry(plan, Plan::READY_SET, block);
+    let word = plan.entry(Plan::READY_SET, block);
     Plan::BITS * block + lowest(word)
 }

@@ -13,7 +13,6 @@ ghost use Rattle.answer.specs.ValidPlan.{ValidPlan};
 ghost use Rattle.reason.specs.Meaning.{reason_of};
 ghost use Rattle.reason.specs.Asked.{AskedWaiting, Asked};
 
-use cells::{cell, entry};
 use measure::is_within;
 use store::{missing, shortage};
 use words::plan::Plan;
@@ -33,22 +32,22 @@ pub enum Reason {
 }
 
 // Whether a task is a child of another and has not ended.
-fn is_unended_child(plan: &[u32; Plan::WORDS], task: usize, child: usize) -> bool
+fn is_unended_child(plan: &Plan, task: usize, child: usize) -> bool
     requires { child ≤ max_tasks }
-    ensures { result ≡ is_unended_child (at (contents plan.now).parents) (at (contents plan.now).standings) task child }
+    ensures { result ≡ is_unended_child (at (contents plan.now.words).parents) (at (contents plan.now.words).standings) task child }
 {
-    if cell(plan, child, Plan::PARENT) as usize != task {
+    if plan.cell(child, Plan::PARENT) as usize != task {
         return false;
     }
-    cell(plan, child, Plan::STANDING) != Plan::FINISHED
+    plan.cell(child, Plan::STANDING) != Plan::FINISHED
 }
 
 // "the lowest-numbered unended child", 0 where all have ended.
-fn unended_child(plan: &[u32; Plan::WORDS], task: usize) -> u16
-    requires { (contents plan.now).size ≤ max_tasks }
-    ensures { result ≡ lowest_to (is_unended_child (at (contents plan.now).parents) (at (contents plan.now).standings) task) (contents plan.now).size }
+fn unended_child(plan: &Plan, task: usize) -> u16
+    requires { (contents plan.now.words).size ≤ max_tasks }
+    ensures { result ≡ lowest_to (is_unended_child (at (contents plan.now.words).parents) (at (contents plan.now.words).standings) task) (contents plan.now.words).size }
 {
-    let n = cell(plan, Plan::HEAD, Plan::SIZE) as usize;
+    let n = plan.cell(Plan::HEAD, Plan::SIZE) as usize;
     let mut child = 0;
     while child < n {
         child += 1;
@@ -61,24 +60,24 @@ fn unended_child(plan: &[u32; Plan::WORDS], task: usize) -> u16
 
 // "not booked, with the first waiting step in the activation order and the number of trays that step
 // lacks"
-fn not_booked(plan: &[u32; Plan::WORDS]) -> Reason
-    requires { AskedWaiting plan.now }
-    ensures { reason_of result ≡ rules.not_booked (rules.first_waiting (plan_of plan.now))
-        (rules.lacks (plan_of plan.now) (rules.first_waiting (plan_of plan.now))) }
+fn not_booked(plan: &Plan) -> Reason
+    requires { AskedWaiting plan.now.words }
+    ensures { reason_of result ≡ rules.not_booked (rules.first_waiting (plan_of plan.now.words))
+        (rules.lacks (plan_of plan.now.words) (rules.first_waiting (plan_of plan.now.words))) }
 {
-    let next = cell(plan, Plan::HEAD, Plan::NEXT) as usize;
-    let first = entry(plan, Plan::ACTIVATION, next) as u16;
+    let next = plan.cell(Plan::HEAD, Plan::NEXT) as usize;
+    let first = plan.entry(Plan::ACTIVATION, next) as u16;
     let units = missing(plan, Plan::CHILLED, first as usize);
     let lack = shortage(plan, Plan::CHILLED, units);
     Reason::NotBooked { first, lack }
 }
 
 // "the first that is true"
-fn first_true(plan: &[u32; Plan::WORDS], task: usize) -> Reason
-    requires { Asked plan.now task }
-    ensures { reason_of result ≡ rules.why (plan_of plan.now) task }
+fn first_true(plan: &Plan, task: usize) -> Reason
+    requires { Asked plan.now.words task }
+    ensures { reason_of result ≡ rules.why (plan_of plan.now.words) task }
 {
-    let standing = cell(plan, task, Plan::STANDING);
+    let standing = plan.cell(task, Plan::STANDING);
     if standing == Plan::FINISHED {
         return Reason::Ended;
     }
@@ -88,22 +87,22 @@ fn first_true(plan: &[u32; Plan::WORDS], task: usize) -> Reason
     if standing == Plan::WAITING {
         return not_booked(plan);
     }
-    if cell(plan, task, Plan::UNENDED) != 0 {
+    if plan.cell(task, Plan::UNENDED) != 0 {
         return Reason::Unfed(unended_child(plan, task));
     }
     Reason::NoProcessor
 }
 
 // "3 outside running, then 4 for the step"
-pub fn why(plan: &[u32; Plan::WORDS], task: u16) -> Reason
-    requires { ValidPlan plan.now }
-    ensures { reason_of result ≡ rules.why (plan_of plan.now) task }
+pub fn why(plan: &Plan, task: u16) -> Reason
+    requires { ValidPlan plan.now.words }
+    ensures { reason_of result ≡ rules.why (plan_of plan.now.words) task }
 {
-    if cell(plan, Plan::HEAD, Plan::PHASE) != Plan::RUNNING {
+    if plan.cell(Plan::HEAD, Plan::PHASE) != Plan::RUNNING {
         return Reason::Refused(3);
     }
     let task = task as usize;
-    if !is_within(task, cell(plan, Plan::HEAD, Plan::SIZE) as usize) {
+    if !is_within(task, plan.cell(Plan::HEAD, Plan::SIZE) as usize) {
         return Reason::Refused(4);
     }
     first_true(plan, task)

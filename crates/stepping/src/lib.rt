@@ -26,17 +26,17 @@ pub struct Stepped {
 // left than the longest line has bytes. The lines stand at the front of the buffer, one behind the
 // other.
 pub fn step(
-    plan: &mut [u32; Plan::WORDS],
+    plan: &mut Plan,
     input: &[u8],
     position: Position,
     starts: &mut [u16],
     output: &mut [u8],
 ) -> Stepped
-    requires { ValidPlan plan.old × Stands position (length input.now) }
+    requires { ValidPlan plan.old.words × Stands position (length input.now) }
     ensures { Step position
-        (rules.step (plan_of plan.old) (take position.filled input.now) starts.old
+        (rules.step (plan_of plan.old.words) (take position.filled input.now) starts.old
         (length output.old) (position_of position))
-        output.old result plan.new starts.new output.new }
+        output.old result plan.new.words starts.new output.new }
 {
     let filled = position.filled();
     let mut position = position;

@@ -7,7 +7,6 @@ ghost use Rattle.words.specs.Layout.{words};
 ghost use Rattle.words.specs.Contents.{contents};
 ghost use Rattle.store.specs.Store as stores;
 
-use cells::{cell, set_cell};
 use words::plan::Plan;
 
 // One number less another, never below 0.
@@ -18,131 +17,131 @@ fn less(from: u32, taken: u32) -> u32
 }
 
 // "its need less (its own booked trays plus the subtree figures of its children), never below 0"
-pub fn missing(plan: &[u32; Plan::WORDS], store: usize, task: usize) -> u32
-    requires { stores.AtTask store task (contents plan.now) }
-    ensures { result ≡ at (stores.store_at store (contents plan.now)).needs task - at (stores.store_at store (contents plan.now)).figures task }
+pub fn missing(plan: &Plan, store: usize, task: usize) -> u32
+    requires { stores.AtTask store task (contents plan.now.words) }
+    ensures { result ≡ at (stores.store_at store (contents plan.now.words)).needs task - at (stores.store_at store (contents plan.now.words)).figures task }
 {
     less(
-        cell(plan, task, store + Plan::NEED),
-        cell(plan, task, store + Plan::FIGURE),
+        plan.cell(task, store + Plan::NEED),
+        plan.cell(task, store + Plan::FIGURE),
     )
 }
 
 // "If B + missing is at most M": what is booked is within the bound, so that the difference says it.
-pub fn has_room(plan: &[u32; Plan::WORDS], store: usize, units: u32) -> bool
-    requires { stores.AtStore store × ((stores.store_at store (contents plan.now)).total ≤ (stores.store_at store (contents plan.now)).bound) }
-    ensures { result ≡ leb ((stores.store_at store (contents plan.now)).total + units) (stores.store_at store (contents plan.now)).bound }
+pub fn has_room(plan: &Plan, store: usize, units: u32) -> bool
+    requires { stores.AtStore store × ((stores.store_at store (contents plan.now.words)).total ≤ (stores.store_at store (contents plan.now.words)).bound) }
+    ensures { result ≡ leb ((stores.store_at store (contents plan.now.words)).total + units) (stores.store_at store (contents plan.now.words)).bound }
 {
-    let bound = cell(plan, Plan::HEAD, store + Plan::BOUND);
-    let total = cell(plan, Plan::HEAD, store + Plan::TOTAL);
+    let bound = plan.cell(Plan::HEAD, store + Plan::BOUND);
+    let total = plan.cell(Plan::HEAD, store + Plan::TOTAL);
     units <= bound - total
 }
 
 // "the number of trays that step lacks": what B + missing has above M.
-pub fn shortage(plan: &[u32; Plan::WORDS], store: usize, units: u32) -> u32
-    requires { stores.AtStore store × ((stores.store_at store (contents plan.now)).total ≤ (stores.store_at store (contents plan.now)).bound) }
-    ensures { result ≡ (stores.store_at store (contents plan.now)).total + units - (stores.store_at store (contents plan.now)).bound }
+pub fn shortage(plan: &Plan, store: usize, units: u32) -> u32
+    requires { stores.AtStore store × ((stores.store_at store (contents plan.now.words)).total ≤ (stores.store_at store (contents plan.now.words)).bound) }
+    ensures { result ≡ (stores.store_at store (contents plan.now.words)).total + units - (stores.store_at store (contents plan.now.words)).bound }
 {
-    let bound = cell(plan, Plan::HEAD, store + Plan::BOUND);
-    let total = cell(plan, Plan::HEAD, store + Plan::TOTAL);
+    let bound = plan.cell(Plan::HEAD, store + Plan::BOUND);
+    let total = plan.cell(Plan::HEAD, store + Plan::TOTAL);
     less(units, bound - total)
 }
 
 // An entry grows, where there is a task to have it.
-fn grow(plan: &mut [u32; Plan::WORDS], task: usize, column: usize, more: u32)
-    requires { stores.MayGrow task column more plan.old }
-    ensures { stores.Grown task column more plan.old plan.new }
+fn grow(plan: &mut Plan, task: usize, column: usize, more: u32)
+    requires { stores.MayGrow task column more plan.old.words }
+    ensures { stores.Grown task column more plan.old.words plan.new.words }
 {
     if task != 0 {
-        let old = cell(plan, task, column);
-        set_cell(plan, task, column, old + more);
+        let old = plan.cell(task, column);
+        plan.set_cell(task, column, old + more);
     }
 }
 
 // "it gets them": what a task misses, with its figure and its parent's.
-pub fn grant(plan: &mut [u32; Plan::WORDS], store: usize, task: usize, units: u32)
-    requires { stores.MayGrant store task units (contents plan.old) }
-    ensures { contents plan.new ≡ stores.with_store_at store (stores.granted (at (contents plan.old).parents task) task units) (contents plan.old) }
+pub fn grant(plan: &mut Plan, store: usize, task: usize, units: u32)
+    requires { stores.MayGrant store task units (contents plan.old.words) }
+    ensures { contents plan.new.words ≡ stores.with_store_at store (stores.granted (at (contents plan.old.words).parents task) task units) (contents plan.old.words) }
 {
-    let parent = cell(plan, task, Plan::PARENT) as usize;
-    let total = cell(plan, Plan::HEAD, store + Plan::TOTAL);
-    let booked = cell(plan, task, store + Plan::BOOKED);
-    let figure = cell(plan, task, store + Plan::FIGURE) + units;
-    set_cell(plan, Plan::HEAD, store + Plan::TOTAL, total + units);
-    set_cell(plan, task, store + Plan::BOOKED, booked + units);
-    set_cell(plan, task, store + Plan::FIGURE, figure);
+    let parent = plan.cell(task, Plan::PARENT) as usize;
+    let total = plan.cell(Plan::HEAD, store + Plan::TOTAL);
+    let booked = plan.cell(task, store + Plan::BOOKED);
+    let figure = plan.cell(task, store + Plan::FIGURE) + units;
+    plan.set_cell(Plan::HEAD, store + Plan::TOTAL, total + units);
+    plan.set_cell(task, store + Plan::BOOKED, booked + units);
+    plan.set_cell(task, store + Plan::FIGURE, figure);
     grow(plan, parent, store + Plan::FIGURE, figure);
 }
 
 // What a task brings into use as it starts.
-pub fn load(plan: &mut [u32; Plan::WORDS], store: usize, task: usize)
-    requires { stores.AtTask store task (contents plan.old) × ((stores.store_at store (contents plan.old)).used + (at (stores.store_at store (contents plan.old)).works task + at (stores.store_at store (contents plan.old)).outs task) < 2 ^ 32) }
-    ensures { contents plan.new ≡ stores.with_store_at store (stores.loaded task) (contents plan.old) }
+pub fn load(plan: &mut Plan, store: usize, task: usize)
+    requires { stores.AtTask store task (contents plan.old.words) × ((stores.store_at store (contents plan.old.words)).used + (at (stores.store_at store (contents plan.old.words)).works task + at (stores.store_at store (contents plan.old.words)).outs task) < 2 ^ 32) }
+    ensures { contents plan.new.words ≡ stores.with_store_at store (stores.loaded task) (contents plan.old.words) }
 {
-    let work = cell(plan, task, store + Plan::WORK);
-    let out = cell(plan, task, store + Plan::OUT);
-    let used = cell(plan, Plan::HEAD, store + Plan::USED);
-    set_cell(plan, Plan::HEAD, store + Plan::USED, used + (work + out));
+    let work = plan.cell(task, store + Plan::WORK);
+    let out = plan.cell(task, store + Plan::OUT);
+    let used = plan.cell(Plan::HEAD, store + Plan::USED);
+    plan.set_cell(Plan::HEAD, store + Plan::USED, used + (work + out));
 }
 
 // "Each step i on the way is one offer": what is left of R behind it.
-pub fn pass(plan: &mut [u32; Plan::WORDS], store: usize, task: usize, left: u32) -> u32
-    requires { stores.MayPass store task left (contents plan.old) }
-    ensures { (contents plan.new ≡ stores.with_store_at store (stores.passed task left) (contents plan.old))
-        × (result ≡ left - stores.gift task left (stores.store_at store (contents plan.old))) }
+pub fn pass(plan: &mut Plan, store: usize, task: usize, left: u32) -> u32
+    requires { stores.MayPass store task left (contents plan.old.words) }
+    ensures { (contents plan.new.words ≡ stores.with_store_at store (stores.passed task left) (contents plan.old.words))
+        × (result ≡ left - stores.gift task left (stores.store_at store (contents plan.old.words))) }
 {
-    let figure = cell(plan, task, store + Plan::FIGURE) - left;
-    let gift = less(cell(plan, task, store + Plan::NEED), figure);
-    let booked = cell(plan, task, store + Plan::BOOKED);
-    set_cell(plan, task, store + Plan::BOOKED, booked + gift);
-    set_cell(plan, task, store + Plan::FIGURE, figure + gift);
+    let figure = plan.cell(task, store + Plan::FIGURE) - left;
+    let gift = less(plan.cell(task, store + Plan::NEED), figure);
+    let booked = plan.cell(task, store + Plan::BOOKED);
+    plan.set_cell(task, store + Plan::BOOKED, booked + gift);
+    plan.set_cell(task, store + Plan::FIGURE, figure + gift);
     left - gift
 }
 
 // What is left of R at a waiting task is in no figure from there on.
-pub fn rest(plan: &mut [u32; Plan::WORDS], store: usize, task: usize, left: u32)
-    requires { stores.AtTask store task (contents plan.old) × (left ≤ at (stores.store_at store (contents plan.old)).figures task) }
-    ensures { contents plan.new ≡ stores.with_store_at store (stores.rested task left) (contents plan.old) }
+pub fn rest(plan: &mut Plan, store: usize, task: usize, left: u32)
+    requires { stores.AtTask store task (contents plan.old.words) × (left ≤ at (stores.store_at store (contents plan.old.words)).figures task) }
+    ensures { contents plan.new.words ≡ stores.with_store_at store (stores.rested task left) (contents plan.old.words) }
 {
-    let figure = cell(plan, task, store + Plan::FIGURE);
-    set_cell(plan, task, store + Plan::FIGURE, figure - left);
+    let figure = plan.cell(task, store + Plan::FIGURE);
+    plan.set_cell(task, store + Plan::FIGURE, figure - left);
 }
 
 // "When step j ends, its booked trays, call them R, are taken from it. If it has a parent, the
 // parent is given j's out, and R falls by it": what is left of R.
-pub fn release(plan: &mut [u32; Plan::WORDS], store: usize, task: usize) -> u32
-    requires { stores.MayRelease store task (contents plan.old) }
-    ensures { (contents plan.new ≡ stores.with_store_at store (stores.released (at (contents plan.old).parents task) task) (contents plan.old))
-        × (result ≡ at (stores.store_at store (contents plan.old)).booked task - at (stores.store_at store (contents plan.old)).outs task) }
+pub fn release(plan: &mut Plan, store: usize, task: usize) -> u32
+    requires { stores.MayRelease store task (contents plan.old.words) }
+    ensures { (contents plan.new.words ≡ stores.with_store_at store (stores.released (at (contents plan.old.words).parents task) task) (contents plan.old.words))
+        × (result ≡ at (stores.store_at store (contents plan.old.words)).booked task - at (stores.store_at store (contents plan.old.words)).outs task) }
 {
-    let parent = cell(plan, task, Plan::PARENT) as usize;
-    let held = cell(plan, task, store + Plan::BOOKED);
-    let out = cell(plan, task, store + Plan::OUT);
-    let need = cell(plan, task, store + Plan::NEED);
-    let used = cell(plan, Plan::HEAD, store + Plan::USED);
-    set_cell(plan, Plan::HEAD, store + Plan::USED, used - need + out);
-    set_cell(plan, task, store + Plan::BOOKED, 0);
-    set_cell(plan, task, store + Plan::FIGURE, 0);
+    let parent = plan.cell(task, Plan::PARENT) as usize;
+    let held = plan.cell(task, store + Plan::BOOKED);
+    let out = plan.cell(task, store + Plan::OUT);
+    let need = plan.cell(task, store + Plan::NEED);
+    let used = plan.cell(Plan::HEAD, store + Plan::USED);
+    plan.set_cell(Plan::HEAD, store + Plan::USED, used - need + out);
+    plan.set_cell(task, store + Plan::BOOKED, 0);
+    plan.set_cell(task, store + Plan::FIGURE, 0);
     grow(plan, parent, store + Plan::BOOKED, out);
     held - out
 }
 
 // "When the root ends, its out remains booked and in use", and FETCH "frees it": what one task holds
 // is all that is booked, and all that is in use.
-pub fn hold_alone(plan: &mut [u32; Plan::WORDS], store: usize, task: usize, units: u32)
-    requires { stores.AtTask store task (contents plan.old) }
-    ensures { contents plan.new ≡ stores.with_store_at store (stores.held_alone task units) (contents plan.old) }
+pub fn hold_alone(plan: &mut Plan, store: usize, task: usize, units: u32)
+    requires { stores.AtTask store task (contents plan.old.words) }
+    ensures { contents plan.new.words ≡ stores.with_store_at store (stores.held_alone task units) (contents plan.old.words) }
 {
-    set_cell(plan, task, store + Plan::BOOKED, units);
-    set_cell(plan, Plan::HEAD, store + Plan::TOTAL, units);
-    set_cell(plan, Plan::HEAD, store + Plan::USED, units);
+    plan.set_cell(task, store + Plan::BOOKED, units);
+    plan.set_cell(Plan::HEAD, store + Plan::TOTAL, units);
+    plan.set_cell(Plan::HEAD, store + Plan::USED, units);
 }
 
 // "What is left of R is free."
-pub fn free(plan: &mut [u32; Plan::WORDS], store: usize, left: u32)
-    requires { stores.AtStore store × ((contents plan.old).extent ≡ words) × (left ≤ (stores.store_at store (contents plan.old)).total) }
-    ensures { contents plan.new ≡ stores.with_store_at store (stores.freed left) (contents plan.old) }
+pub fn free(plan: &mut Plan, store: usize, left: u32)
+    requires { stores.AtStore store × ((contents plan.old.words).extent ≡ words) × (left ≤ (stores.store_at store (contents plan.old.words)).total) }
+    ensures { contents plan.new.words ≡ stores.with_store_at store (stores.freed left) (contents plan.old.words) }
 {
-    let total = cell(plan, Plan::HEAD, store + Plan::TOTAL);
-    set_cell(plan, Plan::HEAD, store + Plan::TOTAL, total - left);
+    let total = plan.cell(Plan::HEAD, store + Plan::TOTAL);
+    plan.set_cell(Plan::HEAD, store + Plan::TOTAL, total - left);
 }

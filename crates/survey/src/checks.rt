@@ -9,19 +9,18 @@ ghost use Rattle.words.specs.Contents.{contents};
 ghost use Rattle.survey.specs.Survey.{RankedIn, order_ground};
 ghost use Rattle.survey.specs.Checks.{is_late, Parented};
 
-use cells::cell;
 use words::plan::Plan;
 
 // How many tasks have no parent.
-pub fn roots(plan: &[u32; Plan::WORDS], n: usize) -> usize
+pub fn roots(plan: &Plan, n: usize) -> usize
     requires { n ≤ max_tasks }
-    ensures { result ≡ roots n (at (contents plan.now).parents) }
+    ensures { result ≡ roots n (at (contents plan.now.words).parents) }
 {
     let mut found = 0;
     let mut i = 0;
     while i < n {
         i += 1;
-        if cell(plan, i, Plan::PARENT) == 0 {
+        if plan.cell(i, Plan::PARENT) == 0 {
             found += 1;
         }
     }
@@ -29,21 +28,21 @@ pub fn roots(plan: &[u32; Plan::WORDS], n: usize) -> usize
 }
 
 // Whether a task has a parent whose rank is not above its own.
-fn is_late(plan: &[u32; Plan::WORDS], task: usize) -> bool
-    requires { (task ≤ max_tasks) × (at (contents plan.now).parents task ≤ max_tasks) }
-    ensures { result ≡ is_late (at (contents plan.now).parents) (at (contents plan.now).ranks) task }
+fn is_late(plan: &Plan, task: usize) -> bool
+    requires { (task ≤ max_tasks) × (at (contents plan.now.words).parents task ≤ max_tasks) }
+    ensures { result ≡ is_late (at (contents plan.now.words).parents) (at (contents plan.now.words).ranks) task }
 {
-    let parent = cell(plan, task, Plan::PARENT) as usize;
+    let parent = plan.cell(task, Plan::PARENT) as usize;
     if parent == 0 {
         return false;
     }
-    cell(plan, parent, Plan::RANK) <= cell(plan, task, Plan::RANK)
+    plan.cell(parent, Plan::RANK) <= plan.cell(task, Plan::RANK)
 }
 
 // How many tasks have a parent that does not stand later.
-fn late(plan: &[u32; Plan::WORDS], n: usize) -> usize
-    requires { Parented n (at (contents plan.now).parents) }
-    ensures { result ≡ count_to (is_late (at (contents plan.now).parents) (at (contents plan.now).ranks)) n }
+fn late(plan: &Plan, n: usize) -> usize
+    requires { Parented n (at (contents plan.now.words).parents) }
+    ensures { result ≡ count_to (is_late (at (contents plan.now.words).parents) (at (contents plan.now.words).ranks)) n }
 {
     let mut found = 0;
     let mut i = 0;
@@ -57,9 +56,9 @@ fn late(plan: &[u32; Plan::WORDS], n: usize) -> usize
 }
 
 // The number of the ground against the order, or 0.
-pub(crate) fn ground(plan: &[u32; Plan::WORDS], n: usize) -> u8
-    requires { RankedIn n (contents plan.now) }
-    ensures { result ≡ order_ground n (at (contents plan.now).parents) (take n (contents plan.now).activation) }
+pub(crate) fn ground(plan: &Plan, n: usize) -> u8
+    requires { RankedIn n (contents plan.now.words) }
+    ensures { result ≡ order_ground n (at (contents plan.now.words).parents) (take n (contents plan.now.words).activation) }
 {
     if roots(plan, n) != 1 {
         return 7;

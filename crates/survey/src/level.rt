@@ -6,7 +6,6 @@ ghost use Rattle.tree.specs.Peak;
 ghost use Rattle.words.specs.Contents.{contents, store_contents};
 ghost use Rattle.survey.specs.Level.{AtRow, kept_out, MayFeed, Fed, MayRun, MayPeak, meant, higher};
 
-use cells::{cell, entry};
 use words::plan::Plan;
 
 // A row for each task, and row 0 for nobody.
@@ -20,15 +19,15 @@ pub(crate) struct Peaked {
 }
 
 // Adds the out of each task to the entry of its parent.
-fn feed(plan: &[u32; Plan::WORDS], store: usize, n: usize, fed: &mut [u64; ROWS])
-    requires { MayFeed n store plan.now fed.old }
-    ensures { Fed n (at (contents plan.now).parents) (at (store_contents store plan.now).outs) fed.new }
+fn feed(plan: &Plan, store: usize, n: usize, fed: &mut [u64; ROWS])
+    requires { MayFeed n store plan.now.words fed.old }
+    ensures { Fed n (at (contents plan.now.words).parents) (at (store_contents store plan.now.words).outs) fed.new }
 {
     let mut i = 0;
     while i < n {
         i += 1;
-        let parent = cell(plan, i, Plan::PARENT) as usize;
-        let out = cell(plan, i, store + Plan::OUT) as u64;
+        let parent = plan.cell(i, Plan::PARENT) as usize;
+        let out = plan.cell(i, store + Plan::OUT) as u64;
         fed[parent] += out;
     }
 }
@@ -44,23 +43,23 @@ fn highest_of(best: Peaked, trays: u64, task: u16) -> Peaked
 }
 
 // What the store holds while a task runs: its work and its out, and what was there.
-fn sum(plan: &[u32; Plan::WORDS], store: usize, task: usize, level: u64) -> u64
+fn sum(plan: &Plan, store: usize, task: usize, level: u64) -> u64
     requires { AtRow store task × (level < 2 ^ 63) }
-    ensures { result ≡ level + at (store_contents store plan.now).works task + at (store_contents store plan.now).outs task }
+    ensures { result ≡ level + at (store_contents store plan.now.words).works task + at (store_contents store plan.now.words).outs task }
 {
-    let work = cell(plan, task, store + Plan::WORK) as u64;
-    let out = cell(plan, task, store + Plan::OUT) as u64;
+    let work = plan.cell(task, store + Plan::WORK) as u64;
+    let out = plan.cell(task, store + Plan::OUT) as u64;
     level + work + out
 }
 
 // What a task leaves in the store: its out, but nothing where it is the root.
-fn kept_out(plan: &[u32; Plan::WORDS], store: usize, task: usize) -> u64
+fn kept_out(plan: &Plan, store: usize, task: usize) -> u64
     requires { AtRow store task }
-    ensures { (result ≡ kept_out (at (contents plan.now).parents task) (at (store_contents store plan.now).outs task))
+    ensures { (result ≡ kept_out (at (contents plan.now.words).parents task) (at (store_contents store plan.now.words).outs task))
         × (result < 2 ^ 32) }
 {
-    let out = cell(plan, task, store + Plan::OUT) as u64;
-    if cell(plan, task, Plan::PARENT) == 0 {
+    let out = plan.cell(task, store + Plan::OUT) as u64;
+    if plan.cell(task, Plan::PARENT) == 0 {
         0
     } else {
         out
@@ -68,13 +67,13 @@ fn kept_out(plan: &[u32; Plan::WORDS], store: usize, task: usize) -> u64
 }
 
 // The largest sum along the order and its task, with the outs of the children of each task at hand.
-fn highest(plan: &[u32; Plan::WORDS], store: usize, n: usize, fed: &[u64; ROWS]) -> Peaked
-    requires { MayRun n store plan.now fed.now }
-    ensures { meant result ≡ Peak.peaked n (at (contents plan.now).parents) (at (store_contents store plan.now).works)
-        (at (store_contents store plan.now).outs) (take n (contents plan.now).activation) }
+fn highest(plan: &Plan, store: usize, n: usize, fed: &[u64; ROWS]) -> Peaked
+    requires { MayRun n store plan.now.words fed.now }
+    ensures { meant result ≡ Peak.peaked n (at (contents plan.now.words).parents) (at (store_contents store plan.now.words).works)
+        (at (store_contents store plan.now.words).outs) (take n (contents plan.now.words).activation) }
 {
     // No sum is below 0, and where all are 0 the first is the earliest.
-    let first = entry(plan, Plan::ACTIVATION, 0) as u16;
+    let first = plan.entry(Plan::ACTIVATION, 0) as u16;
     let mut best = Peaked {
         trays: 0,
         task: first,
@@ -82,7 +81,7 @@ fn highest(plan: &[u32; Plan::WORDS], store: usize, n: usize, fed: &[u64; ROWS])
     let mut level = 0;
     let mut k = 0;
     while k < n {
-        let x = entry(plan, Plan::ACTIVATION, k) as usize;
+        let x = plan.entry(Plan::ACTIVATION, k) as usize;
         best = highest_of(best, sum(plan, store, x, level), x as u16);
         level = level + kept_out(plan, store, x) - fed[x];
         k += 1;
@@ -91,10 +90,10 @@ fn highest(plan: &[u32; Plan::WORDS], store: usize, n: usize, fed: &[u64; ROWS])
 }
 
 // The peak of the activation order with its task, where it is valid.
-pub(crate) fn peak(plan: &[u32; Plan::WORDS], store: usize, n: usize) -> Peaked
-    requires { MayPeak n store plan.now }
-    ensures { meant result ≡ Peak.peaked n (at (contents plan.now).parents) (at (store_contents store plan.now).works)
-        (at (store_contents store plan.now).outs) (take n (contents plan.now).activation) }
+pub(crate) fn peak(plan: &Plan, store: usize, n: usize) -> Peaked
+    requires { MayPeak n store plan.now.words }
+    ensures { meant result ≡ Peak.peaked n (at (contents plan.now.words).parents) (at (store_contents store plan.now.words).works)
+        (at (store_contents store plan.now.words).outs) (take n (contents plan.now.words).activation) }
 {
     let mut fed = [0u64; ROWS];
     feed(plan, store, n, &mut fed);

@@ -9,7 +9,6 @@ ghost use Rattle.std.specs.Prelude.{◌≡◌};
 ghost use Rattle.words.specs.Contents.{contents};
 ghost use Rattle.survey.specs.Survey.{Ordered, ground_of, peaked_of};
 
-use cells::cell;
 pub use checks::roots;
 pub use figures::prepare;
 use words::plan::Plan;
@@ -24,12 +23,12 @@ pub struct Surveyed {
 
 // Grounds 7 and 8 against the activation order of a plan, and its peak with its task where there is
 // none.
-pub fn survey(plan: &[u32; Plan::WORDS]) -> Surveyed
-    requires { Ordered (contents plan.now) }
-    ensures { (result.number ≡ ground_of (contents plan.now))
-        × (record { trays = result.peak; task = result.by } ≡ peaked_of (contents plan.now)) }
+pub fn survey(plan: &Plan) -> Surveyed
+    requires { Ordered (contents plan.now.words) }
+    ensures { (result.number ≡ ground_of (contents plan.now.words))
+        × (record { trays = result.peak; task = result.by } ≡ peaked_of (contents plan.now.words)) }
 {
-    let n = cell(plan, Plan::HEAD, Plan::SIZE) as usize;
+    let n = plan.cell(Plan::HEAD, Plan::SIZE) as usize;
     let number = checks::ground(plan, n);
     if number != 0 {
         return Surveyed {

@@ -1,11 +1,11 @@
 // The plan type: limits, where everything lies, and the empty plan.
 ghost use Rattle.std.specs.Prelude.{◌≡◌, replicate};
-ghost use Rattle.rules.specs.Phase;
 ghost use Rattle.words.specs.Layout.{words};
 
 // A plan is one array of words. A task is a row of sixteen words; row 0 is nobody's, and the row
 // behind the last task's is the head of the plan. Behind the rows stand the two orders, and the set
 // of ready tasks as bits.
+#[repr(C)]
 #[derive(Drop)]
 pub struct Plan {
     pub words: [u32; Plan::WORDS],
@@ -124,16 +124,6 @@ impl Plan {
     pub const FILLED: usize = Plan::READY_SET + Plan::BLOCKS;
 
     pub const WORDS: usize = Plan::FILLED + 1;
-
-    // Whether trays of a plan in that phase may lie in the cold room: from BEGIN to FETCH.
-    pub fn holds_trays(phase: u32) -> bool
-        ensures { result ≡ Phase.holds_trays phase }
-    {
-        if phase == Plan::RUNNING {
-            return true;
-        }
-        phase == Plan::READY
-    }
 
     // The empty plan.
     pub fn new() -> Self

@@ -17,54 +17,53 @@ ghost use Rattle.put.specs.Put.{Put};
 ghost use Rattle.writer.specs.Writing.{WholePlan, WholeTask, next_in, OrderAt};
 
 use answer::Wrote;
-use cells::{cell, entry};
 use codec::{Command, encode, encode_activation, encode_execution, encode_task};
 use words::plan::Plan;
 
 // Whether a plan was opened and "both orders are complete".
-fn is_whole(plan: &[u32; Plan::WORDS]) -> bool
-    requires { ValidPlan plan.now }
-    ensures { result ≡ writing.is_whole (plan_of plan.now) }
+fn is_whole(plan: &Plan) -> bool
+    requires { ValidPlan plan.now.words }
+    ensures { result ≡ writing.is_whole (plan_of plan.now.words) }
 {
-    if cell(plan, Plan::HEAD, Plan::PHASE) == Plan::EMPTY {
+    if plan.cell(Plan::HEAD, Plan::PHASE) == Plan::EMPTY {
         return false;
     }
-    let size = cell(plan, Plan::HEAD, Plan::SIZE);
-    if cell(plan, Plan::HEAD, Plan::RANKED) != size {
+    let size = plan.cell(Plan::HEAD, Plan::SIZE);
+    if plan.cell(Plan::HEAD, Plan::RANKED) != size {
         return false;
     }
-    cell(plan, Plan::HEAD, Plan::PLACED) == size
+    plan.cell(Plan::HEAD, Plan::PLACED) == size
 }
 
 // PLAN, at the front of the list.
-fn write_opening(plan: &[u32; Plan::WORDS], list: &mut [u8]) -> usize
-    requires { WholePlan plan.now }
-    ensures { Put (rules.bytes (opening_of (instance_of (plan_of plan.now)))) 0 list.old list.new result }
+fn write_opening(plan: &Plan, list: &mut [u8]) -> usize
+    requires { WholePlan plan.now.words }
+    ensures { Put (rules.bytes (opening_of (instance_of (plan_of plan.now.words)))) 0 list.old list.new result }
 {
-    let n = cell(plan, Plan::HEAD, Plan::SIZE) as u16;
-    let p = cell(plan, Plan::HEAD, Plan::PROCESSORS) as u8;
-    let bound = cell(plan, Plan::HEAD, Plan::CHILLED + Plan::BOUND);
+    let n = plan.cell(Plan::HEAD, Plan::SIZE) as u16;
+    let p = plan.cell(Plan::HEAD, Plan::PROCESSORS) as u8;
+    let bound = plan.cell(Plan::HEAD, Plan::CHILLED + Plan::BOUND);
     encode(Command::Plan { n, p, bound }, list, 0)
 }
 
 // STEP of a task.
-fn write_task(plan: &[u32; Plan::WORDS], task: usize, list: &mut [u8], place: usize) -> usize
-    requires { WholeTask plan.now task }
-    ensures { Put (rules.bytes (task_of (instance_of (plan_of plan.now)) task)) place list.old list.new result }
+fn write_task(plan: &Plan, task: usize, list: &mut [u8], place: usize) -> usize
+    requires { WholeTask plan.now.words task }
+    ensures { Put (rules.bytes (task_of (instance_of (plan_of plan.now.words)) task)) place list.old list.new result }
 {
-    let parent = cell(plan, task, Plan::PARENT) as u16;
-    let work = cell(plan, task, Plan::CHILLED + Plan::WORK) as u16;
-    let out = cell(plan, task, Plan::CHILLED + Plan::OUT) as u16;
+    let parent = plan.cell(task, Plan::PARENT) as u16;
+    let work = plan.cell(task, Plan::CHILLED + Plan::WORK) as u16;
+    let out = plan.cell(task, Plan::CHILLED + Plan::OUT) as u16;
     encode_task(parent, work, out, list, place)
 }
 
 // All tasks, by their numbers.
-fn write_tasks(plan: &[u32; Plan::WORDS], list: &mut [u8], place: usize) -> usize
-    requires { WholePlan plan.now }
-    ensures { Put (flat_map rules.bytes (tasks_to (instance_of (plan_of plan.now)) (plan_of plan.now).size))
+fn write_tasks(plan: &Plan, list: &mut [u8], place: usize) -> usize
+    requires { WholePlan plan.now.words }
+    ensures { Put (flat_map rules.bytes (tasks_to (instance_of (plan_of plan.now.words)) (plan_of plan.now.words).size))
         place list.old list.new result }
 {
-    let n = cell(plan, Plan::HEAD, Plan::SIZE) as usize;
+    let n = plan.cell(Plan::HEAD, Plan::SIZE) as usize;
     let mut next = place;
     let mut task = 0;
     while task < n {
@@ -86,16 +85,16 @@ fn write_entry(order: usize, task: u16, list: &mut [u8], place: usize) -> usize
 }
 
 // All entries of an order.
-fn write_order(plan: &[u32; Plan::WORDS], order: usize, list: &mut [u8], place: usize) -> usize
-    requires { OrderAt order plan.now }
-    ensures { Put (flat_map rules.bytes (map (next_in order) (take (contents plan.now).size (part order entries plan.now))))
+fn write_order(plan: &Plan, order: usize, list: &mut [u8], place: usize) -> usize
+    requires { OrderAt order plan.now.words }
+    ensures { Put (flat_map rules.bytes (map (next_in order) (take (contents plan.now.words).size (part order entries plan.now.words))))
         place list.old list.new result }
 {
-    let n = cell(plan, Plan::HEAD, Plan::SIZE) as usize;
+    let n = plan.cell(Plan::HEAD, Plan::SIZE) as usize;
     let mut next = place;
     let mut k = 0;
     while k < n {
-        let task = entry(plan, order, k) as u16;
+        let task = plan.entry(order, k) as u16;
         next = write_entry(order, task, list, next);
         k += 1;
     }
@@ -103,9 +102,9 @@ fn write_order(plan: &[u32; Plan::WORDS], order: usize, list: &mut [u8], place: 
 }
 
 // The four parts, one behind another.
-fn write_whole(plan: &[u32; Plan::WORDS], list: &mut [u8]) -> usize
-    requires { WholePlan plan.now }
-    ensures { Put (written (instance_of (plan_of plan.now))) 0 list.old list.new result }
+fn write_whole(plan: &Plan, list: &mut [u8]) -> usize
+    requires { WholePlan plan.now.words }
+    ensures { Put (written (instance_of (plan_of plan.now.words))) 0 list.old list.new result }
 {
     let next = write_opening(plan, list);
     let next = write_tasks(plan, list, next);
@@ -115,14 +114,14 @@ fn write_whole(plan: &[u32; Plan::WORDS], list: &mut [u8]) -> usize
 
 // "3 unless both orders are complete; then 11 if the list is shorter than 8 + 13 times n bytes; either
 // leaves the list untouched"
-pub fn write(plan: &[u32; Plan::WORDS], list: &mut [u8]) -> Wrote
-    requires { ValidPlan plan.now }
-    ensures { wrote_of result list.new ≡ writing.write (plan_of plan.now) list.old }
+pub fn write(plan: &Plan, list: &mut [u8]) -> Wrote
+    requires { ValidPlan plan.now.words }
+    ensures { wrote_of result list.new ≡ writing.write (plan_of plan.now.words) list.old }
 {
     if !is_whole(plan) {
         return Wrote::refused(3);
     }
-    let n = cell(plan, Plan::HEAD, Plan::SIZE) as usize;
+    let n = plan.cell(Plan::HEAD, Plan::SIZE) as usize;
     if list.len() < Plan::OPENING_BYTES + Plan::TASK_BYTES * n {
         return Wrote::refused(11);
     }

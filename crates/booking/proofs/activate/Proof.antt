@@ -13,7 +13,7 @@ abbrev start : tie.After-cell → tie.Start
 start c = c.before.before.before
 
 abbrev plan : tie.After-cell → List ℕ
-plan c = (start c).args.plan.now
+plan c = (start c).args.plan.now.words
 
 abbrev task : tie.After-cell → ℕ
 task c = (start c).args.task
@@ -38,7 +38,7 @@ insert-requires c κs =
 returns : tie.Need-returns-then-cell-eq0
 returns c =
     let t = tested c.before.before in
-    fed (plan t) (start t).requires t.set_cell.ensures (contents c.insert.new.plan)
+    fed (plan t) (start t).requires t.set_cell.ensures (contents c.insert.new.plan.words)
     (sym (unended-is t) ∙ c.if-cell-eq0.true)
     (rw (place_is c.before.before) at c.insert.ensures)
 

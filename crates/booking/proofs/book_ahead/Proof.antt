@@ -10,13 +10,13 @@ use Rattle.booking.proofs.book_ahead.Statement.{statement}
 use Rattle.booking.proofs.book_ahead.Tie as tie
 
 abbrev invariant-loop : tie.invariant-loop-next
-invariant-loop plan₀ n next₀ plan next = Ahead (contents plan₀) (contents plan) next
+invariant-loop plan₀ n next₀ plan next = Ahead (contents plan₀.words) (contents plan.words) next
 
 abbrev decreases-loop : tie.decreases-loop-next
 decreases-loop plan₀ n next₀ plan next = n - next
 
 -- what is read
-size_is : (c : tie.After-cell-n invariant-loop decreases-loop) → c.cell-n.result ≡ (contents c.args.plan.now).size
+size_is : (c : tie.After-cell-n invariant-loop decreases-loop) → c.cell-n.result ≡ (contents c.args.plan.now.words).size
 unfolding contents
 size_is c = c.cell-n.ensures
 
@@ -25,7 +25,7 @@ unfolding contents
 loop-holds c = ahead-first c.requires c.cell-next.ensures
 
 -- a task waits still
-more : (c : tie.In-loop-next invariant-loop decreases-loop) → c.loop-next.next < (contents c.loop-next.plan).size
+more : (c : tie.In-loop-next invariant-loop decreases-loop) → c.loop-next.next < (contents c.loop-next.plan.words).size
 more c =
     let e = size_is c.before.before.before in
     let s = c.loop-next.invariant.same.size in
@@ -49,7 +49,7 @@ loop-again : tie.Need-loop-next-preserved invariant-loop decreases-loop
 loop-again c =
     let i = c in
     let done = c.if-not-book_next.false in
-    ahead-next i.loop-next.invariant (lengths i.loop-next.plan) (more i.before.before.before) (sym c.book_next.ensures.tested ∙ done)
+    ahead-next i.loop-next.invariant (lengths i.loop-next.plan.words) (more i.before.before.before) (sym c.book_next.ensures.tested ∙ done)
     (c.book_next.ensures.booked done)
 
 returns : tie.Need-returns-after-loop-next invariant-loop decreases-loop
@@ -65,7 +65,7 @@ returns-2 c =
     let i = c in
     let over = c.if-not-book_next.true in
     rw (c.book_next.ensures.stays over)
-    (ahead-stop i.loop-next.invariant (lengths i.loop-next.plan) (more i.before.before.before) (sym c.book_next.ensures.tested ∙ over))
+    (ahead-stop i.loop-next.invariant (lengths i.loop-next.plan.words) (more i.before.before.before) (sym c.book_next.ensures.tested ∙ over))
 
 pub book_ahead_spec : {M : Type 1} → statement M
 book_ahead_spec =

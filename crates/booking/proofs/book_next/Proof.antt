@@ -19,19 +19,19 @@ use Rattle.booking.proofs.book_next.Statement.{statement}
 use Rattle.booking.proofs.book_next.Tie as tie
 
 abbrev old : tie.Start → Contents
-old c = contents c.args.plan.now
+old c = contents c.args.plan.now.words
 
 more : (c : tie.Start) → (old c).next < (old c).size
 more c = let e = c.requires.here in let m = c.requires.more in omega arith
 
 -- what is read
 task-is : (c : tie.After-entry-task) → c.entry-task.result ≡ next_task (old c.before)
-task-is c = c.entry-task.ensures ∙ next-read c.args.plan.now c.args.next c.requires
+task-is c = c.entry-task.ensures ∙ next-read c.args.plan.now.words c.args.next c.requires
 
 missing-requires : tie.Need-missing-units-requires
 missing-requires c κs =
     let s = c in
-    rw (task-is c) (next-in s.requires.kept (lengths s.args.plan.now) (more s.before) Kind.chilled)
+    rw (task-is c) (next-in s.requires.kept (lengths s.args.plan.now.words) (more s.before) Kind.chilled)
 
 abbrev start : tie.After-missing-units → tie.Start
 start c = c.before.before
@@ -56,7 +56,7 @@ tested-is : (c : tie.After-has_room) → c.has_room.result ≡ allows_next (old 
 unfolding all
 tested-is c =
     let s = start c.before in
-    room-is c ∙ tested s.requires.kept (lengths s.args.plan.now) (more s)
+    room-is c ∙ tested s.requires.kept (lengths s.args.plan.now.words) (more s)
 
 returns : tie.Need-returns-then-not-has_room
 returns c =
@@ -78,9 +78,9 @@ grant-requires : tie.Need-grant-requires
 grant-requires c κs =
     let s = begin c.before in
     rw (task-is c.before.before.before.before, units-are c.before.before.before)
-    (may-grant s.requires.kept (lengths s.args.plan.now) (more s) (fits c.before))
+    (may-grant s.requires.kept (lengths s.args.plan.now.words) (more s) (fits c.before))
 
-granted-is : (c : tie.After-grant) → contents c.grant.new.plan ≡ granted_next (old (begin c.before.before))
+granted-is : (c : tie.After-grant) → contents c.grant.new.plan.words ≡ granted_next (old (begin c.before.before))
 granted-is c =
     let s = begin c.before.before in
     c.grant.ensures
@@ -91,18 +91,18 @@ activate-requires : tie.Need-activate-requires
 activate-requires c κs =
     let s = begin c.before.before.before in
     rw (task-is c.before.before.before.before.before.before, granted-is c.before)
-    (may-activate s.requires.kept (lengths s.args.plan.now) (more s) (fits c.before.before.before))
+    (may-activate s.requires.kept (lengths s.args.plan.now.words) (more s) (fits c.before.before.before))
 
 abbrev fitted : tie.After-activate → tie.Start
 fitted c = begin c.before.before.before.before
 
 did :
     (c : tie.After-activate)
-    → DidActivate (next_task (old (fitted c))) (granted_next (old (fitted c))) (contents c.activate.new.plan)
+    → DidActivate (next_task (old (fitted c))) (granted_next (old (fitted c))) (contents c.activate.new.plan.words)
 did c =
     let s = fitted c in
-    subst (λ (d : Contents). DidActivate (next_task (old s)) d (contents c.activate.new.plan)) (granted-is c.before.before)
-    (subst (λ (t : ℕ). DidActivate t (contents c.grant.new.plan) (contents c.activate.new.plan))
+    subst (λ (d : Contents). DidActivate (next_task (old s)) d (contents c.activate.new.plan.words)) (granted-is c.before.before)
+    (subst (λ (t : ℕ). DidActivate t (contents c.grant.new.plan.words) (contents c.activate.new.plan.words))
     (task-is c.before.before.before.before.before.before.before) c.activate.ensures)
 
 returns-2 : tie.Need-returns
@@ -115,11 +115,11 @@ returns-2 c =
       tested = sym (e.if-not-has_room.false) ∙ tested-is e.before.before.before.before.before.before.before;
       booked =
           λ _.
-          next-booked s.requires.kept (lengths s.args.plan.now) (more s) (fits e.before.before.before.before.before.before) d (contents c.set_cell.new.plan)
+          next-booked s.requires.kept (lengths s.args.plan.now.words) (more s) (fits e.before.before.before.before.before.before) d (contents c.set_cell.new.self.words)
           (ap contents c.set_cell.ensures
-          ∙ contents-head c.activate.new.plan
-          (long-still s.requires.kept (lengths s.args.plan.now) (more s) (fits e.before.before.before.before.before.before) d) next (s.args.next + 1) (omega arith)
-          ∙ ap (λ (n : ℕ). with_head next (n + 1) (contents c.activate.new.plan)) s.requires.here);
+          ∙ contents-head c.activate.new.plan.words
+          (long-still s.requires.kept (lengths s.args.plan.now.words) (more s) (fits e.before.before.before.before.before.before) d) next (s.args.next + 1) (omega arith)
+          ∙ ap (λ (n : ℕ). with_head next (n + 1) (contents c.activate.new.plan.words)) s.requires.here);
       stays = λ e. absurd (false≢true (sym e));
     }
 

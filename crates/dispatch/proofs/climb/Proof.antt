@@ -12,10 +12,10 @@ use Rattle.dispatch.proofs.climb.Tie as tie
 
 abbrev invariant-loop : tie.invariant-loop-i
 invariant-loop plan₀ store below units i₀ left₀ offers₀ plan i left offers =
-    Climbing below units (contents plan₀) (contents plan) i left offers
+    Climbing below units (contents plan₀.words) (contents plan.words) i left offers
 
 abbrev decreases-loop : tie.decreases-loop-i
-decreases-loop plan₀ store below units i₀ left₀ offers₀ plan i left offers = above (contents plan₀) i
+decreases-loop plan₀ store below units i₀ left₀ offers₀ plan i left offers = above (contents plan₀.words) i
 
 cell-requires : tie.Need-cell-i-requires invariant-loop decreases-loop
 cell-requires c κs = let h = below_in c.requires in (omega arith, omega arith)
@@ -23,7 +23,7 @@ cell-requires c κs = let h = below_in c.requires in (omega arith, omega arith)
 loop-holds : tie.Need-loop-i-init invariant-loop decreases-loop
 loop-holds c =
     let e = c in
-    let w = e.args.plan.now in
+    let w = e.args.plan.now.words in
     climb-first e.requires (lengths w) (c.cell-i.ensures ∙ (row_read w e.args.below (below_in e.requires)).parent)
 
 cell-requires-2 : tie.Need-cell-requires invariant-loop decreases-loop
@@ -35,12 +35,12 @@ cell-requires-2 c κs =
 -- the standing that is read is the task's
 standing :
     (c : tie.After-cell invariant-loop decreases-loop)
-    → at (contents c.loop-i.plan).standings c.loop-i.i ≡ c.cell.result
+    → at (contents c.loop-i.plan.words).standings c.loop-i.i ≡ c.cell.result
 standing c =
     let e = c in
     sym
     (c.cell.ensures
-    ∙ (row_read e.loop-i.plan e.loop-i.i (turn_in e.requires e.loop-i.invariant)).standing)
+    ∙ (row_read e.loop-i.plan.words e.loop-i.i (turn_in e.requires e.loop-i.invariant)).standing)
 
 rest-requires : tie.Need-rest-requires invariant-loop decreases-loop
 rest-requires c κs =
@@ -71,11 +71,11 @@ cell-requires-3 c κs =
 parent :
     (c : tie.After-cell-i-in-loop-i invariant-loop decreases-loop)
     → c.cell-i-in-loop-i.result
-    ≡ at (contents c.pass-left.new.plan).parents c.loop-i.i
+    ≡ at (contents c.pass-left.new.plan.words).parents c.loop-i.i
 parent c =
     let e = c in
     c.cell-i-in-loop-i.ensures
-    ∙ (row_read c.pass-left.new.plan e.loop-i.i (turn_in e.requires e.loop-i.invariant)).parent
+    ∙ (row_read c.pass-left.new.plan.words e.loop-i.i (turn_in e.requires e.loop-i.invariant)).parent
 
 loop-less : tie.Need-loop-i-smaller invariant-loop decreases-loop
 loop-less c =

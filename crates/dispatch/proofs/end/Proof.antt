@@ -11,13 +11,13 @@ sub-set-cell : tie.Need-overflow_sub-active
 sub-set-cell c =
     let e = c in
     let s = e in
-    omega (arith, e.cell-active.ensures ∙ (head_read s.args.plan.now).active, s.requires.some_run)
+    omega (arith, e.cell-active.ensures ∙ (head_read s.args.plan.now.words).active, s.requires.some_run)
 
 add-set-cell : tie.Need-overflow_add-ended
 add-set-cell c =
     let e = c in
     let s = e in
-    record { fits = omega (arith, e.cell-ended.ensures ∙ (head_read s.args.plan.now).ended, s.requires.ended_fits) }
+    record { fits = omega (arith, e.cell-ended.ensures ∙ (head_read s.args.plan.now.words).ended, s.requires.ended_fits) }
 
 returns : tie.Need-returns
 returns c =
@@ -26,7 +26,7 @@ returns c =
     let d = one in
     let a = d in
     let s = a in
-    end-written s.args.plan.now one.set_cell.new.plan two.set_cell-2.new.plan s.requires a.cell-active.ensures d.cell-ended.ensures
+    end-written s.args.plan.now.words one.set_cell.new.self.words two.set_cell-2.new.self.words s.requires a.cell-active.ensures d.cell-ended.ensures
     one.set_cell.ensures two.set_cell-2.ensures c.set_cell-3.ensures
 
 pub end_spec : {M : Type 1} → statement M

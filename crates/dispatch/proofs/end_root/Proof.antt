@@ -30,13 +30,13 @@ hold-alone-requires c κs =
 -- the out that is read is the task's
 out : (c : tie.After-cell-out)
     → c.cell-out.result
-    ≡ at (contents c.args.plan.now).stores.chilled.outs c.args.task
+    ≡ at (contents c.args.plan.now.words).stores.chilled.outs c.args.task
 unfolding contents store_contents ended with_progress
 out c =
     let e = c in
     let s = e in
     c.cell-out.ensures
-    ∙ column-at 6 e.end.new.plan s.args.task s.requires.task_in
+    ∙ column-at 6 e.end.new.plan.words s.args.task s.requires.task_in
     ∙ ap (λ (d : Contents). at d.stores.chilled.outs s.args.task) e.end.ensures
 
 returns : tie.Need-returns
@@ -46,10 +46,10 @@ returns c =
     let e = k in
     let s = e in
     c.hold_alone.ensures
-    ∙ ap (λ (v : ℕ). with_store Kind.chilled (held_alone s.args.task v (contents e.end.new.plan).stores.chilled) (contents e.end.new.plan)) (out k.before.before)
+    ∙ ap (λ (v : ℕ). with_store Kind.chilled (held_alone s.args.task v (contents e.end.new.plan.words).stores.chilled) (contents e.end.new.plan.words)) (out k.before.before)
     ∙ ap
     (λ (d : Contents).
-    with_store Kind.chilled (held_alone s.args.task (at (contents s.args.plan.now).stores.chilled.outs s.args.task) d.stores.chilled) d)
+    with_store Kind.chilled (held_alone s.args.task (at (contents s.args.plan.now.words).stores.chilled.outs s.args.task) d.stores.chilled) d)
     e.end.ensures
 
 pub end_root_spec : {M : Type 1} → statement M

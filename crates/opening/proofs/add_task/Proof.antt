@@ -32,35 +32,35 @@ late : tie.Need-returns-then-cell-ne-STEPS
 unfolding contents
 late c =
     refusal 3 c.requires.sound c.refused.ensures (λ q. omega arith)
-    (add-late (contents c.args.plan.now) c.args.parent c.args.work c.args.out
+    (add-late (contents c.args.plan.now.words) c.args.parent c.args.work c.args.out
     (λ e. c.if-cell-ne-STEPS.true (c.cell.ensures ∙ e)))
 
 no-parent : tie.Need-returns-then-size-parent
 unfolding contents
 no-parent c =
     refusal 4 c.requires.sound c.refused-then-size-parent.ensures (λ q. omega arith)
-    (add-parent (contents c.args.plan.now) c.args.parent c.args.work c.args.out
+    (add-parent (contents c.args.plan.now.words) c.args.parent c.args.work c.args.out
     (sym c.cell.ensures ∙ c.if-cell-ne-STEPS.false) (omega (arith, c.if-size-parent.true, c.cell-size.ensures)))
 
 set-cell-requires : tie.Need-set_cell-requires
 set-cell-requires c κs =
-    (given-small c.args.plan.now c.requires.sound c.if-cell-ne-STEPS.false c.cell.ensures c.cell-given.ensures, omega arith)
+    (given-small c.args.plan.now.words c.requires.sound c.if-cell-ne-STEPS.false c.cell.ensures c.cell-given.ensures, omega arith)
 
 set-cell-requires-2 : tie.Need-set_cell-requires-2
 set-cell-requires-2 c κs =
-    (given-small c.args.plan.now c.requires.sound c.if-cell-ne-STEPS.false c.cell.ensures c.cell-given.ensures, omega arith)
+    (given-small c.args.plan.now.words c.requires.sound c.if-cell-ne-STEPS.false c.cell.ensures c.cell-given.ensures, omega arith)
 
 set-cell-requires-3 : tie.Need-set_cell-requires-3
 set-cell-requires-3 c κs =
-    (given-small c.args.plan.now c.requires.sound c.if-cell-ne-STEPS.false c.cell.ensures c.cell-given.ensures, omega arith)
+    (given-small c.args.plan.now.words c.requires.sound c.if-cell-ne-STEPS.false c.cell.ensures c.cell-given.ensures, omega arith)
 
 add-set-cell-3 : tie.Need-overflow_add-given
-add-set-cell-3 c = omega (arith, given-small c.args.plan.now c.requires.sound c.if-cell-ne-STEPS.false c.cell.ensures c.cell-given.ensures)
+add-set-cell-3 c = omega (arith, given-small c.args.plan.now.words c.requires.sound c.if-cell-ne-STEPS.false c.cell.ensures c.cell-given.ensures)
 
 adds : tie.Need-returns
 unfolding contents
 adds c =
-    let w = c.args.plan.now in
+    let w = c.args.plan.now.words in
     let sound = c.requires.sound in
     let turn = sym c.cell.ensures ∙ c.if-cell-ne-STEPS.false in
     let small = in-columns (contents w) sound turn in
@@ -71,7 +71,7 @@ adds c =
     (add_free (contents w) c.args.parent c.args.work c.args.out turn
     (omega (arith, c.if-size-parent.false, c.cell-size.ensures)) (omega arith) (omega arith))
     c.plain.ensures
-    (filled-contents w c.set_cell.new.plan c.set_cell-2.new.plan c.set_cell-3.new.plan c.set_cell-4.new.plan
+    (filled-contents w c.set_cell.new.self.words c.set_cell-2.new.self.words c.set_cell-3.new.self.words c.set_cell-4.new.self.words
     c.cell-given.result c.args.parent c.args.work c.args.out c.phase_after.result sound.long (omega arith) given
     c.set_cell.ensures c.set_cell-2.ensures c.set_cell-3.ensures c.set_cell-4.ensures c.set_cell-5.ensures
     ∙ ap (λ (f : ℕ). filled (contents w) f c.args.parent c.args.work c.args.out)

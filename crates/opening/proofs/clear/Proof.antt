@@ -6,7 +6,7 @@ use Rattle.opening.proofs.clear.Statement.{statement}
 use Rattle.opening.proofs.clear.Tie as tie
 
 abbrev invariant-loop : tie.invariant-loop-q
-invariant-loop plan₀ from to q₀ plan q = Clearing from to plan₀ plan q
+invariant-loop plan₀ from to q₀ plan q = Clearing from to plan₀.words plan.words q
 
 abbrev decreases-loop : tie.decreases-loop-q
 decreases-loop plan₀ from to q₀ plan q = to - q

@@ -11,7 +11,7 @@ use Rattle.ordering.proofs.complete.Statement.{statement}
 use Rattle.ordering.proofs.complete.Tie as tie
 
 -- what is read
-placed-is : (c : tie.After-cell) → c.cell.result ≡ (contents c.args.plan.now).placed
+placed-is : (c : tie.After-cell) → c.cell.result ≡ (contents c.args.plan.now.words).placed
 unfolding contents
 placed-is c = c.cell.ensures
 
@@ -19,7 +19,7 @@ copy-activation-requires : tie.Need-copy_activation-requires
 copy-activation-requires c κs =
     let read = c in
     let start = read in
-    let w = start.args.plan.now in (
+    let w = start.args.plan.now.words in (
       start.requires.0,
       in-turn-alone (plan_of w) start.requires.1
           (placed-length (contents w) start.requires.0.sound (lengths w) ∙ sym (placed-is read.before.before) ∙ c.if-cell-eq0.true),

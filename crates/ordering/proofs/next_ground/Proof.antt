@@ -7,17 +7,17 @@ use Rattle.ordering.proofs.next_ground.Statement.{statement}
 use Rattle.ordering.proofs.next_ground.Tie as tie
 
 in-other-phase : tie.Need-returns-then-cell-ne-ORDERS
-in-other-phase c = other-phase c.args.counted c.args.base c.args.task c.args.plan.now c.cell.ensures c.if-cell-ne-ORDERS.true
+in-other-phase c = other-phase c.args.counted c.args.base c.args.task c.args.plan.now.words c.cell.ensures c.if-cell-ne-ORDERS.true
 
 counted_in : tie.Need-cell-count-requires
 counted_in c κs = (omega arith, c.requires.counted_in)
 
 full : tie.Need-returns-then-size-count
-full c = whole-order c.args.counted c.args.base c.args.task c.args.plan.now c.cell.ensures c.if-cell-ne-ORDERS.false c.cell-size.ensures c.cell-count.ensures c.if-size-count.true
+full c = whole-order c.args.counted c.args.base c.args.task c.args.plan.now.words c.cell.ensures c.if-cell-ne-ORDERS.false c.cell-size.ensures c.cell-count.ensures c.if-size-count.true
 
 not-a-task : tie.Need-returns-then-not-is_within
 not-a-task c =
-    outside c.args.counted c.args.base c.args.task c.args.plan.now c.cell.ensures c.if-cell-ne-ORDERS.false c.cell-size.ensures c.cell-count.ensures
+    outside c.args.counted c.args.base c.args.task c.args.plan.now.words c.cell.ensures c.if-cell-ne-ORDERS.false c.cell-size.ensures c.cell-count.ensures
     (λ h. let l = c.if-size-count.false in omega arith) (sym c.is_within.ensures ∙ c.if-not-is_within.true)
 
 contains-requires : tie.Need-contains-requires
@@ -26,13 +26,13 @@ contains-requires c κs =
 
 twice : tie.Need-returns-then-contains
 twice c =
-    again c.args.counted c.args.base c.args.task c.args.plan.now c.cell.ensures c.if-cell-ne-ORDERS.false c.cell-size.ensures c.cell-count.ensures
+    again c.args.counted c.args.base c.args.task c.args.plan.now.words c.cell.ensures c.if-cell-ne-ORDERS.false c.cell-size.ensures c.cell-count.ensures
     (λ h. let l = c.if-size-count.false in omega arith) (sym c.is_within.ensures ∙ c.if-not-is_within.false)
     (sym c.if-contains.true ∙ c.contains.ensures)
 
 free : tie.Need-returns
 free c =
-    no-ground c.args.counted c.args.base c.args.task c.args.plan.now c.cell.ensures c.if-cell-ne-ORDERS.false c.cell-size.ensures c.cell-count.ensures
+    no-ground c.args.counted c.args.base c.args.task c.args.plan.now.words c.cell.ensures c.if-cell-ne-ORDERS.false c.cell-size.ensures c.cell-count.ensures
     (λ h. let l = c.if-size-count.false in omega arith) (sym c.is_within.ensures ∙ c.if-not-is_within.false)
     (sym c.if-contains.false ∙ c.contains.ensures)
 

@@ -7,7 +7,7 @@ use Rattle.ordering.proofs.write_next.Tie as tie
 returns : tie.Need-returns
 returns c =
     let s = c in
-    next-written s.args.counted s.args.base s.args.column s.args.task s.args.plan.now c.cell-count.ensures c.set_entry.ensures
+    next-written s.args.counted s.args.base s.args.column s.args.task s.args.plan.now.words c.cell-count.ensures c.set_entry.ensures
     c.set_cell.ensures c.set_cell-2.ensures
 
 pub write_next_spec : {M : Type 1} → statement M

@@ -14,7 +14,7 @@ unfolding contents store_contents
 returns c =
     c.while_held.ensures
     ∙ ap₂ (λ (p figure : ℕ). only (Phase.holds_trays p) figure) c.phase.ensures c.cell-total.ensures
-    ∙ booked-kept (contents c.args.plan.now) c.requires.sound
+    ∙ booked-kept (contents c.args.plan.now.words) c.requires.sound
 
 pub booked_spec : {M : Type 1} → statement M
 booked_spec =

@@ -14,7 +14,7 @@ unfolding contents store_contents
 returns c =
     c.while_held.ensures
     ∙ ap₂ (λ (p figure : ℕ). only (Phase.holds_trays p) figure) c.phase.ensures c.cell-used.ensures
-    ∙ in-use-kept (contents c.args.plan.now) c.requires.reached c.requires.sound
+    ∙ in-use-kept (contents c.args.plan.now.words) c.requires.reached c.requires.sound
 
 pub in_use_spec : {M : Type 1} → statement M
 in_use_spec =

@@ -18,7 +18,7 @@ unfolding contents
 early c =
     let phase = c.phase.ensures in
     let low = c.if-phase-lt-RUNNING.true in
-    standing-early (contents c.args.plan.now) (omega arith)
+    standing-early (contents c.args.plan.now.words) (omega arith)
 
 -- the numbers that were read, from BEGIN on
 pub record Read (w : List ℕ) (size next active ended : ℕ) : Type 0 where
@@ -50,12 +50,12 @@ read w phase size next active ended valid phase_is day size_is next-is active-is
 
 reads :
     (c : tie.After-cell-ended)
-    → Read c.args.plan.now c.cell-size.result
+    → Read c.args.plan.now.words c.cell-size.result
     c.cell-next.result c.cell-active.result c.cell-ended.result
 unfolding contents
 reads c =
     let start = c in
-    read start.args.plan.now _ _ _ _ _ start.requires c.phase.ensures
+    read start.args.plan.now.words _ _ _ _ _ start.requires c.phase.ensures
     c.if-phase-lt-RUNNING.false c.cell-size.ensures c.cell-next.ensures
     c.cell-active.ensures c.cell-ended.ensures
 

@@ -19,14 +19,14 @@ returns : tie.Need-returns-then-filled-eq0
 unfolding contents
 returns c =
     let start = c in
-    first-none start.args.none (contents start.args.plan.now) (sym c.entry-filled.ensures ∙ c.if-filled-eq0.true)
+    first-none start.args.none (contents start.args.plan.now.words) (sym c.entry-filled.ensures ∙ c.if-filled-eq0.true)
 
 lowest-requires : tie.Need-lowest-block-requires
 lowest-requires c κs = search rules
 
 -- the first word that is not 0
 abbrev plan_of : tie.After-lowest-block → Contents
-plan_of c = contents c.args.plan.now
+plan_of c = contents c.args.plan.now.words
 
 full : (c : tie.After-lowest-block) → (plan_of c).filled ≡ 0 → ⊥
 unfolding contents
@@ -46,7 +46,7 @@ bit c =
     c.lowest.ensures
     ∙ ap (count_trailing_zeros bits)
     (c.entry-word.ensures
-    ∙ part_at ready_base blocks c.args.plan.now c.lowest-block.result
+    ∙ part_at ready_base blocks c.args.plan.now.words c.lowest-block.result
     (block_in c.before.before))
 
 entry-requires-2 : tie.Need-entry-word-requires

@@ -15,7 +15,7 @@ add-set-entry c =
     let start = c in
     record {
       fits =
-          more-fits start.args.plan.now start.args.place start.requires c.entry-word.ensures
+          more-fits start.args.plan.now.words start.args.place start.requires c.entry-word.ensures
           c.bit.ensures;
     }
 
@@ -35,7 +35,7 @@ add-set-entry-2 c =
     let start = word in
     record {
       fits =
-          filled-fits start.args.plan.now start.args.place start.requires word.entry-word.ensures
+          filled-fits start.args.plan.now.words start.args.place start.requires word.entry-word.ensures
           word.bit.ensures empty.set_entry.ensures empty.if-word-eq0.true c.entry-filled.ensures
           c.bit-then-word-eq0.ensures;
     }
@@ -48,7 +48,7 @@ returns c =
     let empty = c in
     let word = empty in
     let start = word in
-    added-first start.args.plan.now start.args.place start.requires word.entry-word.ensures
+    added-first start.args.plan.now.words start.args.place start.requires word.entry-word.ensures
     word.bit.ensures empty.set_entry.ensures empty.if-word-eq0.true c.entry-filled.ensures
     c.bit-then-word-eq0.ensures c.set_entry-then-word-eq0.ensures
 
@@ -56,7 +56,7 @@ returns-2 : tie.Need-returns-else-word-eq0
 returns-2 c =
     let word = c in
     let start = word in
-    added start.args.plan.now start.args.place start.requires word.entry-word.ensures
+    added start.args.plan.now.words start.args.place start.requires word.entry-word.ensures
     word.bit.ensures c.set_entry.ensures c.if-word-eq0.false
 
 pub insert_spec : {M : Type 1} → statement M

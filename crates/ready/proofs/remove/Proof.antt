@@ -13,7 +13,7 @@ bit-requires c κs = search rules
 sub-rest : tie.Need-overflow_sub-rest
 sub-rest c =
     let start = c in
-    word-has start.args.plan.now start.args.place start.requires c.entry-word.ensures c.bit.ensures
+    word-has start.args.plan.now.words start.args.place start.requires c.entry-word.ensures c.bit.ensures
 
 set-entry-requires : tie.Need-set_entry-requires
 set-entry-requires c κs = search rules
@@ -29,7 +29,7 @@ sub-set-entry c =
     let empty = c in
     let word = empty in
     let start = word in
-    filled-has start.args.plan.now start.args.place start.requires word.entry-word.ensures word.bit.ensures
+    filled-has start.args.plan.now.words start.args.place start.requires word.entry-word.ensures word.bit.ensures
     empty.set_entry.ensures empty.if-rest-eq0.true c.entry-filled.ensures c.bit-then-rest-eq0.ensures
 
 set-entry-requires-2 : tie.Need-set_entry-requires-then-rest-eq0
@@ -40,7 +40,7 @@ returns c =
     let empty = c in
     let word = empty in
     let start = word in
-    taken-last start.args.plan.now start.args.place start.requires word.entry-word.ensures word.bit.ensures
+    taken-last start.args.plan.now.words start.args.place start.requires word.entry-word.ensures word.bit.ensures
     empty.set_entry.ensures empty.if-rest-eq0.true c.entry-filled.ensures
     c.bit-then-rest-eq0.ensures c.set_entry-then-rest-eq0.ensures
 
@@ -48,7 +48,7 @@ returns-2 : tie.Need-returns-else-rest-eq0
 returns-2 c =
     let word = c in
     let start = word in
-    taken start.args.plan.now start.args.place start.requires word.entry-word.ensures word.bit.ensures
+    taken start.args.plan.now.words start.args.place start.requires word.entry-word.ensures word.bit.ensures
     c.set_entry.ensures c.if-rest-eq0.false
 
 pub remove_spec : {M : Type 1} → statement M

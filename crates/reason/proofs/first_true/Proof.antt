@@ -22,7 +22,7 @@ use Rattle.reason.proofs.first_true.Statement.{statement}
 use Rattle.reason.proofs.first_true.Tie as tie
 
 abbrev plan : tie.Start → Contents
-plan c = contents c.args.plan.now
+plan c = contents c.args.plan.now.words
 
 task_in : (c : tie.Start) → c.args.task < rows
 task_in c = let t = c.requires.is_task in let s = c.requires.valid.sound.small in omega arith
@@ -33,7 +33,7 @@ unfolding contents
 standing_is c =
     let s = c in
     c.cell-standing.ensures
-    ∙ column-at 4 s.args.plan.now s.args.task (task_in s.before)
+    ∙ column-at 4 s.args.plan.now.words s.args.task (task_in s.before)
     ∙ sym (ap (λ (f : ℕ → ℕ). f s.args.task) (standings-meant (plan s.before) s.requires.valid.sound s.requires.runs))
 
 -- ended, running and waiting
@@ -58,7 +58,7 @@ not-booked-requires c κs =
       valid = s.requires.valid;
       runs = s.requires.runs;
       more =
-          some-waits (plan s.before.before.before.before) s.requires.valid.reached s.requires.valid.sound s.requires.runs (lengths s.args.plan.now) s.args.task
+          some-waits (plan s.before.before.before.before) s.requires.valid.reached s.requires.valid.sound s.requires.runs (lengths s.args.plan.now.words) s.args.task
           s.requires.is_task (waits c);
     }
 
@@ -90,7 +90,7 @@ unended-is :
 unfolding contents
 unended-is c =
     let s = start c.before in
-    ap (λ (v : ℕ). eqb v 0) (c.cell.ensures ∙ column-at 3 s.args.plan.now s.args.task (task_in s))
+    ap (λ (v : ℕ). eqb v 0) (c.cell.ensures ∙ column-at 3 s.args.plan.now.words s.args.task (task_in s))
     ∙ sym (fed-kept (plan s) s.requires.valid.sound s.requires.runs s.args.task s.requires.is_task)
 
 returns-4 : tie.Need-returns-then-cell-ne0

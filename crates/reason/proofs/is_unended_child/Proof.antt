@@ -17,15 +17,15 @@ returns : tie.Need-returns-then-cell-task
 unfolding contents
 returns c =
     let s = c in
-    let parent = c.cell.ensures ∙ column-at 0 s.args.plan.now s.args.child (omega arith) in
+    let parent = c.cell.ensures ∙ column-at 0 s.args.plan.now.words s.args.child (omega arith) in
     rw (ne_eqb _ s.args.task (λ e. c.if-cell-task.true (parent ∙ e)))
 
 returns-2 : tie.Need-returns
 unfolding contents
 returns-2 c =
     let s = c in
-    let parent = c.cell.ensures ∙ column-at 0 s.args.plan.now s.args.child (omega arith) in
-    let standing = c.cell-2.ensures ∙ column-at 4 s.args.plan.now s.args.child (omega arith) in
+    let parent = c.cell.ensures ∙ column-at 0 s.args.plan.now.words s.args.child (omega arith) in
+    let standing = c.cell-2.ensures ∙ column-at 4 s.args.plan.now.words s.args.child (omega arith) in
     rw (eq-eqb _ s.args.task (sym parent ∙ c.if-cell-task.false)) (ap (λ (v : ℕ). not (eqb v finished)) standing)
 
 pub is_unended_child_spec : {M : Type 1} → statement M

@@ -20,7 +20,7 @@ use Rattle.reason.proofs.not_booked.Statement.{statement}
 use Rattle.reason.proofs.not_booked.Tie as tie
 
 abbrev plan : tie.Start → Contents
-plan c = contents c.args.plan.now
+plan c = contents c.args.plan.now.words
 
 kept : (c : tie.Start) → Kept (plan c)
 kept c = still_kept (plan c) c.requires.valid.reached c.requires.valid.sound c.requires.runs
@@ -41,25 +41,25 @@ entry-requires c κs =
     omega arith
 
 first-is : (c : tie.After-entry-first) → c.entry-first.result ≡ next_task (plan c.before.before)
-first-is c = c.entry-first.ensures ∙ next-read c.args.plan.now c.cell-next.result (wait c.before)
+first-is c = c.entry-first.ensures ∙ next-read c.args.plan.now.words c.cell-next.result (wait c.before)
 
 cast-first : tie.Need-overflow_cast-first
 cast-first c =
     let s = c in
     let e = first-is c in
-    let low = task_in (turn (kept s.before.before) (lengths s.args.plan.now) s.requires.more) in
+    let low = task_in (turn (kept s.before.before) (lengths s.args.plan.now.words) s.requires.more) in
     omega arith
 
 missing-requires : tie.Need-missing-units-requires
 missing-requires c κs =
     let s = c in
-    rw (first-is c) (next-in (kept s.before.before) (lengths s.args.plan.now) s.requires.more Kind.chilled)
+    rw (first-is c) (next-in (kept s.before.before) (lengths s.args.plan.now.words) s.requires.more Kind.chilled)
 
 shortage-requires : tie.Need-shortage-lack-requires
 shortage-requires c κs =
     let s = c in (
       record { offset = refl; inside = omega arith },
-      within-bound (plan s.before.before.before) s.requires.valid.reached s.requires.valid.sound s.requires.runs (lengths s.args.plan.now),
+      within-bound (plan s.before.before.before) s.requires.valid.reached s.requires.valid.sound s.requires.runs (lengths s.args.plan.now.words),
     )
 
 returns : tie.Need-returns
@@ -67,8 +67,8 @@ unfolding rules.lacks
 returns c =
     let s = c in
     let p = plan s.before.before.before.before in
-    let first = next-first p s.requires.valid.reached s.requires.valid.sound s.requires.runs (lengths s.args.plan.now) s.requires.more in
-    let lack = next-lack p s.requires.valid.reached s.requires.valid.sound s.requires.runs (lengths s.args.plan.now) s.requires.more in
+    let first = next-first p s.requires.valid.reached s.requires.valid.sound s.requires.runs (lengths s.args.plan.now.words) s.requires.more in
+    let lack = next-lack p s.requires.valid.reached s.requires.valid.sound s.requires.runs (lengths s.args.plan.now.words) s.requires.more in
     let units : c.missing-units.result ≡ lacking p Kind.chilled =
     c.missing-units.ensures ∙ ap (λ (t : ℕ). at p.stores.chilled.needs t - at p.stores.chilled.figures t) (first-is c.before.before)
     in

@@ -16,13 +16,13 @@ use Rattle.reason.proofs.unended_child.Tie as tie
 
 abbrev invariant-loop : tie.invariant-loop-child
 invariant-loop plan task n child₀ child =
-    (child ≤ n) × ((d : ℕ) → 1 ≤ d → d ≤ child → is_unended_child (at (contents plan).parents) (at (contents plan).standings) task d ≡ false)
+    (child ≤ n) × ((d : ℕ) → 1 ≤ d → d ≤ child → is_unended_child (at (contents plan.words).parents) (at (contents plan.words).standings) task d ≡ false)
 
 abbrev decreases-loop : tie.decreases-loop-child
 decreases-loop plan task n child₀ child = n - child
 
 -- what is read
-size_is : (c : tie.After-cell-n invariant-loop decreases-loop) → c.cell-n.result ≡ (contents c.args.plan.now).size
+size_is : (c : tie.After-cell-n invariant-loop decreases-loop) → c.cell-n.result ≡ (contents c.args.plan.now.words).size
 unfolding contents
 size_is c = c.cell-n.ensures
 

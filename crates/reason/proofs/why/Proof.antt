@@ -15,17 +15,17 @@ returns : tie.Need-returns-then-cell-ne-RUNNING
 unfolding contents
 returns c =
     let s = c in
-    sym (why-outside (plan_of s.args.plan.now) s.args.task (λ e. c.if-cell-ne-RUNNING.true (c.cell.ensures ∙ e)))
+    sym (why-outside (plan_of s.args.plan.now.words) s.args.task (λ e. c.if-cell-ne-RUNNING.true (c.cell.ensures ∙ e)))
 
 -- the plan runs, and whether the number is a task's is tested
-runs : (c : tie.Else-cell-ne-RUNNING) → (contents c.args.plan.now).phase ≡ Phase.running
+runs : (c : tie.Else-cell-ne-RUNNING) → (contents c.args.plan.now.words).phase ≡ Phase.running
 unfolding contents
 runs c = sym c.cell.ensures ∙ c.if-cell-ne-RUNNING.false
 
 tested :
     (c : tie.After-is_within)
     → c.is_within.result
-    ≡ within c.args.task (contents c.args.plan.now).size
+    ≡ within c.args.task (contents c.args.plan.now.words).size
 unfolding contents
 tested c =
     c.is_within.ensures ∙ ap (within c.args.task) c.cell-2.ensures
@@ -35,8 +35,8 @@ returns-2 c =
     let s = c in
     let none = sym (tested c.before) ∙ c.if-not-is_within.true in
     sym
-    (why-nobody (plan_of s.args.plan.now) s.args.task (runs c.before.before.before)
-    (λ t. clash (task-within (contents s.args.plan.now).size s.args.task t) none))
+    (why-nobody (plan_of s.args.plan.now.words) s.args.task (runs c.before.before.before)
+    (λ t. clash (task-within (contents s.args.plan.now.words).size s.args.task t) none))
 
 first-true-requires : tie.Need-first_true-requires
 first-true-requires c κs =

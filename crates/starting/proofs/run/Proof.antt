@@ -17,7 +17,7 @@ use Rattle.starting.proofs.run.Tie as tie
 
 -- the plan at the start
 abbrev plan_of : tie.Start → Contents
-plan_of c = contents c.args.plan.now
+plan_of c = contents c.args.plan.now.words
 
 place-small : (c : tie.Start) → c.args.place < entries
 place-small c = omega (arith, place_in c.requires, c.requires.kept.invariant.small)
@@ -28,7 +28,7 @@ unfolding contents
 task-is c =
     let start = c in
     c.entry-task.ensures
-    ∙ part_at execution_base entries start.args.plan.now start.args.place (place-small start.before)
+    ∙ part_at execution_base entries start.args.plan.now.words start.args.place (place-small start.before)
     ∙ sym (get_or-take (plan_of start.before).size (plan_of start.before).execution start.args.place 0 (place_in start.requires))
 
 task-small : (c : tie.After-entry-task) → c.entry-task.result ≤ max_tasks
@@ -77,7 +77,7 @@ load-requires c κs =
     let start = at-cell in
     let removed = c in
     let t = task-small at-cell.before.before.before.before.before.before.before.before in
-    may_load removed.remove.new.plan start.requires.kept.cached.long (omega arith) (active-is at-cell.before.before.before.before.before.before.before)
+    may_load removed.remove.new.plan.words start.requires.kept.cached.long (omega arith) (active-is at-cell.before.before.before.before.before.before.before)
     removed.remove.ensures c.set_cell.ensures c.set_cell-2.ensures
     (rw (task-is at-cell.before.before.before.before.before.before.before.before) (used_fits start.requires Kind.chilled))
 
@@ -92,7 +92,7 @@ returns c =
     let removed = c in
     let t = task-small at-cell.before.before.before.before.before.before.before.before.before in
     ran start.requires removed.remove.ensures (task-is at-cell.before.before.before.before.before.before.before.before.before)
-    (after-load removed.remove.new.plan start.requires.kept.cached.long (omega arith) (active-is at-cell.before.before.before.before.before.before.before.before) removed.remove.ensures
+    (after-load removed.remove.new.plan.words start.requires.kept.cached.long (omega arith) (active-is at-cell.before.before.before.before.before.before.before.before) removed.remove.ensures
     c.set_cell.ensures c.set_cell-2.ensures c.load.ensures)
 
 pub run_spec : {M : Type 1} → statement M

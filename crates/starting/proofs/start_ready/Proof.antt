@@ -12,7 +12,7 @@ use Rattle.starting.proofs.start_ready.Tie as tie
 
 abbrev invariant-loop : tie.invariant-loop-active
 invariant-loop plan₀ starts₀ n processors active₀ count₀ plan starts active count =
-    StartLoop (contents plan₀) starts₀ (contents plan) starts active count
+    StartLoop (contents plan₀.words) starts₀ (contents plan.words) starts active count
 
 abbrev decreases-loop : tie.decreases-loop-active
 decreases-loop plan₀ starts₀ n processors active₀ count₀ plan starts active count = processors - active
@@ -44,7 +44,7 @@ abbrev start : tie.At-loop-active invariant-loop decreases-loop → tie.Start in
 start c = c.before.before.before.before.before
 
 abbrev plan_of : tie.At-loop-active invariant-loop decreases-loop → Contents
-plan_of c = contents c.loop-active.plan
+plan_of c = contents c.loop-active.plan.words
 
 size_is :
     (c : tie.At-loop-active invariant-loop decreases-loop) → c.cell-n.result ≡ (plan_of c).size
@@ -53,7 +53,7 @@ size_is c = c.cell-n.ensures ∙ sym c.loop-active.invariant.same.size
 
 processors-are :
     (c : tie.At-loop-active invariant-loop decreases-loop)
-    → c.cell-processors.result ≡ (contents (start c).args.plan.now).processors
+    → c.cell-processors.result ≡ (contents (start c).args.plan.now.words).processors
 unfolding contents
 processors-are c = c.cell-processors.ensures
 
@@ -72,7 +72,7 @@ some-ready c e = c.if-place-n.false (e ∙ sym (size_is (loop c.before)))
 
 free :
     (c : tie.After-first_ready-place invariant-loop decreases-loop)
-    → (loop c).loop-active.active < (contents (start (loop c)).args.plan.now).processors
+    → (loop c).loop-active.active < (contents (start (loop c)).args.plan.now.words).processors
 free c = let t = c.loop-active-test.true in omega (arith, processors-are (loop c))
 
 first-ready-requires : tie.Need-first_ready-place-requires invariant-loop decreases-loop

@@ -16,7 +16,7 @@ use Rattle.stepping.proofs.step.Tie as tie
 
 abbrev invariant-loop : tie.invariant-loop-output
 invariant-loop plan₀ input starts₀ output₀ filled position₀ written₀ plan starts output position written =
-    StepLoop (take position₀.filled input) starts₀ output₀ plan₀ position₀ plan position starts output written
+    StepLoop (take position₀.filled input) starts₀ output₀ plan₀.words position₀ plan.words position starts output written
 
 abbrev decreases-loop : tie.decreases-loop-output
 decreases-loop plan₀ input starts₀ output₀ filled position₀ written₀ plan starts output position written =
@@ -33,12 +33,12 @@ loop-holds c =
 turned : (c : tie.After-turn-turned invariant-loop decreases-loop)
     → let loop = c.loop-output in
     let start = c in
-    Taken loop.plan
-    (rules.turn (plan_of loop.plan)
+    Taken loop.plan.words
+    (rules.turn (plan_of loop.plan.words)
     (record { stream = take start.args.position.filled start.args.input.now; place = loop.position.place; list = loop.starts })
     loop.position.offset loop.position.is_last)
     (take (length loop.output - loop.written) (drop loop.written loop.output))
-    c.turn-turned.result c.turn-turned.new.plan c.turn-turned.new.starts c.turn-turned.new.buffer
+    c.turn-turned.result c.turn-turned.new.plan.words c.turn-turned.new.starts c.turn-turned.new.buffer
 turned c =
     let last = c in
     let filled = c in

@@ -12,7 +12,7 @@ use Rattle.store.proofs.free.Tie as tie
 sub-set-cell : tie.Need-overflow_sub-total
 sub-set-cell c =
     let start = c in
-    let r = head_at start.args.plan.now start.requires.0.offset in
+    let r = head_at start.args.plan.now.words start.requires.0.offset in
     let enough = start.requires.2 in
     let total = c.cell-total.ensures in
     omega arith
@@ -21,10 +21,10 @@ returns : tie.Need-returns
 unfolding freed
 returns c =
     let start = c in
-    let r = head_at start.args.plan.now start.requires.0.offset in
+    let r = head_at start.args.plan.now.words start.requires.0.offset in
     let total = c.cell-total.ensures in
     (total-written (holds _ (kind_at start.args.store) start.requires.1) start.requires.0.offset
-    ((store_at start.args.store (contents start.args.plan.now)).total - start.args.left) (omega arith) c.set_cell.ensures).same
+    ((store_at start.args.store (contents start.args.plan.now.words)).total - start.args.left) (omega arith) c.set_cell.ensures).same
 
 pub free_spec : {M : Type 1} → statement M
 free_spec =

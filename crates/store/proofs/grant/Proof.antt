@@ -12,10 +12,10 @@ use Rattle.store.proofs.Writing.{RowAt, HeadAt, Held, holds, row_read, row_at, h
 use Rattle.store.proofs.grant.Statement.{statement}
 use Rattle.store.proofs.grant.Tie as tie
 
-row : (c : tie.Start) → RowAt c.args.plan.now c.args.store c.args.task
+row : (c : tie.Start) → RowAt c.args.plan.now.words c.args.store c.args.task
 row c = row_at _ c.requires.at_task
 
-head : (c : tie.Start) → HeadAt c.args.plan.now c.args.store
+head : (c : tie.Start) → HeadAt c.args.plan.now.words c.args.store
 head c = head_at _ c.requires.at_task.offset
 
 abbrev first : tie.After-cell → tie.Start
@@ -23,7 +23,7 @@ first c = c.before.before.before.before
 
 -- the plan and its store as they were
 abbrev old : tie.Start → Contents
-old c = contents c.args.plan.now
+old c = contents c.args.plan.now.words
 
 abbrev was : tie.Start → StoreContents
 was c = store_at c.args.store (old c)
@@ -66,7 +66,7 @@ begin c = first (third c)
 
 written :
     (c : tie.After-set_cell-3)
-    → Held c.set_cell-3.new.plan (old (begin c)) (kind_at (begin c).args.store)
+    → Held c.set_cell-3.new.self.words (old (begin c)) (kind_at (begin c).args.store)
     ((was (begin c)).total + (begin c).args.units) (was (begin c)).used
     (set (was (begin c)).booked (begin c).args.task (at (was (begin c)).booked (begin c).args.task + (begin c).args.units))
     (set (was (begin c)).figures (begin c).args.task (at (was (begin c)).figures (begin c).args.task + (begin c).args.units))
@@ -77,7 +77,7 @@ written c =
     let at_task = s.requires.at_task in
     figure-written
     (booked-written
-    (total-written (holds s.args.plan.now (kind_at s.args.store) at_task.long) at_task.offset ((was s).total + m)
+    (total-written (holds s.args.plan.now.words (kind_at s.args.store) at_task.long) at_task.offset ((was s).total + m)
     (ap (λ (v : ℕ). v + m) (total-read (third c))) c.set_cell.ensures)
     at_task.offset (at (was s).booked x + m) (ap (λ (v : ℕ). v + m) (booked-read (third c))) x
     at_task.task_in c.set_cell-2.ensures)

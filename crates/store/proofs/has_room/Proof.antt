@@ -15,7 +15,7 @@ use Rattle.store.proofs.has_room.Tie as tie
 sub-result : tie.Need-overflow_sub-result
 sub-result c =
     let start = c in
-    let r = head_at start.args.plan.now start.requires.0.offset in
+    let r = head_at start.args.plan.now.words start.requires.0.offset in
     let fits = start.requires.1 in
     let bound = c.cell-bound.ensures in
     let total = c.cell-total.ensures in
@@ -24,12 +24,12 @@ sub-result c =
 returns : tie.Need-returns
 returns c =
     let start = c in
-    let r = head_at start.args.plan.now start.requires.0.offset in
+    let r = head_at start.args.plan.now.words start.requires.0.offset in
     let fits = start.requires.1 in
     let bound = c.cell-bound.ensures in
     let total = c.cell-total.ensures in
-    let all = (store_at start.args.store (contents start.args.plan.now)).total + start.args.units in
-    let most = (store_at start.args.store (contents start.args.plan.now)).bound in
+    let all = (store_at start.args.store (contents start.args.plan.now.words)).total + start.args.units in
+    let most = (store_at start.args.store (contents start.args.plan.now.words)).bound in
     ⊎_elim (λ h. le-leb _ _ h ∙ sym (le-leb all most (omega arith))) (λ h. lt-leb _ _ h ∙ sym (lt-leb all most (omega arith)))
     (le-or-lt start.args.units (c.cell-bound.result - c.cell-total.result))
 

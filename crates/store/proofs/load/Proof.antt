@@ -15,12 +15,12 @@ start c = c.before.before.before
 
 -- the store as it was
 abbrev was : tie.Start → StoreContents
-was c = store_at c.args.store (contents c.args.plan.now)
+was c = store_at c.args.store (contents c.args.plan.now.words)
 
-row : (c : tie.Start) → RowAt c.args.plan.now c.args.store c.args.task
+row : (c : tie.Start) → RowAt c.args.plan.now.words c.args.store c.args.task
 row c = row_at _ c.requires.0
 
-head : (c : tie.Start) → HeadAt c.args.plan.now c.args.store
+head : (c : tie.Start) → HeadAt c.args.plan.now.words c.args.store
 head c = head_at _ c.requires.0.offset
 
 add-set-cell-2 : tie.Need-overflow_add-work

@@ -8,7 +8,7 @@ use Rattle.store.proofs.missing.Tie as tie
 returns : tie.Need-returns
 returns c =
     let start = c in
-    let r = row_at start.args.plan.now start.requires in
+    let r = row_at start.args.plan.now.words start.requires in
     let need = c.cell.ensures in
     let figure = c.cell-2.ensures in
     let rest = c.less.ensures in

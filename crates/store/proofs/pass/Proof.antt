@@ -13,9 +13,9 @@ use Rattle.store.proofs.pass.Tie as tie
 
 -- the store as it was
 abbrev was : tie.Start → StoreContents
-was c = store_at c.args.store (contents c.args.plan.now)
+was c = store_at c.args.store (contents c.args.plan.now.words)
 
-row : (c : tie.Start) → RowAt c.args.plan.now c.args.store c.args.task
+row : (c : tie.Start) → RowAt c.args.plan.now.words c.args.store c.args.task
 row c = row_at _ c.requires.at_task
 
 sub-figure : tie.Need-overflow_sub-figure
@@ -66,7 +66,7 @@ returns c =
     let here = s.requires.at_task in
     let given = gift x s.args.left (was s) in (
       (figure-written
-          (booked-written (holds s.args.plan.now (kind_at s.args.store) here.long) here.offset (at (was s).booked x + given)
+          (booked-written (holds s.args.plan.now.words (kind_at s.args.store) here.long) here.offset (at (was s).booked x + given)
           (ap₂ (λ (a b : ℕ). a + b) (booked-read (last c)) (gift-read (last c))) x here.task_in c.set_cell.ensures)
           here.offset (at (was s).figures x - s.args.left + given)
           (ap₂ (λ (a b : ℕ). a - s.args.left + b) (figure-read (last c)) (gift-read (last c))) x here.task_in c.set_cell-2.ensures).same,

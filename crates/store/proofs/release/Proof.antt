@@ -14,15 +14,15 @@ use Rattle.store.proofs.release.Tie as tie
 
 -- the plan and its store as they were
 abbrev old : tie.Start → Contents
-old c = contents c.args.plan.now
+old c = contents c.args.plan.now.words
 
 abbrev was : tie.Start → StoreContents
 was c = store_at c.args.store (old c)
 
-row : (c : tie.Start) → RowAt c.args.plan.now c.args.store c.args.task
+row : (c : tie.Start) → RowAt c.args.plan.now.words c.args.store c.args.task
 row c = row_at _ c.requires.at_task
 
-head : (c : tie.Start) → HeadAt c.args.plan.now c.args.store
+head : (c : tie.Start) → HeadAt c.args.plan.now.words c.args.store
 head c = head_at _ c.requires.at_task.offset
 
 -- what is read
@@ -80,7 +80,7 @@ begin c = start (third c)
 
 written :
     (c : tie.After-set_cell-3)
-    → Held c.set_cell-3.new.plan (old (begin c)) (kind_at (begin c).args.store) (was (begin c)).total
+    → Held c.set_cell-3.new.self.words (old (begin c)) (kind_at (begin c).args.store) (was (begin c)).total
     ((was (begin c)).used - at (was (begin c)).needs (begin c).args.task + keeps (begin c))
     (set (was (begin c)).booked (begin c).args.task 0) (set (was (begin c)).figures (begin c).args.task 0)
 written c =
@@ -92,7 +92,7 @@ written c =
     let o = out-read (third c) in
     figure-written
     (booked-written
-    (used-written (holds s.args.plan.now (kind_at s.args.store) here.long) here.offset
+    (used-written (holds s.args.plan.now.words (kind_at s.args.store) here.long) here.offset
     ((was s).used - at (was s).needs x + keeps s) (omega arith) c.set_cell.ensures)
     here.offset 0 refl x here.task_in c.set_cell-2.ensures)
     here.offset 0 refl x here.task_in c.set_cell-3.ensures

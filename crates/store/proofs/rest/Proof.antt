@@ -14,7 +14,7 @@ sub-set-cell : tie.Need-overflow_sub-figure
 sub-set-cell c =
     let start = c in
     let here = start.requires.0 in
-    let r = row_at start.args.plan.now here in
+    let r = row_at start.args.plan.now.words here in
     let enough = start.requires.1 in
     let figure = c.cell-figure.ensures in
     omega arith
@@ -24,10 +24,10 @@ unfolding rested
 returns c =
     let start = c in
     let here = start.requires.0 in
-    let r = row_at start.args.plan.now here in
+    let r = row_at start.args.plan.now.words here in
     let figure = c.cell-figure.ensures in
     (figure-written (holds _ (kind_at start.args.store) here.long) here.offset
-    (at (store_at start.args.store (contents start.args.plan.now)).figures start.args.task - start.args.left) (omega arith)
+    (at (store_at start.args.store (contents start.args.plan.now.words)).figures start.args.task - start.args.left) (omega arith)
     start.args.task here.task_in c.set_cell.ensures).same
 
 pub rest_spec : {M : Type 1} → statement M

@@ -8,7 +8,7 @@ use Rattle.store.proofs.shortage.Tie as tie
 sub-less : tie.Need-overflow_sub-bound
 sub-less c =
     let start = c in
-    let r = head_at start.args.plan.now start.requires.0.offset in
+    let r = head_at start.args.plan.now.words start.requires.0.offset in
     let fits = start.requires.1 in
     let bound = c.cell-bound.ensures in
     let total = c.cell-total.ensures in
@@ -17,7 +17,7 @@ sub-less c =
 returns : tie.Need-returns
 returns c =
     let start = c in
-    let r = head_at start.args.plan.now start.requires.0.offset in
+    let r = head_at start.args.plan.now.words start.requires.0.offset in
     let fits = start.requires.1 in
     let bound = c.cell-bound.ensures in
     let total = c.cell-total.ensures in

@@ -31,24 +31,24 @@ cast-n : tie.Need-overflow_cast-n
 cast-n c = search rules
 
 -- the word read is n
-size_is : (c : tie.After-cell-n) → c.cell-n.result ≡ (contents c.args.plan.now).size
+size_is : (c : tie.After-cell-n) → c.cell-n.result ≡ (contents c.args.plan.now.words).size
 unfolding contents
 size_is c = c.cell-n.ensures
 
-ordered : (c : tie.After-cell-n) → RankedIn c.cell-n.result (contents c.args.plan.now)
-ordered c = subst (λ (n : ℕ). RankedIn n (contents c.args.plan.now)) (sym (size_is c)) c.requires
+ordered : (c : tie.After-cell-n) → RankedIn c.cell-n.result (contents c.args.plan.now.words)
+ordered c = subst (λ (n : ℕ). RankedIn n (contents c.args.plan.now.words)) (sym (size_is c)) c.requires
 
 ground-requires : tie.Need-ground-number-requires
 ground-requires c κs = ordered c
 
-ground-is : (c : tie.After-ground-number) → c.ground-number.result ≡ ground_of (contents c.args.plan.now)
+ground-is : (c : tie.After-ground-number) → c.ground-number.result ≡ ground_of (contents c.args.plan.now.words)
 ground-is c =
-    let k = contents c.args.plan.now in
+    let k = contents c.args.plan.now.words in
     c.ground-number.ensures ∙ ap (λ (n : ℕ). order_ground n (at k.parents) (take n k.activation)) (size_is c.before)
 
 returns : tie.Need-returns-then-number-ne0
 returns c =
-    let number = ground_of (contents c.args.plan.now) in (
+    let number = ground_of (contents c.args.plan.now.words) in (
       ground-is c.before,
       sym (untold (eqb number 0) _ (ne_eqb number 0 (λ e. c.if-number-ne0.true (ground-is c.before ∙ e)))),
     )
@@ -63,7 +63,7 @@ returns-2 : tie.Need-returns
 unfolding contents
 returns-2 c =
     let past = c in
-    let k = contents past.args.plan.now in
+    let k = contents past.args.plan.now.words in
     let none : ground_of k ≡ 0 = sym (ground-is past.before.before) ∙ past.if-number-ne0.false in (
       sym none,
       c.peak-peak.ensures

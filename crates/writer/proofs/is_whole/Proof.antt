@@ -33,14 +33,14 @@ unopened : tie.Need-returns-then-cell-eq-EMPTY
 unfolding contents
 unopened c =
     let s = c in
-    let w = s.args.plan.now in
+    let w = s.args.plan.now.words in
     rw (counted w s.requires, eq-eqb (contents w).phase Phase.empty (sym c.cell.ensures ∙ c.if-cell-eq-EMPTY.true))
 
 not-ranked : tie.Need-returns-then-cell-size
 unfolding contents
 not-ranked c =
     let s = c in
-    let w = s.args.plan.now in
+    let w = s.args.plan.now.words in
     rw (
       counted w s.requires,
       ne_eqb (contents w).phase Phase.empty (λ e. c.if-cell-eq-EMPTY.false (c.cell.ensures ∙ e)),
@@ -51,7 +51,7 @@ placed : tie.Need-returns
 unfolding contents
 placed c =
     let s = c in
-    let w = s.args.plan.now in
+    let w = s.args.plan.now.words in
     rw (
       counted w s.requires,
       ne_eqb (contents w).phase Phase.empty (λ e. c.if-cell-eq-EMPTY.false (c.cell.ensures ∙ e)),

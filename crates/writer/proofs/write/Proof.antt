@@ -19,7 +19,7 @@ use Rattle.writer.proofs.write.Tie as tie
 abbrev start : tie.After-is_whole → tie.Start
 start c = c.before.before
 
-whole : (c : tie.Else-not-is_whole) → WholePlan (start c.before).args.plan.now
+whole : (c : tie.Else-not-is_whole) → WholePlan (start c.before).args.plan.now.words
 whole c =
     record {
       valid = (start c.before).requires;
@@ -29,7 +29,7 @@ whole c =
 -- the room that is tested
 room-is :
     (c : tie.After-cell-n)
-    → 8 + 13 * c.cell-n.result ≡ writing.written_length (instance_of (plan_of (start c.before.before).args.plan.now))
+    → 8 + 13 * c.cell-n.result ≡ writing.written_length (instance_of (plan_of (start c.before.before).args.plan.now.words))
 unfolding contents writing.written_length
 room-is c = ap (λ (n : ℕ). 8 + 13 * n) c.cell-n.ensures
 

@@ -19,7 +19,7 @@ unfolding contents store_contents
 returns c =
     let put = c in
     let read = put in
-    let w = read.args.plan.now in
+    let w = read.args.plan.now.words in
     let n : read.before.before.cell-n.result ≡ (contents w).size = read.cell-n.ensures in
     let p : read.before.cell-p.result ≡ (contents w).processors = read.cell-p.ensures in
     let bound : read.cell-bound.result ≡ (contents w).stores.chilled.bound = read.cell-bound.ensures in

@@ -20,13 +20,13 @@ use Rattle.writer.proofs.write_order.Tie as tie
 
 abbrev invariant-loop : tie.invariant-loop-k
 invariant-loop plan order list₀ place n next₀ k₀ list next k =
-    (k ≤ n) × Put (flat_map bytes (map (next_in order) (take k (part order entries plan)))) place list₀ list next
+    (k ≤ n) × Put (flat_map bytes (map (next_in order) (take k (part order entries plan.words)))) place list₀ list next
 
 abbrev decreases-loop : tie.decreases-loop-k
 decreases-loop plan order list₀ place n next₀ k₀ list next k = n - k
 
 -- what is read
-size_is : (c : tie.After-cell-n invariant-loop decreases-loop) → c.cell-n.result ≡ (contents c.args.plan.now).size
+size_is : (c : tie.After-cell-n invariant-loop decreases-loop) → c.cell-n.result ≡ (contents c.args.plan.now.words).size
 unfolding contents
 size_is c = c.cell-n.ensures
 
@@ -35,7 +35,7 @@ unfolding flat_map
 loop-holds c = (omega arith, nothing _ _)
 
 -- another entry is written
-more : (c : tie.In-loop-k invariant-loop decreases-loop) → c.loop-k.k < (contents c.args.plan.now).size
+more : (c : tie.In-loop-k invariant-loop decreases-loop) → c.loop-k.k < (contents c.args.plan.now.words).size
 more c = let e = size_is c.before.before in let t = c.loop-k-test.true in omega arith
 
 entry-requires : tie.Need-entry-task-requires invariant-loop decreases-loop
@@ -64,7 +64,7 @@ loop-again : tie.Need-loop-k-preserved invariant-loop decreases-loop
 loop-again c =
     let turn = (read c).before in
     let s = turn.before.before.before.before in
-    let w = s.args.plan.now in
+    let w = s.args.plan.now.words in
     let order = s.args.order in
     let k = turn.before.loop-k.k in
     let inside : k < entries = (let m = more turn in let small = s.requires.small in omega arith) in
@@ -84,7 +84,7 @@ returns c =
     let e = size_is c.before.before in
     let left = c.loop-k-test.false in
     let low = loop.invariant.0 in
-    let all : loop.k ≡ (contents c.before.before.before.before.args.plan.now).size = omega arith in
+    let all : loop.k ≡ (contents c.before.before.before.before.args.plan.now.words).size = omega arith in
     rw all at loop.invariant.1
 
 pub write_order_spec : {M : Type 1} → statement M

@@ -17,7 +17,7 @@ use Rattle.writer.proofs.write_tasks.Tie as tie
 
 abbrev invariant-loop : tie.invariant-loop-task
 invariant-loop plan list₀ place n next₀ task₀ list next task =
-    (task ≤ n) × Put (flat_map bytes (tasks_to (instance_of (plan_of plan)) task)) place list₀ list next
+    (task ≤ n) × Put (flat_map bytes (tasks_to (instance_of (plan_of plan.words)) task)) place list₀ list next
 
 abbrev decreases-loop : tie.decreases-loop-task
 decreases-loop plan list₀ place n next₀ task₀ list next task = n - task
@@ -27,12 +27,12 @@ unfolding tasks_to flat_map
 loop-holds c = (omega arith, nothing _ _)
 
 -- what is read
-size_is : (c : tie.After-cell-n invariant-loop decreases-loop) → c.cell-n.result ≡ (contents c.args.plan.now).size
+size_is : (c : tie.After-cell-n invariant-loop decreases-loop) → c.cell-n.result ≡ (contents c.args.plan.now.words).size
 unfolding contents
 size_is c = c.cell-n.ensures
 
 -- another task is written
-is_task : (c : tie.In-loop-task invariant-loop decreases-loop) → Task (contents c.args.plan.now).size (c.loop-task.task + 1)
+is_task : (c : tie.In-loop-task invariant-loop decreases-loop) → Task (contents c.args.plan.now.words).size (c.loop-task.task + 1)
 is_task c =
     let e = size_is c.before.before in
     let more = c.loop-task-test.true in
@@ -62,7 +62,7 @@ returns c =
     let e = size_is c.before.before in
     let left = c.loop-task-test.false in
     let low = loop.invariant.0 in
-    let all : loop.task ≡ (contents c.before.before.before.before.args.plan.now).size = omega arith in
+    let all : loop.task ≡ (contents c.before.before.before.before.args.plan.now.words).size = omega arith in
     rw all at loop.invariant.1
 
 pub write_tasks_spec : {M : Type 1} → statement M

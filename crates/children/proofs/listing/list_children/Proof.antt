@@ -12,7 +12,7 @@ use Rattle.children.proofs.listing.list_children.Statement.{statement}
 use Rattle.children.proofs.listing.list_children.Tie as tie
 
 abbrev invariant-loop : tie.invariant-loop-i
-invariant-loop plan n scratch₀ i₀ scratch i = (i ≤ n) × ListedTo n i (at (contents plan).parents) scratch
+invariant-loop plan n scratch₀ i₀ scratch i = (i ≤ n) × ListedTo n i (at (contents plan.words).parents) scratch
 
 abbrev decreases-loop : tie.decreases-loop-i
 decreases-loop plan n scratch₀ i₀ scratch i = n - i
@@ -30,7 +30,7 @@ cell-requires c κs = let small = c.requires.parented.small in (omega arith, ome
 parent :
     (c : tie.After-cell-parent invariant-loop decreases-loop)
     → c.cell-parent.result
-    ≡ at (contents c.args.plan.now).parents (c.loop-i.i + 1)
+    ≡ at (contents c.args.plan.now.words).parents (c.loop-i.i + 1)
 parent c = let small = c.requires.parented.small in c.cell-parent.ensures ∙ parent-at _ _ (omega arith)
 
 low : (c : tie.After-cell-parent invariant-loop decreases-loop) → (c.cell-parent.result ≤ c.args.n) × (c.args.n ≤ max_tasks)

@@ -20,20 +20,20 @@ use Rattle.day.proofs.begin.begin.Tie as tie
 
 late : tie.Need-returns-then-not-is_in_turn
 late c =
-    let w = c.args.plan.now in
+    let w = c.args.plan.now.words in
     refusal 3 c.requires.0.sound c.refused.ensures (λ q. omega arith)
     (begin-late (contents w) c.requires.0.sound (lengths w) (sym c.is_in_turn.ensures ∙ c.if-not-is_in_turn.true))
     c.args.starts.now
 
 survey-requires : tie.Need-survey-surveyed-requires
 survey-requires c κs =
-    let w = c.args.plan.now in
+    let w = c.args.plan.now.words in
     may-survey (contents w) c.requires.0.sound (lengths w) c.requires.0.reached
     (sym c.is_in_turn.ensures ∙ c.if-not-is_in_turn.false)
 
 out_of_order : tie.Need-returns-then-surveyed-ne0
 out_of_order c =
-    let w = c.args.plan.now in
+    let w = c.args.plan.now.words in
     let valid = c.requires.0 in
     refusal c.survey-surveyed.result.number valid.sound c.refused-then-surveyed-ne0.ensures c.if-surveyed-ne0.true
     (surveyed-refused (contents w) valid.sound (lengths w) valid.reached
@@ -43,7 +43,7 @@ out_of_order c =
 over-the-bound : tie.Need-returns-then-bound-surveyed
 unfolding contents store_contents
 over-the-bound c =
-    let w = c.args.plan.now in
+    let w = c.args.plan.now.words in
     let valid = c.requires.0 in
     refusal 9 valid.sound c.refused-then-bound-surveyed.ensures (λ q. omega arith)
     (too-high (contents w) valid.sound (lengths w) valid.reached
@@ -57,7 +57,7 @@ module _ (c : tie.Else-bound-surveyed) where
   start = c.before.before.before.before.before.before.before.before.before
 
   abbrev w : List ℕ
-  w = start.args.plan.now
+  w = start.args.plan.now.words
 
   turn : begins (contents w) ≡ true
   turn = sym c.is_in_turn.ensures ∙ c.if-not-is_in_turn.false

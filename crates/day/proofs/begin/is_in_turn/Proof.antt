@@ -16,13 +16,13 @@ use Rattle.day.proofs.begin.is_in_turn.Tie as tie
 other-phase : tie.Need-returns-then-cell-ne-ORDERS
 unfolding contents begins
 other-phase c =
-    let w = c.args.plan.now in
+    let w = c.args.plan.now.words in
     rw (ne_eqb (contents w).phase Phase.orders (λ e. c.if-cell-ne-ORDERS.true (c.cell.ensures ∙ e)))
 
 not-ranked : tie.Need-returns-then-cell-size
 unfolding contents begins
 not-ranked c =
-    let w = c.args.plan.now in
+    let w = c.args.plan.now.words in
     rw (
       eq-eqb (contents w).phase Phase.orders (sym c.cell.ensures ∙ c.if-cell-ne-ORDERS.false),
       ne_eqb (contents w).ranked (contents w).size (λ e. c.if-cell-size.true (c.cell-2.ensures ∙ e ∙ sym c.cell-size.ensures)),
@@ -31,7 +31,7 @@ not-ranked c =
 -- what both ways out know that are left: the plan is in orders, with a full activation order
 module _ (c : tie.After-cell-placed) where
   abbrev w : List ℕ
-  w = c.args.plan.now
+  w = c.args.plan.now.words
 
   is-orders : eqb (contents w).phase Phase.orders ≡ true
   unfolding contents

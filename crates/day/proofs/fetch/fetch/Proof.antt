@@ -18,11 +18,11 @@ unfolding contents
 late c =
     let s = c in
     refusal 3 s.requires.sound c.refused.ensures (λ q. omega arith)
-    (fetch-late (contents s.args.plan.now) (λ e. c.if-cell-ne-READY.true (c.cell.ensures ∙ e)))
+    (fetch-late (contents s.args.plan.now.words) (λ e. c.if-cell-ne-READY.true (c.cell.ensures ∙ e)))
 
 -- the trolley stands loaded
 in-ready :
-    (c : tie.Else-cell-ne-READY) → (contents c.args.plan.now).phase ≡ Phase.ready
+    (c : tie.Else-cell-ne-READY) → (contents c.args.plan.now.words).phase ≡ Phase.ready
 unfolding contents
 in-ready c = sym c.cell.ensures ∙ c.if-cell-ne-READY.false
 
@@ -34,7 +34,7 @@ hold-alone-requires c κs =
     let r = c in
     let e = r in
     let s = e in
-    let t = root-task (contents s.args.plan.now) s.requires.reached s.requires.sound (in-ready e.before.before) in
+    let t = root-task (contents s.args.plan.now.words) s.requires.reached s.requires.sound (in-ready e.before.before) in
     let high = t.high in
     let small = s.requires.sound.small in
     let is = r.root-task.ensures in
@@ -47,9 +47,9 @@ fetches-there c =
     let r = h in
     let e = r in
     let s = e in
-    let w = s.args.plan.now in
+    let w = s.args.plan.now.words in
     acceptance (fetch-free (contents w) s.requires.reached s.requires.sound (in-ready e.before.before.before.before.before.before)) c.plain.ensures
-    ((wrote-head h.hold_alone.new.plan 0 Phase.over (ap (λ (d : Contents). d.extent) h.hold_alone.ensures ∙ s.requires.sound.long) (omega arith)
+    ((wrote-head h.hold_alone.new.plan.words 0 Phase.over (ap (λ (d : Contents). d.extent) h.hold_alone.ensures ∙ s.requires.sound.long) (omega arith)
     c.set_cell.ensures).0
     ∙ ap (with_head 0 Phase.over) h.hold_alone.ensures
     ∙ ap (λ (i : ℕ). made_over i (contents w)) r.root-task.ensures)

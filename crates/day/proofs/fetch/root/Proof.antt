@@ -15,7 +15,7 @@ sub-entry : tie.Need-overflow_sub-size
 unfolding contents
 sub-entry c =
     let s = c in
-    let t = root-task (contents s.args.plan.now) s.requires.0.reached s.requires.0.sound s.requires.1 in
+    let t = root-task (contents s.args.plan.now.words) s.requires.0.reached s.requires.0.sound s.requires.1 in
     let low = t.low in
     let high = t.high in
     let size = c.cell-size.ensures in
@@ -33,7 +33,7 @@ returns : tie.Need-returns
 unfolding contents
 returns c =
     let s = c in
-    let w = s.args.plan.now in
+    let w = s.args.plan.now.words in
     let t = root-task (contents w) s.requires.0.reached s.requires.0.sound s.requires.1 in
     let small = s.requires.0.sound.small in
     let low = t.low in

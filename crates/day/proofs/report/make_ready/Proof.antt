@@ -16,7 +16,7 @@ unfolding contents made_ready root_ended ended with_progress with_store
 returns c =
     let k = c in
     let s = k in
-    let w = k.end_root.new.plan in
+    let w = k.end_root.new.plan.words in
     (wrote-head w 0 Phase.ready (ap (λ (d : Contents). d.extent) k.end_root.ensures ∙ s.requires.long) (omega arith) c.set_cell.ensures).0
     ∙ ap (with_head 0 Phase.ready) k.end_root.ensures
 

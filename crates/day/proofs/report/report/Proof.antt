@@ -29,12 +29,12 @@ module _ (c : tie.Else-ground-ne0) where
   start = c.before.before.before
 
   abbrev w : List ℕ
-  w = start.args.plan.now
+  w = start.args.plan.now.words
 
   abbrev task : ℕ
   task = start.args.task
 
-  abbrev valid : ValidPlan start.args.plan.now
+  abbrev valid : ValidPlan start.args.plan.now.words
   valid = start.requires.0
 
   none : ground_for (plan_of w) (done task) ≡ 0

@@ -19,13 +19,13 @@ use Rattle.day.proofs.report.report_ground.Tie as tie
 late : tie.Need-returns-then-cell-ne-RUNNING
 unfolding contents
 late c =
-    sym (report-late (contents c.args.plan.now) c.args.task (λ e. c.if-cell-ne-RUNNING.true (c.cell.ensures ∙ e)))
+    sym (report-late (contents c.args.plan.now.words) c.args.task (λ e. c.if-cell-ne-RUNNING.true (c.cell.ensures ∙ e)))
 
 outside : tie.Need-returns-then-not-is_within
 unfolding contents
 outside c =
     sym
-    (report-outside (contents c.args.plan.now) c.args.task (sym c.cell.ensures ∙ c.if-cell-ne-RUNNING.false)
+    (report-outside (contents c.args.plan.now.words) c.args.task (sym c.cell.ensures ∙ c.if-cell-ne-RUNNING.false)
     (ap (within c.args.task) (sym c.cell-2.ensures) ∙ sym c.is_within.ensures ∙ c.if-not-is_within.true))
 
 -- the task is in the rows, and its standing is read there
@@ -41,7 +41,7 @@ cell-requires-3 : tie.Need-cell-requires-3
 unfolding contents
 cell-requires-3 c κs =
     let low =
-    task_in c.args.plan.now c.requires c.args.task c.cell-2.result c.cell-2.ensures
+    task_in c.args.plan.now.words c.requires c.args.task c.cell-2.result c.cell-2.ensures
     (sym c.is_within.ensures ∙ c.if-not-is_within.false)
     in
     (omega arith, omega arith)
@@ -49,7 +49,7 @@ cell-requires-3 c κs =
 idle : tie.Need-returns-then-cell-ne-STARTED
 unfolding contents
 idle c =
-    let w = c.args.plan.now in
+    let w = c.args.plan.now.words in
     let inside = sym c.is_within.ensures ∙ c.if-not-is_within.false in
     sym
     (report-idle (contents w) c.args.task (sym c.cell.ensures ∙ c.if-cell-ne-RUNNING.false) c.requires.sound
@@ -61,7 +61,7 @@ idle c =
 free : tie.Need-returns
 unfolding contents
 free c =
-    let w = c.args.plan.now in
+    let w = c.args.plan.now.words in
     let inside = sym c.is_within.ensures ∙ c.if-not-is_within.false in
     sym
     (report-free (contents w) c.args.task (sym c.cell.ensures ∙ c.if-cell-ne-RUNNING.false) c.requires.sound

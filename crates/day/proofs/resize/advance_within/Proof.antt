@@ -13,11 +13,11 @@ use Rattle.day.proofs.resize.advance_within.Tie as tie
 -- the words with the new bound
 bound-is :
     (c : tie.After-set_cell)
-    → contents c.set_cell.new.plan ≡ with_bound c.args.bound (contents c.args.plan.now)
+    → contents c.set_cell.new.self.words ≡ with_bound c.args.bound (contents c.args.plan.now.words)
 unfolding contents with_bound
 bound-is c =
     let s = c in
-    (wrote-head s.args.plan.now chilled s.args.bound s.requires.kept.cached.long (omega arith) c.set_cell.ensures).0
+    (wrote-head s.args.plan.now.words chilled s.args.bound s.requires.kept.cached.long (omega arith) c.set_cell.ensures).0
 
 advance-requires : tie.Need-advance-requires
 advance-requires c κs =

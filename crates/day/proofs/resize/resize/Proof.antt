@@ -18,14 +18,14 @@ refuses c =
     (sym asked.resize_ground-ground.ensures) s.args.starts.now
 
 -- no ground is left
-none : (c : tie.Else-ground-ne0) → ground_for (plan_of c.args.plan.now) (places c.args.bound) ≡ 0
+none : (c : tie.Else-ground-ne0) → ground_for (plan_of c.args.plan.now.words) (places c.args.bound) ≡ 0
 none c = sym c.resize_ground-ground.ensures ∙ c.if-ground-ne0.false
 
 advance-within-requires : tie.Need-advance_within-started-requires
 advance-within-requires c κs =
     let e = c in
     let s = e in
-    may-resize (contents s.args.plan.now) s.requires.0.reached s.requires.0.sound s.args.bound s.ranges.bound.fits (none e.before.before)
+    may-resize (contents s.args.plan.now.words) s.requires.0.reached s.requires.0.sound s.args.bound s.ranges.bound.fits (none e.before.before)
     s.args.starts.now s.requires.1
 
 taken : tie.Need-returns
@@ -33,7 +33,7 @@ taken c =
     let advanced = c in
     let e = advanced in
     let s = e in
-    let w = s.args.plan.now in
+    let w = s.args.plan.now.words in
     judged (none e.before.before.before.before.before) refl
     (resize-answers (contents w) s.requires.0.reached s.requires.0.sound s.args.bound s.ranges.bound.fits (none e.before.before.before.before.before)
     advanced.advance_within-started.ensures s.args.used)

@@ -13,24 +13,24 @@ late : tie.Need-returns-then-cell-ne-RUNNING
 unfolding contents
 late c =
     let s = c in
-    sym (resize-late (contents s.args.plan.now) s.args.bound (λ e. c.if-cell-ne-RUNNING.true (c.cell.ensures ∙ e)))
+    sym (resize-late (contents s.args.plan.now.words) s.args.bound (λ e. c.if-cell-ne-RUNNING.true (c.cell.ensures ∙ e)))
 
 -- in turn
-in-running : (c : tie.Else-cell-ne-RUNNING) → (contents c.args.plan.now).phase ≡ Phase.running
+in-running : (c : tie.Else-cell-ne-RUNNING) → (contents c.args.plan.now.words).phase ≡ Phase.running
 unfolding contents
 in-running c = sym c.cell.ensures ∙ c.if-cell-ne-RUNNING.false
 
 survey-requires : tie.Need-survey-surveyed-requires
 survey-requires c κs =
     let s = c in
-    may-survey (contents s.args.plan.now) (lengths s.args.plan.now) s.requires.reached s.requires.sound (in-running c)
+    may-survey (contents s.args.plan.now.words) (lengths s.args.plan.now.words) s.requires.reached s.requires.sound (in-running c)
 
 too-high : tie.Need-returns-then-bound-surveyed
 too-high c =
     let surveyed = c in
     let s = surveyed in
     sym
-    (resize-high (contents s.args.plan.now) (lengths s.args.plan.now) s.requires.reached s.requires.sound (in-running surveyed.before.before.before)
+    (resize-high (contents s.args.plan.now.words) (lengths s.args.plan.now.words) s.requires.reached s.requires.sound (in-running surveyed.before.before.before)
     s.args.bound s.ranges.bound.fits surveyed.survey-surveyed.ensures.1 (omega (arith, c.if-bound-surveyed.true)))
 
 below-booked : tie.Need-returns-then-bound-cell
@@ -40,7 +40,7 @@ below-booked c =
     let surveyed = above in
     let s = surveyed in
     sym
-    (resize-booked (contents s.args.plan.now) (lengths s.args.plan.now) s.requires.reached s.requires.sound (in-running surveyed.before.before.before.before.before)
+    (resize-booked (contents s.args.plan.now.words) (lengths s.args.plan.now.words) s.requires.reached s.requires.sound (in-running surveyed.before.before.before.before.before)
     s.args.bound s.ranges.bound.fits surveyed.survey-surveyed.ensures.1 (omega (arith, above.if-bound-surveyed.false))
     (omega (arith, c.if-bound-cell.true, c.cell-2.ensures)))
 
@@ -51,7 +51,7 @@ free c =
     let surveyed = above in
     let s = surveyed in
     sym
-    (resize-free (contents s.args.plan.now) (lengths s.args.plan.now) s.requires.reached s.requires.sound (in-running surveyed.before.before.before.before.before)
+    (resize-free (contents s.args.plan.now.words) (lengths s.args.plan.now.words) s.requires.reached s.requires.sound (in-running surveyed.before.before.before.before.before)
     s.args.bound s.ranges.bound.fits surveyed.survey-surveyed.ensures.1 (omega (arith, above.if-bound-surveyed.false))
     (omega (arith, c.if-bound-cell.false, c.cell-2.ensures)))
 

@@ -15,7 +15,7 @@ use Rattle.desk.proofs.room.is_distinct.Statement.{statement}
 use Rattle.desk.proofs.room.is_distinct.Tie as tie
 
 abbrev invariant-loop : tie.invariant-loop-k
-invariant-loop room activation k₀ k = Seen activation (contents room).ranks k
+invariant-loop room activation k₀ k = Seen activation (contents room.words).ranks k
 
 abbrev decreases-loop : tie.decreases-loop-k
 decreases-loop room activation k₀ k = length activation - k
@@ -48,7 +48,7 @@ cell-requires c κs = (omega (arith, task c.before, few c.before), omega arith)
 rank_is :
     (c : tie.After-cell invariant-loop decreases-loop)
     → c.cell.result
-    ≡ at (contents c.args.room.now).ranks
+    ≡ at (contents c.args.room.now.words).ranks
     (at c.args.activation.now c.loop-k.k)
 rank_is c =
     c.cell.ensures ∙ rank-at _ _ (omega (arith, task c.before.before, few c.before.before))

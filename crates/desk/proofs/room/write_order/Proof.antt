@@ -9,7 +9,7 @@ use Rattle.desk.proofs.room.write_order.Statement.{statement}
 use Rattle.desk.proofs.room.write_order.Tie as tie
 
 abbrev invariant-loop : tie.invariant-loop-k
-invariant-loop room₀ activation k₀ room k = Writing activation room₀ room k
+invariant-loop room₀ activation k₀ room k = Writing activation room₀.words room.words k
 
 abbrev decreases-loop : tie.decreases-loop-k
 decreases-loop room₀ activation k₀ room k = length activation - k

@@ -9,7 +9,7 @@ use Rattle.desk.proofs.room.write_rows.Statement.{statement}
 use Rattle.desk.proofs.room.write_rows.Tie as tie
 
 abbrev invariant-loop : tie.invariant-loop-i
-invariant-loop room₀ n parents works outs i₀ room i = Rowing n parents works outs room i
+invariant-loop room₀ n parents works outs i₀ room i = Rowing n parents works outs room.words i
 
 abbrev decreases-loop : tie.decreases-loop-i
 decreases-loop room₀ n parents works outs i₀ room i = n - i

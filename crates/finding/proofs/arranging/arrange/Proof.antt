@@ -11,8 +11,8 @@ use Rattle.finding.proofs.arranging.arrange.Tie as tie
 
 abbrev invariant-loop : tie.invariant-loop-k
 invariant-loop plan scratch₀ n k₀ scratch k =
-    ArrangedFrom (contents plan).size (at (contents plan).parents) (at (contents plan).stores.chilled.works)
-    (at (contents plan).stores.chilled.outs) scratch₀ scratch k
+    ArrangedFrom (contents plan.words).size (at (contents plan.words).parents) (at (contents plan.words).stores.chilled.works)
+    (at (contents plan.words).stores.chilled.outs) scratch₀ scratch k
 
 abbrev decreases-loop : tie.decreases-loop-k
 decreases-loop plan scratch₀ n k₀ scratch k = k

@@ -18,7 +18,7 @@ refused-requires : tie.Need-refused-requires
 refused-requires c κs = search rules
 
 -- the word read is the phase
-phase_is : (c : tie.After-cell) → c.cell.result ≡ (contents c.args.plan.now).phase
+phase_is : (c : tie.After-cell) → c.cell.result ≡ (contents c.args.plan.now.words).phase
 unfolding contents
 phase_is c = c.cell.ensures
 
@@ -35,10 +35,10 @@ cast-n : tie.Need-overflow_cast-n
 cast-n c = search rules
 
 -- all tasks are given; the word read is n
-given : (c : tie.Else-cell-lt-ORDERS) → Phase.orders ≤ (contents c.args.plan.now).phase
+given : (c : tie.Else-cell-lt-ORDERS) → Phase.orders ≤ (contents c.args.plan.now.words).phase
 given c = rw (phase_is c.before) at c.if-cell-lt-ORDERS.false
 
-size_is : (c : tie.After-cell-n) → c.cell-n.result ≡ (contents c.args.plan.now).size
+size_is : (c : tie.After-cell-n) → c.cell-n.result ≡ (contents c.args.plan.now.words).size
 unfolding contents
 size_is c = c.cell-n.ensures
 
@@ -52,8 +52,8 @@ refused-requires-2 c κs = search rules
 roots-are :
     (c : tie.After-roots)
     → c.roots.result
-    ≡ roots (contents c.args.plan.now).size
-    (at (contents c.args.plan.now).parents)
+    ≡ roots (contents c.args.plan.now.words).size
+    (at (contents c.args.plan.now.words).parents)
 roots-are c = rw (size_is c.before) at c.roots.ensures
 
 returns-2 : tie.Need-returns-then-roots-ne1

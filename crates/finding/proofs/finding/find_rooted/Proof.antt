@@ -14,7 +14,7 @@ cast-n : tie.Need-overflow_cast-n
 cast-n c = search rules
 
 -- the word read is n
-size_is : (c : tie.After-cell-n) → c.cell-n.result ≡ (contents c.args.plan.now).size
+size_is : (c : tie.After-cell-n) → c.cell-n.result ≡ (contents c.args.plan.now.words).size
 unfolding contents
 size_is c = c.cell-n.ensures
 

@@ -17,7 +17,7 @@ use Rattle.finding.proofs.joining.subtree_peak.Tie as tie
 
 abbrev invariant-loop : tie.invariant-loop-child
 invariant-loop plan scratch task best₀ level₀ child₀ best level child =
-    Weighing (at (contents plan).stores.chilled.works) (at (contents plan).stores.chilled.outs) scratch task best level child
+    Weighing (at (contents plan.words).stores.chilled.works) (at (contents plan.words).stores.chilled.outs) scratch task best level child
 
 abbrev decreases-loop : tie.decreases-loop-child
 decreases-loop plan scratch task best₀ level₀ child₀ best level child = length (linked_from scratch child)
@@ -57,7 +57,7 @@ cast-level c = omega arith
 out :
     (c : tie.After-cell invariant-loop decreases-loop)
     → c.cell.result
-    ≡ at (contents c.args.plan.now).stores.chilled.outs
+    ≡ at (contents c.args.plan.now.words).stores.chilled.outs
     c.loop-child.child
 unfolding contents
 out c = let t = child c.before.before.before in c.cell.ensures ∙ out_at _ _ (omega arith) chilled
@@ -111,14 +111,14 @@ cast-out c = omega arith
 own-work :
     (c : tie.After-cell-work invariant-loop decreases-loop)
     → c.cell-work.result
-    ≡ at (contents c.args.plan.now).stores.chilled.works c.args.task
+    ≡ at (contents c.args.plan.now.words).stores.chilled.works c.args.task
 unfolding contents
 own-work c = let t = task c.before in c.cell-work.ensures ∙ work-at _ _ (omega arith) chilled
 
 own_out :
     (c : tie.After-cell-out invariant-loop decreases-loop)
     → c.cell-out.result
-    ≡ at (contents c.args.plan.now).stores.chilled.outs
+    ≡ at (contents c.args.plan.now.words).stores.chilled.outs
     c.args.task
 unfolding contents
 own_out c = let t = task c.before.before in c.cell-out.ensures ∙ out_at _ _ (omega arith) chilled

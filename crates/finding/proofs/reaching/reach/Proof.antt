@@ -9,10 +9,10 @@ use Rattle.finding.proofs.reaching.reach.Tie as tie
 
 abbrev invariant-loop : tie.invariant-loop-k
 invariant-loop plan scratch₀ root count₀ k₀ scratch count k =
-    Reaching (contents plan).size (at (contents plan).parents) root scratch₀ scratch count k
+    Reaching (contents plan.words).size (at (contents plan.words).parents) root scratch₀ scratch count k
 
 abbrev decreases-loop : tie.decreases-loop-k
-decreases-loop plan scratch₀ root count₀ k₀ scratch count k = (contents plan).size - k
+decreases-loop plan scratch₀ root count₀ k₀ scratch count k = (contents plan.words).size - k
 
 get-requires : tie.Need-get-root-requires invariant-loop decreases-loop
 get-requires c κs = omega arith

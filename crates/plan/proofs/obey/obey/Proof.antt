@@ -8,7 +8,7 @@ use Rattle.plan.proofs.obey.obey.Tie as tie
 nothing : tie.Need-returns-in-Refused
 nothing c =
     as-refused c.in-Refused.is
-    (not-a-command c.args.plan.now _ c.args.starts.now c.refused.result c.requires.0 c.requires.1 c.refused.ensures)
+    (not-a-command c.args.plan.now.words _ c.args.starts.now c.refused.result c.requires.0 c.requires.1 c.refused.ensures)
 
 -- the commands that start nothing
 opens : tie.Need-returns-in-Plan

@@ -18,7 +18,7 @@ late-requires c κs = c.requires.parented
 
 -- past 7: there is one root
 one-root :
-    (c : tie.Else-roots-ne1) → roots c.args.n (at (contents c.args.plan.now).parents) ≡ 1
+    (c : tie.Else-roots-ne1) → roots c.args.n (at (contents c.args.plan.now.words).parents) ≡ 1
 one-root c = sym c.roots.ensures ∙ c.if-roots-ne1.false
 
 returns-2 : tie.Need-returns-then-late-ne0

@@ -20,7 +20,7 @@ cast-parent c = search rules
 
 -- the first word read is the parent
 parent :
-    (c : tie.After-cell-parent) → c.cell-parent.result ≡ at (contents c.args.plan.now).parents c.args.task
+    (c : tie.After-cell-parent) → c.cell-parent.result ≡ at (contents c.args.plan.now.words).parents c.args.task
 parent c = c.cell-parent.ensures ∙ parent-at _ _ (omega arith)
 
 returns : tie.Need-returns-then-parent-eq0
@@ -38,7 +38,7 @@ unfolding is_late
 returns-2 c =
     let child = c in
     let start = child in
-    let w = start.args.plan.now in
+    let w = start.args.plan.now.words in
     let up = at (contents w).parents start.args.task in
     let p = parent child.before.before.before in
     let above : c.cell.result ≡ at (contents w).ranks up =

@@ -11,7 +11,7 @@ use Rattle.survey.proofs.checks.late.Tie as tie
 
 abbrev invariant-loop : tie.invariant-loop-i
 invariant-loop plan n found₀ i₀ found i =
-    CountedTo (is_late (at (contents plan).parents) (at (contents plan).ranks)) n i found
+    CountedTo (is_late (at (contents plan.words).parents) (at (contents plan.words).ranks)) n i found
 
 abbrev decreases-loop : tie.decreases-loop-i
 decreases-loop plan n found₀ i₀ found i = n - i

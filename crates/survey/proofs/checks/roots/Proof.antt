@@ -13,7 +13,7 @@ use Rattle.survey.proofs.checks.roots.Statement.{statement}
 use Rattle.survey.proofs.checks.roots.Tie as tie
 
 abbrev invariant-loop : tie.invariant-loop-i
-invariant-loop plan n found₀ i₀ found i = CountedTo (λ j. eqb (at (contents plan).parents j) 0) n i found
+invariant-loop plan n found₀ i₀ found i = CountedTo (λ j. eqb (at (contents plan.words).parents j) 0) n i found
 
 abbrev decreases-loop : tie.decreases-loop-i
 decreases-loop plan n found₀ i₀ found i = n - i
@@ -37,7 +37,7 @@ loop-less c = omega arith
 parent :
     (c : tie.After-cell invariant-loop decreases-loop)
     → c.cell.result
-    ≡ at (contents c.args.plan.now).parents (c.loop-i.i + 1)
+    ≡ at (contents c.args.plan.now.words).parents (c.loop-i.i + 1)
 parent c = c.cell.ensures ∙ parent-at _ _ (omega arith)
 
 loop-again : tie.Need-loop-i-preserved-then-cell-eq0 invariant-loop decreases-loop

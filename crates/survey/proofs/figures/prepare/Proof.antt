@@ -11,7 +11,7 @@ use Rattle.survey.proofs.figures.prepare.Statement.{statement}
 use Rattle.survey.proofs.figures.prepare.Tie as tie
 
 abbrev invariant-loop : tie.invariant-loop-i
-invariant-loop plan₀ n i₀ plan i = WeighedTo (contents plan₀) i (contents plan)
+invariant-loop plan₀ n i₀ plan i = WeighedTo (contents plan₀.words) i (contents plan.words)
 
 abbrev decreases-loop : tie.decreases-loop-i
 decreases-loop plan₀ n i₀ plan i = n - i
@@ -20,7 +20,7 @@ cell-requires : tie.Need-cell-n-requires invariant-loop decreases-loop
 cell-requires c κs = (omega arith, omega arith)
 
 -- the word read is n
-size_is : (c : tie.After-cell-n invariant-loop decreases-loop) → c.cell-n.result ≡ (contents c.args.plan.now).size
+size_is : (c : tie.After-cell-n invariant-loop decreases-loop) → c.cell-n.result ≡ (contents c.args.plan.now.words).size
 unfolding contents
 size_is c = c.cell-n.ensures
 
@@ -30,13 +30,13 @@ cast-n c = omega (arith, size_is c, c.requires.small)
 loop-holds : tie.Need-loop-i-init invariant-loop decreases-loop
 loop-holds c =
     let start = c in
-    let long = lengths start.args.plan.now in
+    let long = lengths start.args.plan.now.words in
     weighed-none _ start.requires (long.needs chilled) long.unended
 
 -- a task is left
 some_left :
     (c : tie.In-loop-i invariant-loop decreases-loop)
-    → c.loop-i.i < (contents c.args.plan.now).size
+    → c.loop-i.i < (contents c.args.plan.now.words).size
 some_left c = let size = size_is c.before.before in omega arith
 
 add-i : tie.Need-overflow_add-i invariant-loop decreases-loop
@@ -59,7 +59,7 @@ returns : tie.Need-returns invariant-loop decreases-loop
 returns c =
     let size = size_is c.before.before in
     let start = c in
-    let long = lengths start.args.plan.now in
+    let long = lengths start.args.plan.now.words in
     prepared _ start.requires long.standings long.booked _ _ c.loop-i.invariant (omega arith)
 
 pub prepare_spec : {M : Type 1} → statement M

@@ -35,24 +35,24 @@ start c = c.before.before.before
 parent :
     (c : tie.After-cell-out)
     → c.cell-parent.result
-    ≡ at (contents (start c).args.plan.now).parents (start c).args.task
+    ≡ at (contents (start c).args.plan.now.words).parents (start c).args.task
 parent c =
     c.cell-parent.ensures
-    ∙ parent-at (start c).args.plan.now (start c).args.task (start c).requires.here
+    ∙ parent-at (start c).args.plan.now.words (start c).args.task (start c).requires.here
 
 work :
     (c : tie.After-cell-out)
-    → c.cell-work.result ≡ at (contents (start c).args.plan.now).stores.chilled.works (start c).args.task
+    → c.cell-work.result ≡ at (contents (start c).args.plan.now.words).stores.chilled.works (start c).args.task
 unfolding contents
 work c =
     c.cell-work.ensures
-    ∙ work-at (start c).args.plan.now (start c).args.task (start c).requires.here chilled
+    ∙ work-at (start c).args.plan.now.words (start c).args.task (start c).requires.here chilled
 
 out :
     (c : tie.After-cell-out)
-    → c.cell-out.result ≡ at (contents (start c).args.plan.now).stores.chilled.outs (start c).args.task
+    → c.cell-out.result ≡ at (contents (start c).args.plan.now.words).stores.chilled.outs (start c).args.task
 unfolding contents
-out c = c.cell-out.ensures ∙ out_at (start c).args.plan.now (start c).args.task (start c).requires.here chilled
+out c = c.cell-out.ensures ∙ out_at (start c).args.plan.now.words (start c).args.task (start c).requires.here chilled
 
 add-add : tie.Need-overflow_add-add
 add-add c = search rules

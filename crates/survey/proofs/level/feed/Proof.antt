@@ -11,7 +11,7 @@ use Rattle.survey.proofs.level.feed.Statement.{statement}
 use Rattle.survey.proofs.level.feed.Tie as tie
 
 abbrev invariant-loop : tie.invariant-loop-i
-invariant-loop plan store n fed₀ i₀ fed i = Feeding n (at (contents plan).parents) (at (store_contents store plan).outs) i fed
+invariant-loop plan store n fed₀ i₀ fed i = Feeding n (at (contents plan.words).parents) (at (store_contents store plan.words).outs) i fed
 
 abbrev decreases-loop : tie.decreases-loop-i
 decreases-loop plan store n fed₀ i₀ fed i = n - i
@@ -29,7 +29,7 @@ cell-requires c κs = let small = c.requires.parented.small in (omega arith, ome
 parent :
     (c : tie.After-cell-parent invariant-loop decreases-loop)
     → c.cell-parent.result
-    ≡ at (contents c.args.plan.now).parents (c.loop-i.i + 1)
+    ≡ at (contents c.args.plan.now.words).parents (c.loop-i.i + 1)
 parent c = let small = c.requires.parented.small in c.cell-parent.ensures ∙ parent-at _ _ (omega arith)
 
 low : (c : tie.After-cell-parent invariant-loop decreases-loop) → (c.cell-parent.result ≤ c.args.n) × (c.args.n ≤ max_tasks)
@@ -78,7 +78,7 @@ loop-again c =
     let read = c in
     let turn = read in
     let args = turn.args in
-    let out = c.cell-out.ensures ∙ out_at args.plan.now (turn.loop-i.i + 1) (omega (arith, low read.before.before.before)) args.store in
+    let out = c.cell-out.ensures ∙ out_at args.plan.now.words (turn.loop-i.i + 1) (omega (arith, low read.before.before.before)) args.store in
     fed-next _ _ _ _ _ turn.loop-i.invariant _ _ (parent read.before.before.before) out (omega arith) (low read.before.before.before).0 (omega arith)
 
 returns : tie.Need-returns invariant-loop decreases-loop

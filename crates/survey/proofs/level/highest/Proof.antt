@@ -18,8 +18,8 @@ use Rattle.survey.proofs.level.highest.Tie as tie
 
 abbrev invariant-loop : tie.invariant-loop-k
 invariant-loop plan store n fed first best₀ level₀ k₀ best level k =
-    RunSoFar n (at (contents plan).parents) (at (store_contents store plan).works) (at (store_contents store plan).outs)
-    (contents plan).activation k level (meant best)
+    RunSoFar n (at (contents plan.words).parents) (at (store_contents store plan.words).works) (at (store_contents store plan.words).outs)
+    (contents plan.words).activation k level (meant best)
 
 abbrev decreases-loop : tie.decreases-loop-k
 decreases-loop plan store n fed first best₀ level₀ k₀ best level k = n - k
@@ -29,10 +29,10 @@ abbrev start : tie.After-entry-x invariant-loop decreases-loop → tie.Start inv
 start c = c.before.before.before.before
 
 -- the order has an entry for each task
-long : (c : tie.Start invariant-loop decreases-loop) → (c.args.n ≤ max_tasks) × (c.args.n ≤ length (contents c.args.plan.now).activation)
+long : (c : tie.Start invariant-loop decreases-loop) → (c.args.n ≤ max_tasks) × (c.args.n ≤ length (contents c.args.plan.now.words).activation)
 long c =
     let small = c.requires.order.parented.small in
-    let whole = (lengths c.args.plan.now).activation in
+    let whole = (lengths c.args.plan.now.words).activation in
     (small, omega arith)
 
 entry-requires : tie.Need-entry-first-requires invariant-loop decreases-loop
@@ -40,7 +40,7 @@ entry-requires c κs = omega arith
 
 -- the first entry of the order, which is a task
 first-is :
-    (c : tie.After-entry-first invariant-loop decreases-loop) → c.entry-first.result ≡ at (contents c.args.plan.now).activation 0
+    (c : tie.After-entry-first invariant-loop decreases-loop) → c.entry-first.result ≡ at (contents c.args.plan.now.words).activation 0
 first-is c = c.entry-first.ensures ∙ activation-at _ _ (omega arith)
 
 cast-first : tie.Need-overflow_cast-first invariant-loop decreases-loop
@@ -61,7 +61,7 @@ entry-requires-2 c κs = omega (arith, long c.before.before.before)
 -- the word read is the entry of the order, which is a task
 entry-is :
     (c : tie.After-entry-x invariant-loop decreases-loop)
-    → c.entry-x.result ≡ at (contents (start c).args.plan.now).activation c.loop-k.k
+    → c.entry-x.result ≡ at (contents (start c).args.plan.now.words).activation c.loop-k.k
 entry-is c = let small = long (start c) in c.entry-x.ensures ∙ activation-at _ _ (omega arith)
 
 task : (c : tie.After-entry-x invariant-loop decreases-loop) → Task (start c).args.n c.entry-x.result
@@ -110,8 +110,8 @@ element-copy-out-level c = let read = c in omega (arith, task read.before.before
 taken :
     (c : tie.After-entry-x invariant-loop decreases-loop)
     → at (start c).args.fed.now c.entry-x.result
-    ≡ children (start c).args.n (at (contents (start c).args.plan.now).parents)
-    (at (store_contents (start c).args.store (start c).args.plan.now).outs) c.entry-x.result
+    ≡ children (start c).args.n (at (contents (start c).args.plan.now.words).parents)
+    (at (store_contents (start c).args.store (start c).args.plan.now.words).outs) c.entry-x.result
 taken c = (start c).requires.sums c.entry-x.result (task c).high
 
 sub-level : tie.Need-overflow_sub-level invariant-loop decreases-loop

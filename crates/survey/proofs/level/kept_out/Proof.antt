@@ -24,12 +24,12 @@ cell-requires-2 c κs = search rules
 -- the words read are the out and the parent
 out :
     (c : tie.After-cell-out)
-    → c.cell-out.result ≡ at (store_contents c.args.store c.args.plan.now).outs c.args.task
-out c = c.cell-out.ensures ∙ out_at c.args.plan.now c.args.task (omega arith) c.args.store
+    → c.cell-out.result ≡ at (store_contents c.args.store c.args.plan.now.words).outs c.args.task
+out c = c.cell-out.ensures ∙ out_at c.args.plan.now.words c.args.task (omega arith) c.args.store
 
 parent :
     (c : tie.After-cell)
-    → c.cell.result ≡ at (contents c.args.plan.now).parents c.args.task
+    → c.cell.result ≡ at (contents c.args.plan.now.words).parents c.args.task
 parent c = c.cell.ensures ∙ parent-at _ _ (omega arith)
 
 returns : tie.Need-returns-then-cell-eq0

@@ -33,8 +33,8 @@ add-result-2 c = search rules
 returns : tie.Need-returns
 returns c =
     let start = c in
-    let work = c.cell-work.ensures ∙ work-at start.args.plan.now start.args.task (omega arith) start.args.store in
-    let out = c.cell-out.ensures ∙ out_at start.args.plan.now start.args.task (omega arith) start.args.store in
+    let work = c.cell-work.ensures ∙ work-at start.args.plan.now.words start.args.task (omega arith) start.args.store in
+    let out = c.cell-out.ensures ∙ out_at start.args.plan.now.words start.args.task (omega arith) start.args.store in
     omega arith
 
 pub sum_spec : {M : Type 1} → statement M
