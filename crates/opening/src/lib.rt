@@ -2,13 +2,17 @@
 #![tactic(auto)]
 
 ghost use Rattle.std.specs.Prelude.{◌≡◌, cond, eqb};
-ghost use Rattle.rules.specs.Phase;
+ghost use Rattle.rules.specs.Phase as phases;
+ghost use Rattle.words.specs.Kept.{phase_number};
+ghost use Rattle.answer.specs.Told.{told};
 ghost use Rattle.format.specs.Command as rules;
 ghost use Rattle.opening.specs.Cleared.{MayClear, Cleared, MayEmpty, Emptied};
 ghost use Rattle.answer.specs.ValidPlan.{ValidPlan, Obeyed};
 
-use answer::Answer;
+use answer::Accepted;
 use measure::is_within;
+use refusal::Refusal;
+use words::phase::Phase;
 use words::plan::Plan;
 
 // Sets the words from one to another to 0.
@@ -16,11 +20,7 @@ fn clear(plan: &mut Plan, from: usize, to: usize)
     requires { MayClear from to plan.old.words }
     ensures { Cleared from to plan.old.words plan.new.words }
 {
-    let mut q = from;
-    while q < to {
-        plan.words[q] = 0;
-        q += 1;
-    }
+    plan.words[from..to].fill(0);
 }
 
 // Clears what the old plan has used: the rows of its tasks, the head and the ready set.
@@ -40,37 +40,37 @@ pub fn open(
     processors: u8,
     bound: u32,
     used: usize,
-) -> Answer
+) -> Result<Accepted, Refusal>
     requires { ValidPlan plan.old.words }
-    ensures { Obeyed plan.old.words (rules.plan n processors bound) used result plan.new.words }
+    ensures { Obeyed plan.old.words (rules.plan n processors bound) used (told result) plan.new.words }
 {
-    if Plan::holds_trays(plan.cell(Plan::HEAD, Plan::PHASE)) {
-        return Answer::refused(3);
+    if plan.holds_trays() {
+        return Err(Refusal::OutOfTurn);
     }
     if !is_within(n as usize, Plan::MAX_TASKS) {
-        return Answer::refused(4);
+        return Err(Refusal::OutsideLimits);
     }
     if !is_within(processors as usize, Plan::MAX_PROCESSORS) {
-        return Answer::refused(4);
+        return Err(Refusal::OutsideLimits);
     }
     let tasks = plan.cell(Plan::HEAD, Plan::SIZE) as usize;
     empty(plan, tasks);
-    plan.set_cell(Plan::HEAD, Plan::PHASE, Plan::STEPS);
+    plan.set_phase(Phase::Steps);
     plan.set_cell(Plan::HEAD, Plan::SIZE, n as u32);
     plan.set_cell(Plan::HEAD, Plan::PROCESSORS, processors as u32);
     plan.set_cell(Plan::HEAD, Plan::GIVEN, 1);
     plan.set_cell(Plan::HEAD, Plan::CHILLED + Plan::BOUND, bound);
-    Answer::plain(used)
+    Ok(Accepted::plain(used))
 }
 
 // "the n-th leads to orders"
-fn phase_after(given: u32, size: u32) -> u32
-    ensures { result ≡ cond (eqb given size) Phase.orders Phase.steps }
+fn phase_after(given: u32, size: u32) -> Phase
+    ensures { phase_number result ≡ cond (eqb given size) phases.orders phases.steps }
 {
     if given == size {
-        Plan::ORDERS
+        Phase::Orders
     } else {
-        Plan::STEPS
+        Phase::Steps
     }
 }
 
@@ -81,16 +81,16 @@ pub fn add_task(
     work: u16,
     out: u16,
     used: usize,
-) -> Answer
+) -> Result<Accepted, Refusal>
     requires { ValidPlan plan.old.words }
-    ensures { Obeyed plan.old.words (rules.task parent work out) used result plan.new.words }
+    ensures { Obeyed plan.old.words (rules.task parent work out) used (told result) plan.new.words }
 {
-    if plan.cell(Plan::HEAD, Plan::PHASE) != Plan::STEPS {
-        return Answer::refused(3);
+    if !plan.is_in(Phase::Steps) {
+        return Err(Refusal::OutOfTurn);
     }
     let size = plan.cell(Plan::HEAD, Plan::SIZE);
     if size < parent as u32 {
-        return Answer::refused(4);
+        return Err(Refusal::OutsideLimits);
     }
     let given = plan.cell(Plan::HEAD, Plan::GIVEN);
     let task = given as usize;
@@ -98,6 +98,6 @@ pub fn add_task(
     plan.set_cell(task, Plan::CHILLED + Plan::WORK, work as u32);
     plan.set_cell(task, Plan::CHILLED + Plan::OUT, out as u32);
     plan.set_cell(Plan::HEAD, Plan::GIVEN, given + 1);
-    plan.set_cell(Plan::HEAD, Plan::PHASE, phase_after(given, size));
-    Answer::plain(used)
+    plan.set_phase(phase_after(given, size));
+    Ok(Accepted::plain(used))
 }

@@ -1,7 +1,6 @@
 -- Laws of 03 and 04: one task more in an order keeps a plan sound, and is the next in that order of the rules.
-use mathlib.Core.Path.{◌≡◌, refl, sym, ap, subst, ◌∙◌}
+use mathlib.Core.Path.{◌≡◌, refl, sym, ap, ◌∙◌}
 use mathlib.Core.Bool.{not, ◌&&◌}
-use mathlib.Core.Logic.{⊎_elim}
 use mathlib.Core.List.{List}
 use Prim.Native.Nat.{ℕ, ◌+◌, ◌*◌, ◌≤◌, ◌<◌}
 use native.Mathlib.Omega.{arith}
@@ -16,21 +15,27 @@ use Rattle.format.specs.Command as rules
 use Rattle.rules.specs.Grounds.{in_turn, in_limits, demand, own_ground, ground_for}
 use Rattle.numbers.specs.Sums.{within}
 use Rattle.rules.specs.Obey.{plain, with_orders, obey}
-use Rattle.numbers.proofs.Tests.{same_or_not}
 use Rattle.words.specs.Layout.{row, rows, words, head_base, entries, activation_base, execution_base}
 use Rattle.words.specs.Contents as held
 use Rattle.words.specs.Contents.{Contents, contents, with_cell, store_with_cell, with_head, store_with_head}
 use Rattle.words.proofs.Contents.{Lengths, lengths, contents-activation, contents-execution, wrote-cell, wrote-head}
 use Rattle.store.proofs.InStore.{by_kind}
-use Rattle.answer.specs.declared.flat.Answer.{Answer}
+use Rattle.std.specs.Prelude.{Ok, Err}
+use Rattle.refusal.specs.declared.Refusal.{Refusal}
+use Rattle.refusal.specs.Number.{number_of}
+use Rattle.words.specs.declared.order.Order.{Order}
+use Rattle.words.specs.declared.order.Order.TheVariants.{Activation, Execution}
+use Rattle.words.specs.Kept.{counted_word, order_base, place_column, next_in}
+use Rattle.answer.specs.declared.accepted.Accepted.{Accepted}
+use Rattle.answer.specs.Told.{told}
 use Rattle.answer.specs.Meaning.{meaning}
 use Rattle.answer.specs.Sound.{Noted, Sound}
 use Rattle.answer.specs.ValidPlan.{Obeyed}
-use Rattle.ordering.specs.Order.{next_ground, OrderAt, ground_at, appended_to, Appended}
+use Rattle.ordering.specs.Order.{next_ground, OrderAt, ground_at, appended_to}
 use Rattle.answer.proofs.Meant.{given-more}
 use Rattle.ordering.proofs.Placing.{append-noted}
 use Rattle.ordering.proofs.Ordering.{Allowed, allowed}
-use Rattle.answer.proofs.Obeying.{refusal, acceptance}
+use Rattle.answer.proofs.Obeying.{accepted, refusal, acceptance}
 
 -- the grounds of the rules are those that the code looks for, since the order is as long as its count
 count-ground :
@@ -195,12 +200,12 @@ module _ (c : Contents) (sound : Sound c) (long : Lengths c) (i : ℕ) where
 
 -- the words that are written
 module _ (w : List ℕ) (sound : Sound (contents w)) (i : ℕ) where
-  pub activation-at : OrderAt 4 activation_base 1 w
+  activation-at : OrderAt 4 activation_base 1 w
   unfolding contents
   activation-at =
       record { counted_in = omega arith; base_in = omega arith; k_in = omega arith; small = sound.small; noted = sound.activation }
 
-  pub execution-at : OrderAt 8 execution_base 2 w
+  execution-at : OrderAt 8 execution_base 2 w
   unfolding contents
   execution-at =
       record { counted_in = omega arith; base_in = omega arith; k_in = omega arith; small = sound.small; noted = sound.execution }
@@ -246,38 +251,33 @@ module _ (w : List ℕ) (sound : Sound (contents w)) (i : ℕ) where
       ∙ ap (λ (d : Contents). with_head 8 (count + 1) (with_cell 2 i count d))
       (contents-execution w sound.long count i (omega arith))
 
-  -- the answer is that of the rules
-  module _ {used : ℕ} {a : Answer} {w' : List ℕ} where
-    pub ranked : Appended 4 activation_base 1 i used w a w' → Obeyed w (rules.activation i) used a w'
-    unfolding contents
-    ranked did =
-        let c : Contents = contents w in
-        let why = activation-ground c sound (lengths w) i in
-        ⊎_elim
-        (λ (none : ground_at 4 activation_base w i ≡ 0).
-        (let allow = allowed c.phase c.size c.activation c.ranked i none in
-        let wrote = did.accepted none in
-        acceptance (why ∙ none) wrote.0 (ap contents wrote.1 ∙ ranking-contents allow)
-        (ranking-means c sound (lengths w) i allow) (ranking-sound c sound (lengths w) i allow)))
-        (λ (some : ground_at 4 activation_base w i ≡ 0 → ⊥).
-        (let stays = did.refused some in
-        subst (λ (v : List ℕ). Obeyed w (rules.activation i) used a v) (sym stays.1)
-        (refusal (ground_at 4 activation_base w i) sound stays.0 some why)))
-        (same_or_not (ground_at 4 activation_base w i) 0)
+  pub order-at : (o : Order) → OrderAt (counted_word o) (order_base o) (place_column o) w
+  order-at Activation = activation-at
+  order-at Execution = execution-at
 
-    pub placed : Appended 8 execution_base 2 i used w a w' → Obeyed w (rules.execution i) used a w'
-    unfolding contents
-    placed did =
-        let c : Contents = contents w in
-        let why = execution-ground c sound (lengths w) i in
-        ⊎_elim
-        (λ (none : ground_at 8 execution_base w i ≡ 0).
-        (let allow = allowed c.phase c.size c.execution c.placed i none in
-        let wrote = did.accepted none in
-        acceptance (why ∙ none) wrote.0 (ap contents wrote.1 ∙ placing-contents allow)
-        (placing-means c sound (lengths w) i allow) (placing-sound c sound (lengths w) i allow)))
-        (λ (some : ground_at 8 execution_base w i ≡ 0 → ⊥).
-        (let stays = did.refused some in
-        subst (λ (v : List ℕ). Obeyed w (rules.execution i) used a v) (sym stays.1)
-        (refusal (ground_at 8 execution_base w i) sound stays.0 some why)))
-        (same_or_not (ground_at 8 execution_base w i) 0)
+  -- refused by its ground, or the next in the order of the rules
+  pub refuses-next :
+      (o : Order) {used : ℕ} (r : Refusal)
+      → number_of r ≡ ground_at (counted_word o) (order_base o) w i
+      → Obeyed w (next_in o i) used (told (Err r)) w
+  unfolding contents
+  refuses-next Activation r is = refusal r sound (activation-ground (contents w) sound (lengths w) i ∙ sym is)
+  refuses-next Execution r is = refusal r sound (execution-ground (contents w) sound (lengths w) i ∙ sym is)
+
+  pub takes-next :
+      (o : Order) {used : ℕ} {a : Accepted} {w' : List ℕ}
+      → ground_at (counted_word o) (order_base o) w i ≡ 0
+      → w' ≡ appended_to (counted_word o) (order_base o) (place_column o) w i
+      → a ≡ accepted used
+      → Obeyed w (next_in o i) used (told (Ok a)) w'
+  unfolding contents
+  takes-next Activation none wrote said =
+      let c : Contents = contents w in
+      let allow = allowed c.phase c.size c.activation c.ranked i none in
+      acceptance (activation-ground c sound (lengths w) i ∙ none) said (ap contents wrote ∙ ranking-contents allow)
+      (ranking-means c sound (lengths w) i allow) (ranking-sound c sound (lengths w) i allow)
+  takes-next Execution none wrote said =
+      let c : Contents = contents w in
+      let allow = allowed c.phase c.size c.execution c.placed i none in
+      acceptance (execution-ground c sound (lengths w) i ∙ none) said (ap contents wrote ∙ placing-contents allow)
+      (placing-means c sound (lengths w) i allow) (placing-sound c sound (lengths w) i allow)

@@ -18,8 +18,9 @@ use Rattle.tree.proofs.Orders.{within-task, mem-at, every-mem, new-behind}
 use Rattle.rules.proofs.Reaching.{obeyed-reachable, lives}
 use Rattle.streams.proofs.Leading.{execution-granted}
 use Rattle.streams.proofs.OneOrder.{Found, found, found-alone, found-completed, completed-given}
-use Rattle.words.specs.Layout.{execution_base}
+use Rattle.words.specs.Layout.{entries, activation_base, execution_base}
 use Rattle.words.specs.Contents.{contents}
+use Rattle.words.proofs.Views.{part_at}
 use Rattle.words.proofs.Contents.{lengths}
 use Rattle.answer.specs.Meaning.{meaning, plan_of}
 use Rattle.answer.specs.Sound.{Sound}
@@ -70,7 +71,7 @@ module _ {w : List ℕ} (valid : ValidPlan w) (one : one_order (plan_of w) ≡ t
 
     module _ {w₁ : List ℕ} (c : Copied w k w₁) where
       -- it is read from the words as they are then
-      pub next-is : at (contents w₁).activation k ≡ at s.activation k
+      next-is : at (contents w₁).activation k ≡ at s.activation k
       unfolding with_orders
       next-is =
           let same : (plan_of w₁).activation ≡ s.activation = ap (λ (t : State). t.activation) c.means in
@@ -91,7 +92,7 @@ module _ {w : List ℕ} (valid : ValidPlan w) (one : one_order (plan_of w) ≡ t
           allowed _ _ _ _ (at s.activation k)
           (sym (execution-ground (contents w₁) c.valid.sound (lengths w₁) (at s.activation k)) ∙ next-ground)
 
-      pub next-may : MayAppend 8 execution_base 2 (at s.activation k) w₁
+      next-may : MayAppend 8 execution_base 2 (at s.activation k) w₁
       unfolding contents
       next-may =
           let small = c.valid.sound.small in
@@ -99,7 +100,7 @@ module _ {w : List ℕ} (valid : ValidPlan w) (one : one_order (plan_of w) ≡ t
           let high = next-allowed.high in
           record { counted_in = omega arith; base_in = omega arith; k_in = omega arith; room = omega arith; within = omega arith }
 
-      pub copied_more : {w₂ : List ℕ} → w₂ ≡ appended_to 8 execution_base 2 w₁ (at s.activation k) → Copied w (k + 1) w₂
+      copied_more : {w₂ : List ℕ} → w₂ ≡ appended_to 8 execution_base 2 w₁ (at s.activation k) → Copied w (k + 1) w₂
       unfolding obey with_orders
       copied_more {w₂} wrote =
           let i : ℕ = at s.activation k in
@@ -126,6 +127,20 @@ module _ {w : List ℕ} (valid : ValidPlan w) (one : one_order (plan_of w) ≡ t
                 };
             means = left ∙ later ∙ ap (with_orders s s.activation) more-taken;
           }
+
+      -- by what is read and written
+      module _ {task : ℕ} (read : task ≡ at w₁ (activation_base + k)) where
+        task-is : task ≡ at s.activation k
+        unfolding contents
+        task-is =
+            let small = valid.sound.small in
+            read ∙ part_at activation_base entries w₁ k (omega arith) ∙ next-is
+
+        pub entry-may : MayAppend 8 execution_base 2 task w₁
+        entry-may = subst (λ (i : ℕ). MayAppend 8 execution_base 2 i w₁) (sym task-is) next-may
+
+        pub entry-copied : {w₂ : List ℕ} → w₂ ≡ appended_to 8 execution_base 2 w₁ task → Copied w (k + 1) w₂
+        entry-copied {w₂} wrote = copied_more (wrote ∙ ap (appended_to 8 execution_base 2 w₁) task-is)
 
 -- where 04 was given nothing is copied
 pub complete-given : {w : List ℕ} → ValidPlan w → ((contents w).placed ≡ 0 → ⊥) → Completed w w

@@ -1,5 +1,5 @@
 -- Laws of 03 and 04: the ground against one task more in an order.
-use mathlib.Core.Path.{◌≡◌, refl, sym, ap, ◌∙◌}
+use mathlib.Core.Path.{◌≡◌, sym, ap, ◌∙◌}
 use mathlib.Core.Bool.{true, false, not, ◌&&◌}
 use mathlib.Core.List.{List}
 use Prim.Native.Nat.{ℕ, ◌+◌, ◌*◌, ◌≤◌, ◌<◌}
@@ -17,8 +17,7 @@ use Rattle.words.specs.Layout.{row, head_base, entries}
 use Rattle.words.specs.Views.{column, part}
 use Rattle.words.proofs.Views.{column-at, part_at}
 use Rattle.words.specs.Contents.{head_word}
-use Rattle.answer.specs.declared.flat.Answer.{Answer}
-use Rattle.ordering.specs.Order.{next_ground, ground_at, Sought, OrderAt, MayAppend, appended_to, Appended}
+use Rattle.ordering.specs.Order.{next_ground, ground_at, Sought, OrderAt, MayAppend, appended_to}
 use Rattle.ordering.proofs.Placing.{Listed, seen, unseen}
 
 module _ {base k count task : ℕ} {w : List ℕ} (s : Sought base k count task w) where
@@ -72,17 +71,17 @@ sought {counted} {base} {k} {size} {count} {task} o e f limits =
     }
 
 -- each way out of the tests, by what was read
-module _ (counted base task : ℕ) (w : List ℕ) {phase : ℕ} (is-phase : phase ≡ head_word 0 w) where
-  pub other-phase : (phase ≡ Phase.orders → ⊥) → 3 ≡ ground_at counted base w task
+module _ (counted base task : ℕ) (w : List ℕ) where
+  pub other-phase : (head_word 0 w ≡ Phase.orders → ⊥) → 3 ≡ ground_at counted base w task
   unfolding next_ground
-  other-phase d = rw (ne_eqb (head_word 0 w) Phase.orders (λ e. d (is-phase ∙ e)))
+  other-phase d = rw (ne_eqb (head_word 0 w) Phase.orders d)
 
-  module _ {size count : ℕ} (turn : phase ≡ Phase.orders) (is-size : size ≡ head_word 1 w) (is-count : count ≡ head_word counted w) where
+  module _ {size count : ℕ} (turn : head_word 0 w ≡ Phase.orders) (is-size : size ≡ head_word 1 w) (is-count : count ≡ head_word counted w) where
     pub whole-order : size ≤ count → 3 ≡ ground_at counted base w task
     unfolding next_ground
     whole-order h =
         rw (
-          eq-eqb (head_word 0 w) Phase.orders (sym is-phase ∙ turn),
+          eq-eqb (head_word 0 w) Phase.orders turn,
           le-ltb (head_word counted w) (head_word 1 w) (omega arith),
         )
 
@@ -91,7 +90,7 @@ module _ (counted base task : ℕ) (w : List ℕ) {phase : ℕ} (is-phase : phas
       unfolding next_ground
       outside limits =
           rw (
-            eq-eqb (head_word 0 w) Phase.orders (sym is-phase ∙ turn),
+            eq-eqb (head_word 0 w) Phase.orders turn,
             lt-ltb (head_word counted w) (head_word 1 w) (omega arith),
             ap (within task) (sym is-size) ∙ limits,
           )
@@ -101,7 +100,7 @@ module _ (counted base task : ℕ) (w : List ℕ) {phase : ℕ} (is-phase : phas
         unfolding next_ground
         again stands =
             rw (
-              eq-eqb (head_word 0 w) Phase.orders (sym is-phase ∙ turn),
+              eq-eqb (head_word 0 w) Phase.orders turn,
               lt-ltb (head_word counted w) (head_word 1 w) (omega arith),
               ap (within task) (sym is-size) ∙ limits,
               ap (λ (c : ℕ). mem task (take c (part base entries w))) (sym is-count) ∙ sym stands,
@@ -111,7 +110,7 @@ module _ (counted base task : ℕ) (w : List ℕ) {phase : ℕ} (is-phase : phas
         unfolding next_ground
         no-ground stands =
             rw (
-              eq-eqb (head_word 0 w) Phase.orders (sym is-phase ∙ turn),
+              eq-eqb (head_word 0 w) Phase.orders turn,
               lt-ltb (head_word counted w) (head_word 1 w) (omega arith),
               ap (within task) (sym is-size) ∙ limits,
               ap (λ (c : ℕ). mem task (take c (part base entries w))) (sym is-count) ∙ sym stands,
@@ -149,36 +148,15 @@ allowed phase size order count task none =
       new = not-true (mem task (take count order)) own.0;
     }
 
-module _ {counted base k task : ℕ} {w : List ℕ} (o : OrderAt counted base k w) {ground_for : ℕ}
-    (is-ground : ground_for ≡ ground_at counted base w task) where
-  pub append-refused :
-      {a : Answer} {used : ℕ}
-      → (ground_for ≡ 0 → ⊥)
-      → a ≡ record { number = ground_for; used = 0; starts = 0; peak = 0; by = 0; offers = 0 }
-      → Appended counted base k task used w a w
-  append-refused d e =
-      record {
-        refused =
-            λ _.
-            (e ∙ ap (λ (g : ℕ). record { number = g; used = 0; starts = 0; peak = 0; by = 0; offers = 0 }) is-ground, refl);
-        accepted = λ z. absurd (d (is-ground ∙ z));
-      }
-
-  pub append-may : ground_for ≡ 0 → MayAppend counted base k task w
-  append-may z =
-      let allow = allowed (head_word 0 w) (head_word 1 w) (part base entries w) (head_word counted w) task (sym is-ground ∙ z) in
-      let room = allow.room in
-      let high = allow.high in
-      let small = o.small in
-      record { counted_in = o.counted_in; base_in = o.base_in; k_in = o.k_in; room = omega arith; within = omega arith }
-
-  pub append-accepted :
-      {a : Answer} {used : ℕ} {w' : List ℕ}
-      → ground_for ≡ 0
-      → w' ≡ appended_to counted base k w task
-      → a ≡ record { number = 0; used = used; starts = 0; peak = 0; by = 0; offers = 0 }
-      → Appended counted base k task used w a w'
-  append-accepted z wrote e = record { refused = λ d. absurd (d (sym is-ground ∙ z)); accepted = λ _. (e, wrote) }
+-- so that there is room for one task more
+pub append-may :
+    {counted base k task : ℕ} {w : List ℕ} → OrderAt counted base k w → ground_at counted base w task ≡ 0 → MayAppend counted base k task w
+append-may {counted} {base} {k} {task} {w} o z =
+    let allow = allowed (head_word 0 w) (head_word 1 w) (part base entries w) (head_word counted w) task z in
+    let room = allow.room in
+    let high = allow.high in
+    let small = o.small in
+    record { counted_in = o.counted_in; base_in = o.base_in; k_in = o.k_in; room = omega arith; within = omega arith }
 
 -- the three words of one task more
 pub next-written :

@@ -8,7 +8,6 @@ use Rattle.rules.specs.Grounds.{demand}
 use Rattle.words.specs.Layout.{row, rows, words, head_base, entries}
 use Rattle.words.specs.Views.{column, part}
 use Rattle.words.specs.Contents.{head_word}
-use Rattle.answer.specs.declared.flat.Answer.{Answer}
 use Rattle.answer.specs.Sound.{Noted}
 
 -- the ground against it: 3, 4 and 5; 0 is none
@@ -50,14 +49,3 @@ abbrev pub appended_to : (counted base k : ℕ) (w : List ℕ) (task : ℕ) → 
 appended_to counted base k w task =
     set (set (set w (base + head_word counted w) task) (row * task + k) (head_word counted w)) (head_base + counted)
     (head_word counted w + 1)
-
--- refused with its ground, or written
-pub record Appended (counted base k task used : ℕ) (w : List ℕ) (a : Answer) (w' : List ℕ) : Type 0 where
-  pub refused :
-      (ground_at counted base w task ≡ 0 → ⊥)
-      → (a ≡ record { number = ground_at counted base w task; used = 0; starts = 0; peak = 0; by = 0; offers = 0 })
-      × (w' ≡ w)
-  pub accepted :
-      ground_at counted base w task ≡ 0
-      → (a ≡ record { number = 0; used = used; starts = 0; peak = 0; by = 0; offers = 0 })
-      × (w' ≡ appended_to counted base k w task)

@@ -3,111 +3,81 @@
 #![tactic(auto)]
 
 ghost use Rattle.std.specs.Prelude.{◌≡◌, true, take};
+ghost use Rattle.refusal.specs.Number.{number_in};
 ghost use Rattle.numbers.specs.Lists.{mem};
 ghost use Rattle.words.specs.Layout.{entries};
-ghost use Rattle.words.specs.Views.{column, part};
+ghost use Rattle.words.specs.Kept.{counted_word, order_base, place_column, next_in};
+ghost use Rattle.words.specs.Views.{part};
 ghost use Rattle.format.specs.Command as rules;
 ghost use Rattle.rules.specs.Grounds.{in_turn};
 ghost use Rattle.streams.specs.OneOrder.{one_order};
 ghost use Rattle.answer.specs.Meaning.{plan_of};
 ghost use Rattle.answer.specs.ValidPlan.{ValidPlan, Obeyed};
-ghost use Rattle.ordering.specs.Order.{Sought, OrderAt, ground_at, MayAppend, appended_to, Appended};
+ghost use Rattle.answer.specs.Told.{told};
+ghost use Rattle.ordering.specs.Order.{Sought, OrderAt, ground_at, MayAppend, appended_to};
 ghost use Rattle.ordering.specs.Completed.{Completed};
 
-use answer::Answer;
+use answer::Accepted;
 use measure::is_within;
+use refusal::Refusal;
+use words::order::Order;
+use words::phase::Phase;
 use words::plan::Plan;
 
 // "the step is already in that order": its noted place is one of the first `count`, and the order
 // has it there. What is noted for a task outside the order may be any number.
-fn contains(
-    plan: &Plan,
-    base: usize,
-    column: usize,
-    count: usize,
-    task: usize,
-) -> bool
-    requires { Sought base column count task plan.now.words }
-    ensures { result ≡ mem task (take count (part base entries plan.now.words)) }
+fn contains(plan: &Plan, order: Order, count: usize, task: usize) -> bool
+    requires { Sought (order_base order) (place_column order) count task plan.now.words }
+    ensures { result ≡ mem task (take count (part (order_base order) entries plan.now.words)) }
 {
-    let place = plan.cell(task, column) as usize;
+    let place = plan.cell(task, order.column()) as usize;
     if count <= place {
         return false;
     }
-    plan.entry(base, place) as usize == task
+    plan.entry(order.base(), place) as usize == task
 }
 
-// The ground against one task more in an order; 0 is none.
-fn next_ground(
-    plan: &Plan,
-    counted: usize,
-    base: usize,
-    column: usize,
-    task: u16,
-) -> u8
-    requires { OrderAt counted base column plan.now.words }
-    ensures { result ≡ ground_at counted base plan.now.words task }
+// The ground against one task more in an order.
+fn may_append(plan: &Plan, order: Order, task: usize) -> Result<(), Refusal>
+    requires { OrderAt (counted_word order) (order_base order) (place_column order) plan.now.words }
+    ensures { number_in result ≡ ground_at (counted_word order) (order_base order) plan.now.words task }
 {
-    if plan.cell(Plan::HEAD, Plan::PHASE) != Plan::ORDERS {
-        return 3;
+    if !plan.is_in(Phase::Orders) {
+        return Err(Refusal::OutOfTurn);
     }
     let size = plan.cell(Plan::HEAD, Plan::SIZE) as usize;
-    let count = plan.cell(Plan::HEAD, counted) as usize;
+    let count = plan.cell(Plan::HEAD, order.counted()) as usize;
     if size <= count {
-        return 3;
+        return Err(Refusal::OutOfTurn);
     }
-    if !is_within(task as usize, size) {
-        return 4;
+    if !is_within(task, size) {
+        return Err(Refusal::OutsideLimits);
     }
-    if contains(plan, base, column, count, task as usize) {
-        return 5;
+    if contains(plan, order, count, task) {
+        return Err(Refusal::Repeated);
     }
-    0
+    Ok(())
 }
 
 // One task more in an order, with its place.
-fn write_next(plan: &mut Plan, counted: usize, base: usize, column: usize, task: u32)
-    requires { MayAppend counted base column task plan.old.words }
-    ensures { plan.new.words ≡ appended_to counted base column plan.old.words task }
+fn write_next(plan: &mut Plan, order: Order, task: u32)
+    requires { MayAppend (counted_word order) (order_base order) (place_column order) task plan.old.words }
+    ensures { plan.new.words ≡ appended_to (counted_word order) (order_base order) (place_column order) plan.old.words task }
 {
-    let count = plan.cell(Plan::HEAD, counted);
-    plan.set_entry(base, count as usize, task);
-    plan.set_cell(task as usize, column, count);
-    plan.set_cell(Plan::HEAD, counted, count + 1);
+    let count = plan.cell(Plan::HEAD, order.counted());
+    plan.set_entry(order.base(), count as usize, task);
+    plan.set_cell(task as usize, order.column(), count);
+    plan.set_cell(Plan::HEAD, order.counted(), count + 1);
 }
 
-// The next task in an order, where no ground refuses it.
-fn append(
-    plan: &mut Plan,
-    counted: usize,
-    base: usize,
-    column: usize,
-    task: u16,
-    used: usize,
-) -> Answer
-    requires { OrderAt counted base column plan.old.words }
-    ensures { Appended counted base column task used plan.old.words result plan.new.words }
-{
-    let ground = next_ground(plan, counted, base, column, task);
-    if ground != 0 {
-        return Answer::refused(ground);
-    }
-    write_next(plan, counted, base, column, task as u32);
-    Answer::plain(used)
-}
-
-pub fn rank(plan: &mut Plan, task: u16, used: usize) -> Answer
+// 03 and 04: the next task in an order.
+pub fn append(plan: &mut Plan, order: Order, task: u16, used: usize) -> Result<Accepted, Refusal>
     requires { ValidPlan plan.old.words }
-    ensures { Obeyed plan.old.words (rules.activation task) used result plan.new.words }
+    ensures { Obeyed plan.old.words (next_in order task) used (told result) plan.new.words }
 {
-    append(plan, Plan::RANKED, Plan::ACTIVATION, Plan::RANK, task, used)
-}
-
-pub fn place(plan: &mut Plan, task: u16, used: usize) -> Answer
-    requires { ValidPlan plan.old.words }
-    ensures { Obeyed plan.old.words (rules.execution task) used result plan.new.words }
-{
-    append(plan, Plan::PLACED, Plan::EXECUTION, Plan::PLACE, task, used)
+    may_append(plan, order, task as usize)?;
+    write_next(plan, order, task as u32);
+    Ok(Accepted::plain(used))
 }
 
 // 04 for each entry of the activation order.
@@ -116,11 +86,9 @@ fn copy_activation(plan: &mut Plan)
     ensures { Completed plan.old.words plan.new.words }
 {
     let n = plan.cell(Plan::HEAD, Plan::SIZE) as usize;
-    let mut k = 0;
-    while k < n {
-        let task = plan.entry(Plan::ACTIVATION, k);
-        write_next(plan, Plan::PLACED, Plan::EXECUTION, Plan::PLACE, task);
-        k += 1;
+    for k in 0..n {
+        let task = plan.entry(Order::Activation.base(), k);
+        write_next(plan, Order::Execution, task);
     }
 }
 

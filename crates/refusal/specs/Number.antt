@@ -1,5 +1,5 @@
 -- "Grounds for refusing": the number of each.
-use Rattle.std.specs.Prelude.{ℕ}
+use Rattle.std.specs.Prelude.{ℕ, Result, Ok, Err}
 use Rattle.refusal.specs.declared.Refusal.{Refusal}
 use Rattle.refusal.specs.declared.Refusal.TheVariants.{CutShort, UnknownByte, OutOfTurn, OutsideLimits, Repeated, NotRunning, NotOneRoot, ParentFirst, PeakAboveBound, FewStarts, ShortList, RootUnreached, BoundBelowBooked}
 
@@ -17,3 +17,8 @@ number_of FewStarts = 10
 number_of ShortList = 11
 number_of RootUnreached = 12
 number_of BoundBelowBooked = 13
+
+-- the number of the ground that a test finds, and 0 where there is none
+abbrev pub number_in : Result (Unit {0}) Refusal → ℕ
+number_in (Ok _) = 0
+number_in (Err refusal) = number_of refusal

@@ -1,5 +1,6 @@
--- How a plan keeps what the code names: the numbers of phases and standings, and where the orders lie.
+-- What the code names: how a plan keeps phases, standings and the orders, and the commands that make the orders.
 use Rattle.std.specs.Prelude.{ℕ}
+use Rattle.format.specs.Command as rules
 use Rattle.rules.specs.Phase
 use Rattle.books.specs.Standing
 use Rattle.words.specs.Layout.{activation_base, execution_base, place}
@@ -36,3 +37,8 @@ order_base Execution = execution_base
 abbrev pub place_column : Order → ℕ
 place_column Activation = 1
 place_column Execution = place
+
+-- the command by which a task is the next of an order: 03 and 04
+abbrev pub next_in : Order → ℕ → rules.Command
+next_in Activation task = rules.activation task
+next_in Execution task = rules.execution task
