@@ -10,18 +10,19 @@ ghost use Rattle.whys.specs.Why as rules;
 ghost use Rattle.words.specs.Contents.{contents};
 ghost use Rattle.answer.specs.Meaning.{plan_of};
 ghost use Rattle.answer.specs.ValidPlan.{ValidPlan};
-ghost use Rattle.reason.specs.Meaning.{reason_of};
+ghost use Rattle.reason.specs.Meaning.{reason_of, answered};
 ghost use Rattle.reason.specs.Asked.{AskedWaiting, Asked};
 
 use measure::is_within;
+use refusal::Refusal;
 use store::{missing, shortage};
+use words::phase::Phase;
 use words::plan::Plan;
+use words::standing::Standing;
 
 // What the cook is told of a task.
-#[derive(Clone, Copy)]
+#[derive(Clone, Copy, Debug, PartialEq, Eq)]
 pub enum Reason {
-    // the number of the ground
-    Refused(u8),
     Ended,
     Running,
     // the first waiting task, and the places that it lacks
@@ -36,10 +37,7 @@ fn is_unended_child(plan: &Plan, task: usize, child: usize) -> bool
     requires { child ≤ max_tasks }
     ensures { result ≡ is_unended_child (at (contents plan.now.words).parents) (at (contents plan.now.words).standings) task child }
 {
-    if plan.cell(child, Plan::PARENT) as usize != task {
-        return false;
-    }
-    plan.cell(child, Plan::STANDING) != Plan::FINISHED
+    plan.cell(child, Plan::PARENT) as usize == task && !plan.stands(child, Standing::Finished)
 }
 
 // "the lowest-numbered unended child", 0 where all have ended.
@@ -48,9 +46,7 @@ fn unended_child(plan: &Plan, task: usize) -> u16
     ensures { result ≡ lowest_to (is_unended_child (at (contents plan.now.words).parents) (at (contents plan.now.words).standings) task) (contents plan.now.words).size }
 {
     let n = plan.cell(Plan::HEAD, Plan::SIZE) as usize;
-    let mut child = 0;
-    while child < n {
-        child += 1;
+    for child in 1..n + 1 {
         if is_unended_child(plan, task, child) {
             return child as u16;
         }
@@ -77,14 +73,13 @@ fn first_true(plan: &Plan, task: usize) -> Reason
     requires { Asked plan.now.words task }
     ensures { reason_of result ≡ rules.why (plan_of plan.now.words) task }
 {
-    let standing = plan.cell(task, Plan::STANDING);
-    if standing == Plan::FINISHED {
+    if plan.stands(task, Standing::Finished) {
         return Reason::Ended;
     }
-    if standing == Plan::STARTED {
+    if plan.stands(task, Standing::Started) {
         return Reason::Running;
     }
-    if standing == Plan::WAITING {
+    if plan.stands(task, Standing::Waiting) {
         return not_booked(plan);
     }
     if plan.cell(task, Plan::UNENDED) != 0 {
@@ -94,16 +89,16 @@ fn first_true(plan: &Plan, task: usize) -> Reason
 }
 
 // "3 outside running, then 4 for the step"
-pub fn why(plan: &Plan, task: u16) -> Reason
+pub fn why(plan: &Plan, task: u16) -> Result<Reason, Refusal>
     requires { ValidPlan plan.now.words }
-    ensures { reason_of result ≡ rules.why (plan_of plan.now.words) task }
+    ensures { answered result ≡ rules.why (plan_of plan.now.words) task }
 {
-    if plan.cell(Plan::HEAD, Plan::PHASE) != Plan::RUNNING {
-        return Reason::Refused(3);
+    if !plan.is_in(Phase::Running) {
+        return Err(Refusal::OutOfTurn);
     }
     let task = task as usize;
     if !is_within(task, plan.cell(Plan::HEAD, Plan::SIZE) as usize) {
-        return Reason::Refused(4);
+        return Err(Refusal::OutsideLimits);
     }
-    first_true(plan, task)
+    Ok(first_true(plan, task))
 }
