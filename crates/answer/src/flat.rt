@@ -1,6 +1,6 @@
 // Answers as plain numbers, for other languages.
 ghost use Rattle.std.specs.Prelude.{◌≡◌};
-ghost use Rattle.answer.specs.Told.{told, written};
+ghost use Rattle.answer.specs.Told.{told, told_count};
 
 use crate::Accepted;
 use refusal::Refusal;
@@ -44,7 +44,7 @@ impl From<Result<Accepted, Refusal>> for Answer {
 }
 
 // What is answered by a tool that writes to the front of a lent list: how many entries it wrote, bytes of
-// a plan or step numbers of an order. On a refusal nothing is written.
+// a plan or step numbers of an order. On a refusal nothing is told_count.
 #[repr(C)]
 #[derive(Clone, Copy)]
 pub struct Wrote {
@@ -53,7 +53,7 @@ pub struct Wrote {
 }
 
 impl From<Result<usize, Refusal>> for Wrote {
-    ghost from_gives = { λ outcome wrote. wrote ≡ written outcome };
+    ghost from_gives = { λ outcome wrote. wrote ≡ told_count outcome };
 
     fn from(outcome: Result<usize, Refusal>) -> Wrote {
         match outcome {

@@ -2,10 +2,11 @@
 ghost use Rattle.std.specs.Prelude.{◌≡◌, ◌+◌, ◌*◌, ◌<◌, eqb, set};
 ghost use Rattle.numbers.specs.Lists.{at};
 ghost use Rattle.rules.specs.Phase as phases;
-ghost use Rattle.words.specs.Contents.{contents};
-ghost use Rattle.words.specs.Kept.{phase_number, standing_number};
+ghost use Rattle.words.specs.Contents.{contents, head_word};
+ghost use Rattle.words.specs.Kept.{counted_word, phase_number, standing_number};
 ghost use Rattle.words.specs.Layout.{head_base, row, rows, standing};
 
+use crate::order::Order;
 use crate::phase::Phase;
 use crate::plan::Plan;
 use crate::standing::Standing;
@@ -25,6 +26,14 @@ impl Plan {
         ensures { result ≡ phases.holds_trays (contents self.now.words).phase }
     {
         self.is_in(Phase::Running) || self.is_in(Phase::Ready)
+    }
+
+    // Whether an order has an entry for each task.
+    #[tactic(auto, unfolding(crate::specs::Contents::contents))]
+    pub fn is_complete(&self, order: Order) -> bool
+        ensures { result ≡ eqb (head_word (counted_word order) self.now.words) (contents self.now.words).size }
+    {
+        self.cell(Plan::HEAD, order.counted()) == self.cell(Plan::HEAD, Plan::SIZE)
     }
 
     pub fn set_phase(&mut self, phase: Phase)

@@ -1,11 +1,10 @@
 -- What the parts of the writer ask of the plan.
-use Rattle.std.specs.Prelude.{◌≡◌, true, cond, List, ℕ, ◌+◌, ◌≤◌, ◌<◌, eqb}
+use Rattle.std.specs.Prelude.{◌≡◌, true, List, ℕ, ◌+◌, ◌≤◌, ◌<◌}
 use Rattle.numbers.specs.Limits.{max_tasks}
 use Rattle.numbers.specs.Sums.{Task}
 use Rattle.numbers.specs.Lists.{at}
-use Rattle.format.specs.Command.{Command, activation, execution}
 use Rattle.streams.specs.Write.{is_whole}
-use Rattle.words.specs.Layout.{words, entries, activation_base}
+use Rattle.words.specs.Layout.{words, entries}
 use Rattle.words.specs.Contents.{contents}
 use Rattle.answer.specs.Meaning.{plan_of}
 use Rattle.answer.specs.ValidPlan.{ValidPlan}
@@ -18,10 +17,6 @@ pub record WholePlan (w : List ℕ) : Type 0 where
 pub record WholeTask (w : List ℕ) (task : ℕ) : Type 0 where
   pub plan : WholePlan w
   pub is_task : Task (contents w).size task
-
--- 03 or 04, by where its order begins in the words
-unfoldable pub next_in : ℕ → ℕ → Command
-next_in order i = cond (eqb order activation_base) (activation i) (execution i)
 
 -- tasks stand from there on
 pub record OrderAt (order : ℕ) (w : List ℕ) : Type 0 where

@@ -8,16 +8,20 @@ ghost use mathlib.Core.List.{map, flat_map};
 ghost use Rattle.format.specs.Command as rules;
 ghost use Rattle.streams.specs.Instance.{instance_of, opening_of, task_of, tasks_to, written};
 ghost use Rattle.streams.specs.Write as writing;
+ghost use Rattle.words.specs.Kept.{order_base, next_in};
 ghost use Rattle.words.specs.Layout.{entries};
 ghost use Rattle.words.specs.Views.{part};
 ghost use Rattle.words.specs.Contents.{contents};
 ghost use Rattle.answer.specs.Meaning.{plan_of, wrote_of};
+ghost use Rattle.answer.specs.Told.{told_count};
 ghost use Rattle.answer.specs.ValidPlan.{ValidPlan};
 ghost use Rattle.put.specs.Put.{Put};
-ghost use Rattle.writer.specs.Writing.{WholePlan, WholeTask, next_in, OrderAt};
+ghost use Rattle.writer.specs.Writing.{WholePlan, WholeTask, OrderAt};
 
-use answer::Wrote;
 use codec::{Command, encode, encode_activation, encode_execution, encode_task};
+use refusal::Refusal;
+use words::order::Order;
+use words::phase::Phase;
 use words::plan::Plan;
 
 // Whether a plan was opened and "both orders are complete".
@@ -25,14 +29,9 @@ fn is_whole(plan: &Plan) -> bool
     requires { ValidPlan plan.now.words }
     ensures { result ≡ writing.is_whole (plan_of plan.now.words) }
 {
-    if plan.cell(Plan::HEAD, Plan::PHASE) == Plan::EMPTY {
-        return false;
-    }
-    let size = plan.cell(Plan::HEAD, Plan::SIZE);
-    if plan.cell(Plan::HEAD, Plan::RANKED) != size {
-        return false;
-    }
-    plan.cell(Plan::HEAD, Plan::PLACED) == size
+    !plan.is_in(Phase::Empty)
+        && plan.is_complete(Order::Activation)
+        && plan.is_complete(Order::Execution)
 }
 
 // PLAN, at the front of the list.
@@ -65,38 +64,33 @@ fn write_tasks(plan: &Plan, list: &mut [u8], place: usize) -> usize
 {
     let n = plan.cell(Plan::HEAD, Plan::SIZE) as usize;
     let mut next = place;
-    let mut task = 0;
-    while task < n {
-        task += 1;
+    for task in 1..n + 1 {
         next = write_task(plan, task, list, next);
     }
     next
 }
 
-// 03 or 04, by where the order begins that a task is the next of.
-fn write_entry(order: usize, task: u16, list: &mut [u8], place: usize) -> usize
+// 03 or 04, by the order that a task is the next of.
+fn write_entry(order: Order, task: u16, list: &mut [u8], place: usize) -> usize
     ensures { Put (rules.bytes (next_in order task)) place list.old list.new result }
 {
-    if order == Plan::ACTIVATION {
-        encode_activation(task, list, place)
-    } else {
-        encode_execution(task, list, place)
+    match order {
+        Order::Activation => encode_activation(task, list, place),
+        Order::Execution => encode_execution(task, list, place),
     }
 }
 
 // All entries of an order.
-fn write_order(plan: &Plan, order: usize, list: &mut [u8], place: usize) -> usize
-    requires { OrderAt order plan.now.words }
-    ensures { Put (flat_map rules.bytes (map (next_in order) (take (contents plan.now.words).size (part order entries plan.now.words))))
+fn write_order(plan: &Plan, order: Order, list: &mut [u8], place: usize) -> usize
+    requires { OrderAt (order_base order) plan.now.words }
+    ensures { Put (flat_map rules.bytes (map (next_in order) (take (contents plan.now.words).size (part (order_base order) entries plan.now.words))))
         place list.old list.new result }
 {
     let n = plan.cell(Plan::HEAD, Plan::SIZE) as usize;
     let mut next = place;
-    let mut k = 0;
-    while k < n {
-        let task = plan.entry(order, k) as u16;
+    for k in 0..n {
+        let task = plan.entry(order.base(), k) as u16;
         next = write_entry(order, task, list, next);
-        k += 1;
     }
     next
 }
@@ -108,23 +102,22 @@ fn write_whole(plan: &Plan, list: &mut [u8]) -> usize
 {
     let next = write_opening(plan, list);
     let next = write_tasks(plan, list, next);
-    let next = write_order(plan, Plan::ACTIVATION, list, next);
-    write_order(plan, Plan::EXECUTION, list, next)
+    let next = write_order(plan, Order::Activation, list, next);
+    write_order(plan, Order::Execution, list, next)
 }
 
 // "3 unless both orders are complete; then 11 if the list is shorter than 8 + 13 times n bytes; either
 // leaves the list untouched"
-pub fn write(plan: &Plan, list: &mut [u8]) -> Wrote
+pub fn write(plan: &Plan, list: &mut [u8]) -> Result<usize, Refusal>
     requires { ValidPlan plan.now.words }
-    ensures { wrote_of result list.new ≡ writing.write (plan_of plan.now.words) list.old }
+    ensures { wrote_of (told_count result) list.new ≡ writing.write (plan_of plan.now.words) list.old }
 {
     if !is_whole(plan) {
-        return Wrote::refused(3);
+        return Err(Refusal::OutOfTurn);
     }
     let n = plan.cell(Plan::HEAD, Plan::SIZE) as usize;
     if list.len() < Plan::OPENING_BYTES + Plan::TASK_BYTES * n {
-        return Wrote::refused(11);
+        return Err(Refusal::ShortList);
     }
-    let count = write_whole(plan, list);
-    Wrote { number: 0, count }
+    Ok(write_whole(plan, list))
 }
