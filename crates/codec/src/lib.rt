@@ -1,11 +1,12 @@
 // Bytes to commands and back: "A command is one byte and operands of fixed width, lowest byte first."
 #![tactic(auto)]
 
-ghost use Rattle.std.specs.Prelude.{◌≡◌, ◌∷◌, ◌+◌, ◌*◌, drop};
+ghost use Rattle.std.specs.Prelude.{◌≡◌, ◌∷◌, drop};
 ghost use Rattle.format.specs.Command as rules;
-ghost use Rattle.put.specs.Put.{Put};
+ghost use Rattle.put.specs.Pages.{Puts};
 ghost use Rattle.codec.specs.Meaning.{command_of, decoded};
 
+use put::Page;
 use refusal::Refusal;
 
 #[derive(Clone, Copy, Debug, PartialEq, Eq)]
@@ -37,43 +38,35 @@ pub struct Read {
 fn after(given: &[u8], count: usize) -> &[u8]
     ensures { result.now ≡ drop count given.now }
 {
-    if count <= given.len() {
-        &given[count..]
-    } else {
-        &given[..0]
-    }
+    &given[count.min(given.len())..]
 }
 
-// Two numbers joined, the low one first.
-fn join2(low: u8, high: u8) -> u16
-    ensures { result ≡ low + 256 * high }
-{
-    (low as u16) + 256 * (high as u16)
-}
-
-fn join4(low: u16, high: u16) -> u32
-    ensures { result ≡ low + 65536 * high }
-{
-    (low as u32) + 65536 * (high as u32)
-}
-
-// The number in the first byte, the first two and the first four. A byte past the end counts as 0.
+// The number in the first byte, the first two and the first four, the lowest byte first. A byte past
+// the end counts as 0.
+#[tactic(auto, unfolding(format::specs::Command::number))]
 fn one(given: &[u8]) -> u8
     ensures { result ≡ rules.number 1 given.now }
 {
-    if 0 < given.len() { given[0] } else { 0 }
+    given.first().copied().unwrap_or(0)
 }
 
+#[tactic(auto, unfolding(format::specs::Command::number))]
 fn two(given: &[u8]) -> u16
     ensures { result ≡ rules.number 2 given.now }
 {
-    join2(one(given), one(after(given, 1)))
+    u16::from_le_bytes([one(given), one(after(given, 1))])
 }
 
+#[tactic(auto, unfolding(format::specs::Command::number))]
 fn four(given: &[u8]) -> u32
     ensures { result ≡ rules.number 4 given.now }
 {
-    join4(two(given), two(after(given, 2)))
+    u32::from_le_bytes([
+        one(given),
+        one(after(given, 1)),
+        one(after(given, 2)),
+        one(after(given, 3)),
+    ])
 }
 
 // A command with `width` bytes of operands, or "operands are cut short" (1).
@@ -124,64 +117,62 @@ fn table(byte: u8, given: &[u8]) -> Result<Read, Refusal>
 }
 
 // The command at a place of a stream, or "no byte is left" (1).
+#[tactic(auto, unfolding(format::specs::Command::decode))]
 pub fn decode(stream: &[u8], place: usize) -> Result<Read, Refusal>
     ensures { decoded result ≡ rules.decode stream.now place }
 {
-    if stream.len() <= place {
-        return Err(Refusal::CutShort);
-    }
-    table(stream[place], after(stream, place + 1))
+    let byte = *stream.get(place).ok_or(Refusal::CutShort)?;
+    table(byte, &stream[place + 1..])
 }
 
 // The byte of a command and its first operand.
-fn start(buffer: &mut [u8], place: usize, byte: u8, operand: u16) -> usize
-    ensures { Put (byte ∷ rules.little 2 operand) place buffer.old buffer.new result }
+fn start(byte: u8, operand: u16, page: &mut Page)
+    ensures { Puts (byte ∷ rules.little 2 operand) page.old page.new }
 {
-    let next = put::byte(buffer, place, byte);
-    put::little(buffer, next, 2, operand as u64)
+    page.byte(byte);
+    page.little(2, operand as u64);
 }
 
-// The bytes of a command, put into a buffer from a place on as far as there is room; the answer is
-// the place behind them. STEP, 03 and 04, of which a plan has one for each task, come by themselves
-// too, so that whoever writes many of one kind need not choose the kind each time.
-pub fn encode_task(parent: u16, work: u16, out: u16, buffer: &mut [u8], place: usize) -> usize
-    ensures { Put (rules.bytes (rules.task parent work out)) place buffer.old buffer.new result }
+// The bytes of a command, put on a page. STEP, 03 and 04, of which a plan has one for each task, come
+// by themselves too, so that whoever writes many of one kind need not choose the kind each time.
+pub fn encode_task(parent: u16, work: u16, out: u16, page: &mut Page)
+    ensures { Puts (rules.bytes (rules.task parent work out)) page.old page.new }
 {
-    let next = start(buffer, place, 2, parent);
-    let next = put::little(buffer, next, 2, work as u64);
-    put::little(buffer, next, 2, out as u64)
+    start(2, parent, page);
+    page.little(2, work as u64);
+    page.little(2, out as u64);
 }
 
-pub fn encode_activation(task: u16, buffer: &mut [u8], place: usize) -> usize
-    ensures { Put (rules.bytes (rules.activation task)) place buffer.old buffer.new result }
+pub fn encode_activation(task: u16, page: &mut Page)
+    ensures { Puts (rules.bytes (rules.activation task)) page.old page.new }
 {
-    start(buffer, place, 3, task)
+    start(3, task, page);
 }
 
-pub fn encode_execution(task: u16, buffer: &mut [u8], place: usize) -> usize
-    ensures { Put (rules.bytes (rules.execution task)) place buffer.old buffer.new result }
+pub fn encode_execution(task: u16, page: &mut Page)
+    ensures { Puts (rules.bytes (rules.execution task)) page.old page.new }
 {
-    start(buffer, place, 4, task)
+    start(4, task, page);
 }
 
-pub fn encode(command: Command, buffer: &mut [u8], place: usize) -> usize
-    ensures { Put (rules.bytes (command_of command)) place buffer.old buffer.new result }
+pub fn encode(command: Command, page: &mut Page)
+    ensures { Puts (rules.bytes (command_of command)) page.old page.new }
 {
     match command {
         Command::Plan { n, p, bound } => {
-            let next = start(buffer, place, 1, n);
-            let next = put::little(buffer, next, 1, p as u64);
-            put::little(buffer, next, 4, bound as u64)
+            start(1, n, page);
+            page.little(1, p as u64);
+            page.little(4, bound as u64);
         }
-        Command::Task { parent, work, out } => encode_task(parent, work, out, buffer, place),
-        Command::Activation(task) => encode_activation(task, buffer, place),
-        Command::Execution(task) => encode_execution(task, buffer, place),
-        Command::Begin => put::byte(buffer, place, 5),
-        Command::Done(task) => start(buffer, place, 6, task),
-        Command::Fetch => put::byte(buffer, place, 7),
+        Command::Task { parent, work, out } => encode_task(parent, work, out, page),
+        Command::Activation(task) => encode_activation(task, page),
+        Command::Execution(task) => encode_execution(task, page),
+        Command::Begin => page.byte(5),
+        Command::Done(task) => start(6, task, page),
+        Command::Fetch => page.byte(7),
         Command::Places(bound) => {
-            let next = put::byte(buffer, place, 8);
-            put::little(buffer, next, 4, bound as u64)
+            page.byte(8);
+            page.little(4, bound as u64);
         }
     }
 }

@@ -3,7 +3,7 @@
 
 mod thousandths;
 
-ghost use Rattle.std.specs.Prelude.{◌≡◌, min};
+ghost use Rattle.std.specs.Prelude.{◌≡◌};
 ghost use Rattle.numbers.specs.Sums.{within};
 
 pub use thousandths::fullness;
@@ -12,15 +12,5 @@ pub use thousandths::fullness;
 pub fn is_within(x: usize, limit: usize) -> bool
     ensures { result ≡ within x limit }
 {
-    if x < 1 {
-        return false;
-    }
-    x <= limit
-}
-
-// The smaller of two numbers.
-pub fn least(a: usize, b: usize) -> usize
-    ensures { result ≡ min a b }
-{
-    if a < b { a } else { b }
+    (1..=limit).contains(&x)
 }

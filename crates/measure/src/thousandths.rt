@@ -66,9 +66,7 @@ fn thousandths(booked: u32, bound: u32) -> u32
         quotient: 0,
         remainder: 0,
     };
-    let mut left = BITS;
-    while 0 < left {
-        left -= 1;
+    for left in (0..BITS).rev() {
         trays = doubled(trays, bound);
         if (WHOLE >> left) & 1 == 1 {
             trays = added(trays, booked, bound);
@@ -79,6 +77,7 @@ fn thousandths(booked: u32, bound: u32) -> u32
 
 // "0 if M is 0; 1,000 if b is at least M; else 1,000 times b divided by M, rounded down (the
 // product can need 42 bits)"
+#[tactic(auto, unfolding(rules::specs::Question::fullness_of))]
 pub fn fullness(booked: u32, bound: u32) -> u32
     ensures { result ≡ fullness_of booked bound }
 {

@@ -59,6 +59,7 @@ impl Position {
     }
 
     // The offsets of a buffer's bytes from here on can be counted.
+    #[tactic(auto, unfolding(texts::specs::Printer::is_counted))]
     pub fn is_counted(self, buffer: &[u8]) -> bool
         ensures { result ≡ rules.is_counted (length buffer.now) (position_of self) }
     {
@@ -66,49 +67,43 @@ impl Position {
     }
 
     // Bytes at hand were used.
+    #[tactic(auto, unfolding(texts::specs::Printer::moved))]
     pub fn moved(self, used: usize) -> Self
         requires { (self.place + used < 2 ^ 64) × (self.offset + used < 2 ^ 64) }
         ensures { position_of result ≡ rules.moved used (position_of self) }
     {
         Position {
             place: self.place + used,
-            filled: self.filled,
             offset: self.offset + used as u64,
-            is_last: self.is_last,
+            ..self
         }
     }
 
     // A read gave bytes behind those at hand, none where the input has ended.
+    #[tactic(auto, unfolding(texts::specs::Printer::fed))]
     pub fn fed(self, count: usize) -> Self
         requires { self.filled + count < 2 ^ 64 }
         ensures { position_of result ≡ rules.fed count (position_of self) }
     {
         Position {
-            place: self.place,
             filled: self.filled + count,
-            offset: self.offset,
             is_last: count == 0,
+            ..self
         }
     }
 }
 
 // The bytes at hand from the next command on go to the front of the buffer.
+#[tactic(auto, unfolding(texts::specs::Printer::fronted))]
 pub fn to_front(buffer: &mut [u8], position: Position) -> Position
     requires { Stands position (length buffer.old) }
     ensures { (position_of result ≡ rules.fronted (position_of position))
         × (buffer.new ≡ paste buffer.old 0 (drop position.place buffer.old) result.filled) }
 {
-    let place = position.place;
-    let count = position.filled - place;
-    let mut i = 0;
-    while i < count {
-        buffer[i] = buffer[place + i];
-        i += 1;
-    }
+    buffer.copy_within(position.place..position.filled, 0);
     Position {
         place: 0,
-        filled: count,
-        offset: position.offset,
-        is_last: position.is_last,
+        filled: position.filled - position.place,
+        ..position
     }
 }

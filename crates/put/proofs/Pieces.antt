@@ -2,10 +2,9 @@
 use mathlib.Core.Path.{◌≡◌, sym, ap, ◌∙◌}
 use mathlib.Core.List.{List, [], ◌∷◌, ◌++◌}
 use Prim.Native.Nat.{ℕ, zero, suc, ◌+◌, ◌≤◌, ◌<◌}
-use native.Mathlib.Numerals.{add-one}
 use native.Mathlib.Omega.{arith}
-use lib.ListN.{length, take, drop, get_or, set, length-append, length-take, length-drop, take-append-drop}
-use lib.Seq.{take-nil, drop-nil, take-suc, take_all, set_out}
+use lib.ListN.{length, drop, set, length-append, length-take, length-drop, take-append-drop}
+use lib.Seq.{take-nil, drop-nil, take_all, set_out}
 use Rattle.put.specs.Written.{over, Written}
 use Rattle.put.specs.Put.{over_from, behind, Put}
 
@@ -65,17 +64,6 @@ module _ {text : List ℕ} {place next : ℕ} {before after : List ℕ} (p : Put
         bytes = rw (q.bytes, p.bytes, p.ends) (joined place text more before);
         ends = simp length-append (omega (arith, kept));
       }
-
--- one entry more of a list whose text goes entry by entry
-pub turn : (text : List ℕ → List ℕ)
-    → ((list : List ℕ) (x : ℕ) → text (list ++ (x ∷ [])) ≡ text list ++ text (x ∷ []))
-    → (list : List ℕ) (i : ℕ)
-    → i < length list
-    → {place next end : ℕ} {before after last : List ℕ}
-    → Put (text (take i list)) place before after next
-    → Put (text (get_or list i 0 ∷ [])) next after last end
-    → Put (text (take (i + 1) list)) place before last end
-turn text grows list i more p q = rw (add-one i, take-suc list i 0, grows) (p then q)
 
 -- at the front of the buffer
 pub whole : {text before after : List ℕ} {end : ℕ} → Put text 0 before after end → Written text before after end

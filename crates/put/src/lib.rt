@@ -1,58 +1,71 @@
-// Pieces of a list of bytes. Each is put into a lent buffer from a place on, as much of it as there
-// is room for, and answers the place behind it.
+// Pieces of a list of bytes. Each is put into a lent buffer behind the one before, as much of it as
+// there is room for.
 #![tactic(auto)]
 
-ghost use Rattle.std.specs.Prelude.{[], ◌∷◌};
+ghost use Rattle.std.specs.Prelude.{◌≡◌, [], ◌∷◌};
 ghost use Rattle.format.specs.Command.{little};
 ghost use Rattle.texts.specs.Text.{decimal};
-ghost use Rattle.put.specs.Put.{Put};
+ghost use Rattle.put.specs.Pages.{Puts};
 
-pub fn byte(buffer: &mut [u8], place: usize, value: u8) -> usize
-    ensures { Put (value ∷ []) place buffer.old buffer.new result }
-{
-    if place < buffer.len() {
-        buffer[place] = value;
-        place + 1
-    } else {
-        place
-    }
+// A lent buffer, and the place of the next piece in it.
+#[derive(Drop)]
+pub struct Page<'a> {
+    buffer: &'a mut [u8],
+    place: usize,
 }
 
-pub fn text(buffer: &mut [u8], place: usize, bytes: &[u8]) -> usize
-    ensures { Put bytes.now place buffer.old buffer.new result }
-{
-    let mut next = place;
-    let mut i = 0;
-    while i < bytes.len() {
-        next = byte(buffer, next, bytes[i]);
-        i += 1;
+impl<'a> Page<'a> {
+    // From the front of a buffer on.
+    pub fn new(buffer: &'a mut [u8]) -> Page<'a>
+        ensures same_buffer { result.buffer.ghost_name ≡ buffer.entry.ghost_name }
+        ensures unwritten { result.buffer.now ≡ buffer.old }
+        ensures at_front { result.place ≡ 0 }
+    {
+        Page { buffer, place: 0 }
     }
-    next
-}
 
-// A number in decimal: the digits of its tenth part, and then its last digit.
-pub fn decimal(buffer: &mut [u8], place: usize, x: u64) -> usize
-    ensures { Put (decimal x) place buffer.old buffer.new result }
-{
-    let last = b'0' + (x % 10) as u8;
-    if x < 10 {
-        return byte(buffer, place, last);
+    // The place behind all that was put: how many bytes there was room for.
+    pub fn place(&self) -> usize
+        ensures { result ≡ self.now.place }
+    {
+        self.place
     }
-    let next = decimal(buffer, place, x / 10);
-    byte(buffer, next, last)
-}
 
-// A number in a fixed width, lowest byte first; what does not fit the width is left out.
-pub fn little(buffer: &mut [u8], place: usize, width: usize, x: u64) -> usize
-    ensures { Put (little width x) place buffer.old buffer.new result }
-{
-    let mut next = place;
-    let mut rest = x;
-    let mut left = width;
-    while 0 < left {
-        next = byte(buffer, next, (rest % 256) as u8);
-        rest /= 256;
-        left -= 1;
+    pub fn byte(&mut self, value: u8)
+        ensures { Puts (value ∷ []) self.old self.new }
+    {
+        if self.place < self.buffer.len() {
+            self.buffer[self.place] = value;
+            self.place += 1;
+        }
     }
-    next
+
+    pub fn text(&mut self, bytes: &[u8])
+        ensures { Puts bytes.now self.old self.new }
+    {
+        for x in bytes {
+            self.byte(*x);
+        }
+    }
+
+    // A number in decimal: the digits of its tenth part, and then its last digit.
+    pub fn decimal(&mut self, x: u64)
+        ensures { Puts (decimal x) self.old self.new }
+    {
+        if 10 <= x {
+            self.decimal(x / 10);
+        }
+        self.byte(b'0' + (x % 10) as u8);
+    }
+
+    // A number in a fixed width, lowest byte first; what does not fit the width is left out.
+    pub fn little(&mut self, width: usize, x: u64)
+        ensures { Puts (little width x) self.old self.new }
+    {
+        let mut rest = x;
+        for _ in 0..width {
+            self.byte((rest % 256) as u8);
+            rest /= 256;
+        }
+    }
 }
