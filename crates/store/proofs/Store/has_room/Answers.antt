@@ -1,10 +1,12 @@
 -- `has_room` meets its contract: what is booked is within the bound, so that both tests say the same.
 use mathlib.Core.Path.{sym, ◌∙◌}
 use mathlib.Core.Logic.{⊎_elim}
-use Prim.Native.Nat.{◌-◌}
+use Prim.Native.Nat.{◌+◌, ◌-◌}
 use native.Mathlib.Omega.{arith}
 use borrow.Author.Tests.{le-leb, lt-leb}
 use Rattle.numbers.proofs.Tests.{le-or-lt}
+use Rattle.words.specs.Contents.{contents}
+use Rattle.store.specs.Store.{store_at}
 use Rattle.store.proofs.Writing.{head_at}
 use Rattle.store.proofs.Store.has_room.Goals as goal
 
@@ -14,5 +16,8 @@ overflow_sub-result c = let r = head_at c.args.plan.now.words c.requires.0.offse
 pub returns : goal.returns
 returns c =
     let r = head_at c.args.plan.now.words c.requires.0.offset in
-    ⊎_elim (λ h. le-leb _ _ h ∙ sym (le-leb _ _ (omega arith))) (λ h. lt-leb _ _ h ∙ sym (lt-leb _ _ (omega arith)))
-    (le-or-lt c.args.units (c.cell-bound.result - c.cell-total.result))
+    let was = store_at c.args.self.offset (contents c.args.plan.now.words) in
+    let left = c.cell-bound.result - c.cell-total.result in
+    ⊎_elim (λ h. le-leb c.args.units left h ∙ sym (le-leb (was.total + c.args.units) was.bound (omega arith)))
+    (λ h. lt-leb c.args.units left h ∙ sym (lt-leb (was.total + c.args.units) was.bound (omega arith)))
+    (le-or-lt c.args.units left)
