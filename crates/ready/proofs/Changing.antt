@@ -1,10 +1,11 @@
 -- Laws of the ready set: a place that is added or taken.
-use mathlib.Core.Path.{◌≡◌, sym, ap, ◌∙◌}
+use mathlib.Core.Path.{◌≡◌, refl, sym, ap, subst, ◌∙◌}
 use mathlib.Core.Bool.{Bool, true, false, not, cond}
-use mathlib.Core.Logic.{⊎_elim}
+use mathlib.Core.Logic.{◌⊎◌, ⊎_elim}
 use mathlib.Core.List.{List}
-use Prim.Native.Nat.{ℕ, ◌+◌, ◌-◌, ◌*◌, ◌/◌, ◌%◌, ◌^◌, ◌≤◌, ◌<◌}
+use Prim.Native.Nat.{ℕ, ◌+◌, ◌*◌, ◌/◌, ◌%◌, ◌^◌, ◌<◌}
 use native.Mathlib.Omega.{arith}
+use lib.Bits.{bit_and, bit_xor, xor_add_and, xor_zero_l, and_zero_l}
 use lib.Dec.{eqb}
 use lib.ListN.{length, set, length-set}
 use lib.Pow.{pow_pos}
@@ -18,251 +19,202 @@ use Rattle.words.specs.Digits.{digits}
 use Rattle.words.specs.Marks.{Marks, changed, MayChange, Changed}
 use Rattle.words.proofs.Views.{part_at}
 use Rattle.words.proofs.Contents.{lengths, contents-ready, contents-filled}
-use Rattle.ready.proofs.Digits.{digits_same, digits_more, digits-below}
-use Rattle.ready.proofs.Marks.{some}
+use Rattle.ready.specs.Flipped.{flipped, Flipped}
+use Rattle.ready.proofs.Digits.{digits_same, digits-flip}
+use Rattle.ready.proofs.Marks.{some, marks-same}
 
--- the word that says so, where one word changes
-module _ (l l' : List ℕ) (j : ℕ) (other : (q : ℕ) → (q ≡ j → ⊥) → at l' q ≡ at l q) (full : at l' j ≡ 0 → ⊥) where
-  some-there : some l' j ≡ true
-  some-there = ap (λ (b : Bool). not b) (ne_eqb (at l' j) 0 full)
+-- a word that is not 0
+not-zero : (l : List ℕ) (q : ℕ) → (at l q ≡ 0 → ⊥) → some l q ≡ true
+not-zero l q full = ap (λ (b : Bool). not b) (ne_eqb (at l q) 0 full)
 
+-- of a word and the word with a bit turned, one of which is 0, the other is not
+turned-zero : (word k : ℕ) → (word ≡ 0) ⊎ (bit_xor word (2 ^ k) ≡ 0) → eqb (bit_xor word (2 ^ k)) 0 ≡ not (eqb word 0)
+turned-zero word k one =
+    let x = xor_add_and word (2 ^ k) in
+    let p = pow_pos k in
+    ⊎_elim
+    (λ (before : word ≡ 0).
+    let e = xor_zero_l (2 ^ k) in
+    rw before (ne_eqb (bit_xor 0 (2 ^ k)) 0 (λ z. omega arith)))
+    (λ (later : bit_xor word (2 ^ k) ≡ 0).
+    eq-eqb (bit_xor word (2 ^ k)) 0 later ∙ sym (ap (λ (b : Bool). not b) (ne_eqb word 0 (λ z.
+    let a = ap (λ (n : ℕ). bit_and n (2 ^ k)) z ∙ and_zero_l (2 ^ k) in
+    omega arith))))
+    one
+
+-- the word that says which words are not 0, where one word changes
+module _ (l l' : List ℕ) (j : ℕ) (other : (q : ℕ) → (q ≡ j → ⊥) → at l' q ≡ at l q) where
   some-other : (q : ℕ) → (q ≡ j → ⊥) → some l' q ≡ some l q
   some-other q d = ap (λ (v : ℕ). not (eqb v 0)) (other q d)
 
-  filled_more : j < blocks → at l j ≡ 0 → digits (some l') blocks ≡ digits (some l) blocks + 2 ^ j
-  filled_more h empty =
-      digits_more blocks j (some l) (some l') h (ap (λ (b : Bool). not b) (eq-eqb (at l j) 0 empty)) some-there some-other
-
-  filled-same : (at l j ≡ 0 → ⊥) → digits (some l') blocks ≡ digits (some l) blocks
-  filled-same before =
+  filled-same : (at l j ≡ 0 → ⊥) → (at l' j ≡ 0 → ⊥) → digits (some l') blocks ≡ digits (some l) blocks
+  filled-same before after =
       digits_same blocks (some l) (some l')
       (λ q _.
       ⊎_elim
-      (λ e.
-      ap (some l') e
-      ∙ some-there
-      ∙ sym (ap (some l) e ∙ ap (λ (b : Bool). not b) (ne_eqb (at l j) 0 before)))
+      (λ e. ap (some l') e ∙ not-zero l' j after ∙ sym (ap (some l) e ∙ not-zero l j before))
       (some-other q)
       (same_or_not q j))
 
--- the word of a place, where it is added or taken
-abbrev digits_with : (ℕ → Bool) → ℕ → Bool → ℕ
-digits_with test place b = digits (λ k. changed test place b (bits * (place / bits) + k)) bits
+  filled-flip : j < blocks → some l' j ≡ not (some l j) → bit_xor (digits (some l) blocks) (2 ^ j) ≡ digits (some l') blocks
+  filled-flip h turned = digits-flip blocks j (some l) (some l') h turned some-other
 
--- a place of the set, and the words where it is added or taken
+-- the word of a place once it is turned
+abbrev digits_with : (ℕ → Bool) → ℕ → ℕ
+digits_with test place = digits (λ k. flipped test place (bits * (place / bits) + k)) bits
+
+-- a place of the set, and the words where it is turned
 module _ {c : Contents} {test : ℕ → Bool} (m : Marks test c) {place : ℕ} (inside : place < entries) where
-  in_blocks : place / bits < blocks
-  in_blocks = omega arith
-
-  changed-there : (b : Bool) → changed test place b (bits * (place / bits) + place % bits) ≡ b
-  changed-there b =
-      ap (λ (v : Bool). cond v b (test (bits * (place / bits) + place % bits)))
+  flipped-there : flipped test place (bits * (place / bits) + place % bits) ≡ not (test (bits * (place / bits) + place % bits))
+  flipped-there =
+      ap (λ (v : Bool). cond v (not (test (bits * (place / bits) + place % bits))) (test (bits * (place / bits) + place % bits)))
       (eq-eqb (bits * (place / bits) + place % bits) place (omega arith))
 
-  changed-other : (b : Bool) (e : ℕ) → (e ≡ place → ⊥) → changed test place b e ≡ test e
-  changed-other b e d = ap (λ (v : Bool). cond v b (test e)) (ne_eqb e place d)
+  flipped-other : (e : ℕ) → (e ≡ place → ⊥) → flipped test place e ≡ test e
+  flipped-other e d = ap (λ (v : Bool). cond v (not (test e)) (test e)) (ne_eqb e place d)
 
-  test-there : (b : Bool) → test place ≡ b → test (bits * (place / bits) + place % bits) ≡ b
-  test-there b e = ap test (omega arith) ∙ e
-
-  word-added : test place ≡ false → digits_with test place true ≡ at c.ready (place / bits) + 2 ^ (place % bits)
-  word-added off =
-      digits_more bits (place % bits) (λ k. test (bits * (place / bits) + k))
-      (λ k. changed test place true (bits * (place / bits) + k)) (omega arith) (test-there false off) (changed-there true)
-      (λ k d. changed-other true (bits * (place / bits) + k) (λ e. d (omega arith)))
-      ∙ ap (λ (v : ℕ). v + 2 ^ (place % bits)) (sym (m.marked (place / bits) in_blocks))
-
-  word-taken : test place ≡ true → at c.ready (place / bits) ≡ digits_with test place false + 2 ^ (place % bits)
-  word-taken on =
-      m.marked (place / bits) in_blocks
-      ∙ digits_more bits (place % bits) (λ k. changed test place false (bits * (place / bits) + k))
-      (λ k. test (bits * (place / bits) + k)) (omega arith) (changed-there false) (test-there true on)
-      (λ k d. sym (changed-other false (bits * (place / bits) + k) (λ e. d (omega arith))))
+  word-flipped : bit_xor (at c.ready (place / bits)) (2 ^ (place % bits)) ≡ digits_with test place
+  word-flipped =
+      ap (λ (v : ℕ). bit_xor v (2 ^ (place % bits))) (m.marked (place / bits) (omega arith))
+      ∙ digits-flip bits (place % bits) (λ k. test (bits * (place / bits) + k))
+      (λ k. flipped test place (bits * (place / bits) + k)) (omega arith) flipped-there
+      (λ k d. flipped-other (bits * (place / bits) + k) (λ e. d (omega arith)))
 
   -- the set with another word for the block of the place
   marks-with :
-      (b : Bool) (word filled : ℕ)
+      (word filled : ℕ)
       → length c.ready ≡ blocks
-      → word ≡ digits_with test place b
+      → word ≡ digits_with test place
       → filled ≡ digits (some (set c.ready (place / bits) word)) blocks
-      → Marks (changed test place b) (with_ready (set c.ready (place / bits) word) filled c)
+      → Marks (flipped test place) (with_ready (set c.ready (place / bits) word) filled c)
   unfolding with_ready
-  marks-with b word filled sized e f =
+  marks-with word filled sized e f =
       record {
         marked =
             λ q h.
             ⊎_elim
             (λ (s : q ≡ place / bits).
             ap (at (set c.ready (place / bits) word)) s
-            ∙ get_or-set_same c.ready (place / bits) word 0 (let i = in_blocks in omega arith)
+            ∙ get_or-set_same c.ready (place / bits) word 0 (omega arith)
             ∙ e
-            ∙ ap (λ (p : ℕ). digits (λ k. changed test place b (bits * p + k)) bits) (sym s))
+            ∙ ap (λ (p : ℕ). digits (λ k. flipped test place (bits * p + k)) bits) (sym s))
             (λ d.
             get_or-set_other c.ready (place / bits) q word 0 d
             ∙ m.marked q h
             ∙ sym
-            (digits_same bits (λ k. test (bits * q + k)) (λ k. changed test place b (bits * q + k))
-            (λ k l. changed-other b (bits * q + k) (λ s. d (omega arith)))))
+            (digits_same bits (λ k. test (bits * q + k)) (λ k. flipped test place (bits * q + k))
+            (λ k l. flipped-other (bits * q + k) (λ s. d (omega arith)))))
             (same_or_not q (place / bits));
         filled = f;
       }
 
--- another word for the block of the place is written, and one that says which words are not 0
-module _ (w : List ℕ) (place : ℕ) (b : Bool) (pre : MayChange place (not b) (contents w)) where
-  long : length w ≡ words
+-- the place's bit of its word is turned
+module _ (w : List ℕ) (place : ℕ) (long : (contents w).extent ≡ words) (inside : place < entries) {word bit : ℕ}
+    (read : word ≡ at w (ready_base + place / bits)) (power : bit ≡ 2 ^ (place % bits)) where
+  word_read : word ≡ at (contents w).ready (place / bits)
   unfolding contents
-  long = pre.long
+  word_read = read ∙ part_at ready_base blocks w (place / bits) (omega arith)
 
-  block_in : place / bits < blocks
-  block_in = let i = pre.inside in omega arith
-
-  word_read : at w (ready_base + place / bits) ≡ at (contents w).ready (place / bits)
+  extent : length w ≡ words
   unfolding contents
-  word_read = part_at ready_base blocks w (place / bits) block_in
+  extent = long
 
-  module _ (word : ℕ) where
-    -- the words of the set then
-    abbrev after : List ℕ
-    after = set (contents w).ready (place / bits) word
+  -- the words of the set then
+  abbrev after : List ℕ
+  after = set (contents w).ready (place / bits) (bit_xor word bit)
 
-    after-there : at after (place / bits) ≡ word
-    after-there =
-        let i = block_in in
-        let s = (lengths w).ready in
-        get_or-set_same (contents w).ready (place / bits) word 0 (omega arith)
+  after-there : at after (place / bits) ≡ bit_xor word bit
+  after-there =
+      let s = (lengths w).ready in
+      get_or-set_same (contents w).ready (place / bits) (bit_xor word bit) 0 (omega arith)
 
-    after-other : (q : ℕ) → (q ≡ place / bits → ⊥) → at after q ≡ at (contents w).ready q
-    after-other q d = get_or-set_other (contents w).ready (place / bits) q word 0 d
+  after-other : (q : ℕ) → (q ≡ place / bits → ⊥) → at after q ≡ at (contents w).ready q
+  after-other q d = get_or-set_other (contents w).ready (place / bits) q (bit_xor word bit) 0 d
 
-    module _ (word-is : (test : ℕ → Bool) → Marks test (contents w) → test place ≡ not b → word ≡ digits_with test place b) where
-      changed-to :
-          {c : Contents} {filled : ℕ}
-          → c ≡ with_ready after filled (contents w)
-          → filled ≡ digits (some after) blocks
-          → Changed place b (contents w) c
+  flipped-to :
+      {c : Contents} {filled : ℕ}
+      → c ≡ with_ready after filled (contents w)
+      → ((test : ℕ → Bool) → Marks test (contents w) → filled ≡ digits (some after) blocks)
+      → Flipped place (contents w) c
+  unfolding with_ready
+  flipped-to {filled = filled} e filled_is =
+      record {
+        same = e ∙ sym (ap (λ (d : Contents). with_ready d.ready d.filled (contents w)) e);
+        marks =
+            λ test m.
+            rw e
+            (marks-with m inside (bit_xor word bit) filled (lengths w).ready
+            (ap (λ (v : ℕ). bit_xor v bit) word_read
+            ∙ ap (bit_xor (at (contents w).ready (place / bits))) power
+            ∙ word-flipped m inside)
+            (filled_is test m));
+      }
+
+  module _ {w' : List ℕ} (written : w' ≡ set w (ready_base + place / bits) (bit_xor word bit)) where
+    once : contents w' ≡ with_ready after (contents w).filled (contents w)
+    unfolding contents
+    once = ap contents written ∙ contents-ready w extent (place / bits) (bit_xor word bit) (omega arith)
+
+    -- neither it nor what it was is 0
+    pub flipped-once : (word ≡ 0 → ⊥) → (bit_xor word bit ≡ 0 → ⊥) → Flipped place (contents w) (contents w')
+    flipped-once some_before some_after =
+        flipped-to once
+        (λ test m.
+        m.filled
+        ∙ sym
+        (filled-same (contents w).ready after (place / bits) after-other (λ e. some_before (word_read ∙ e))
+        (λ e. some_after (sym after-there ∙ e))))
+
+    -- one of them is 0
+    module _ (none : (word ≡ 0) ⊎ (bit_xor word bit ≡ 0)) {filled flag : ℕ} (look : filled ≡ at w' filled_word)
+        (second : flag ≡ 2 ^ (place / bits)) where
+      filled-read : filled ≡ (contents w).filled
+      unfolding contents with_ready
+      filled-read = look ∙ ap (λ (c : Contents). c.filled) once
+
+      turned : some after (place / bits) ≡ not (some (contents w).ready (place / bits))
+      turned =
+          ap (λ (v : ℕ). not (eqb v 0)) after-there
+          ∙ ap (λ (b : Bool). not b)
+          (rw power (turned-zero word (place % bits) (subst (λ (v : ℕ). (word ≡ 0) ⊎ (bit_xor word v ≡ 0)) power none)))
+          ∙ ap (λ (v : ℕ). not (not (eqb v 0))) word_read
+
+      pub flipped-twice : {w'' : List ℕ} → w'' ≡ set w' filled_word (bit_xor filled flag) → Flipped place (contents w) (contents w'')
       unfolding with_ready
-      changed-to {filled = filled} e filled_is =
-          record {
-            same = e ∙ sym (ap (λ (d : Contents). with_ready d.ready d.filled (contents w)) e);
-            marks =
-                λ test m there.
-                rw e (marks-with m pre.inside b word filled (lengths w).ready (word-is test m there) filled_is);
-          }
-
-      module _ {w' : List ℕ} (written : w' ≡ set w (ready_base + place / bits) word) where
-        once : contents w' ≡ with_ready after (contents w).filled (contents w)
-        once = ap contents written ∙ contents-ready w long (place / bits) word block_in
-
-        changed-once : (contents w).filled ≡ digits (some after) blocks → Changed place b (contents w) (contents w')
-        changed-once filled_is = changed-to once filled_is
-
-        filled-read : at w' filled_word ≡ (contents w).filled
-        unfolding contents with_ready
-        filled-read = ap (λ (c : Contents). c.filled) once
-
-        changed-twice :
-            {w'' : List ℕ} {filled : ℕ}
-            → w'' ≡ set w' filled_word filled
-            → filled ≡ digits (some after) blocks
-            → Changed place b (contents w) (contents w'')
-        unfolding with_ready
-        changed-twice {w''} {filled} again filled_is =
-            let same_length : length w' ≡ words = ap length written ∙ length-set w (ready_base + place / bits) word ∙ long in
-            changed-to
-            (ap contents again
-            ∙ contents-filled w' same_length filled
-            ∙ ap (λ (c : Contents). with_ready c.ready filled c) once)
-            filled_is
-
--- a place is added
-module _ (w : List ℕ) (place : ℕ) (pre : MayChange place false (contents w)) {word bit : ℕ}
-    (read : word ≡ at w (ready_base + place / bits)) (power : bit ≡ 2 ^ (place % bits)) where
-  more-is : (test : ℕ → Bool) → Marks test (contents w) → test place ≡ false → word + bit ≡ digits_with test place true
-  more-is test m off = let e = word-added m pre.inside off in let r = word_read w place true pre in omega arith
-
-  pub more-fits : word + bit < 2 ^ bits
-  more-fits =
-      let e = more-is pre.test pre.marks pre.there in
-      let f = digits-below bits (λ k. changed pre.test place true (bits * (place / bits) + k)) in
-      omega arith
-
-  full : at (after w place true pre (word + bit)) (place / bits) ≡ 0 → ⊥
-  full e = let t = after-there w place true pre (word + bit) in let p = pow_pos (place % bits) in omega arith
-
-  module _ {w' : List ℕ} (written : w' ≡ set w (ready_base + place / bits) (word + bit)) where
-    -- to a word that was not 0
-    pub added : (word ≡ 0 → ⊥) → Changed place true (contents w) (contents w')
-    added some-before =
-        changed-once w place true pre (word + bit) more-is written
-        (pre.marks.filled
-        ∙ sym
-        (filled-same (contents w).ready (after w place true pre (word + bit)) (place / bits)
-        (after-other w place true pre (word + bit)) full (λ e. some-before (read ∙ word_read w place true pre ∙ e))))
-
-    -- to a word that was 0
-    module _ (none_before : word ≡ 0) {filled flag : ℕ} (look : filled ≡ at w' filled_word) (second : flag ≡ 2 ^ (place / bits)) where
-      filled_is : filled + flag ≡ digits (some (after w place true pre (word + bit))) blocks
-      filled_is =
-          let f =
-          filled_more (contents w).ready (after w place true pre (word + bit)) (place / bits)
-          (after-other w place true pre (word + bit)) full (block_in w place true pre)
-          (sym (word_read w place true pre) ∙ sym read ∙ none_before)
+      flipped-twice again =
+          let same_length : length w' ≡ words =
+          ap length written ∙ length-set w (ready_base + place / bits) (bit_xor word bit) ∙ extent
           in
-          let l = filled-read w place true pre (word + bit) more-is written in
-          let k = pre.marks.filled in
-          omega arith
+          flipped-to
+          (ap contents again
+          ∙ contents-filled w' same_length (bit_xor filled flag)
+          ∙ ap (λ (c : Contents). with_ready c.ready (bit_xor filled flag) c) once)
+          (λ test m.
+          ap (λ (v : ℕ). bit_xor v flag) (filled-read ∙ m.filled)
+          ∙ ap (bit_xor (digits (some (contents w).ready) blocks)) second
+          ∙ filled-flip (contents w).ready after (place / bits) after-other (omega arith) turned)
 
-      pub filled-fits : filled + flag < 2 ^ blocks
-      filled-fits =
-          let e = filled_is in
-          let f = digits-below blocks (some (after w place true pre (word + bit))) in
-          omega arith
-
-      pub added-first : {w'' : List ℕ} → w'' ≡ set w' filled_word (filled + flag) → Changed place true (contents w) (contents w'')
-      added-first again = changed-twice w place true pre (word + bit) more-is written again filled_is
-
--- a place is taken
-module _ (w : List ℕ) (place : ℕ) (pre : MayChange place true (contents w)) {word bit : ℕ}
-    (read : word ≡ at w (ready_base + place / bits)) (power : bit ≡ 2 ^ (place % bits)) where
-  fewer-is : (test : ℕ → Bool) → Marks test (contents w) → test place ≡ true → word - bit ≡ digits_with test place false
-  fewer-is test m on = let e = word-taken m pre.inside on in let r = word_read w place false pre in omega arith
-
-  pub word-has : bit ≤ word
-  word-has =
-      let e = word-taken pre.marks pre.inside pre.there in
-      let r = word_read w place false pre in
-      omega arith
-
-  full-before : at (contents w).ready (place / bits) ≡ 0 → ⊥
-  full-before e = let h = word-has in let r = word_read w place false pre in let p = pow_pos (place % bits) in omega arith
-
-  module _ {w' : List ℕ} (written : w' ≡ set w (ready_base + place / bits) (word - bit)) where
-    -- from a word that has others
-    pub taken : (word - bit ≡ 0 → ⊥) → Changed place false (contents w) (contents w')
-    taken Some-after =
-        changed-once w place false pre (word - bit) fewer-is written
-        (pre.marks.filled
-        ∙ sym
-        (filled-same (contents w).ready (after w place false pre (word - bit)) (place / bits)
-        (after-other w place false pre (word - bit)) (λ e. Some-after (sym (after-there w place false pre (word - bit)) ∙ e))
-        full-before))
-
-    -- the last one of a word
-    module _ (none_after : word - bit ≡ 0) {filled flag : ℕ} (look : filled ≡ at w' filled_word) (second : flag ≡ 2 ^ (place / bits)) where
-      filled-was : filled ≡ digits (some (after w place false pre (word - bit))) blocks + flag
-      filled-was =
-          let f =
-          filled_more (after w place false pre (word - bit)) (contents w).ready (place / bits)
-          (λ q d. sym (after-other w place false pre (word - bit) q d)) full-before (block_in w place false pre)
-          (after-there w place false pre (word - bit) ∙ none_after)
-          in
-          let l = filled-read w place false pre (word - bit) fewer-is written in
-          let k = pre.marks.filled in
-          omega arith
-
-      pub filled-has : flag ≤ filled
-      filled-has = let e = filled-was in omega arith
-
-      pub taken-last : {w'' : List ℕ} → w'' ≡ set w' filled_word (filled - flag) → Changed place false (contents w) (contents w'')
-      taken-last again =
-          changed-twice w place false pre (word - bit) fewer-is written again (let e = filled-was in omega arith)
+-- where a place is not in the set it is added, and where it is there it is taken
+pub changed-to : (place : ℕ) (b : Bool) (c c' : Contents) → Flipped place c c' → Changed place b c c'
+changed-to place b c c' f =
+    record {
+      same = f.same;
+      marks =
+          λ test m there.
+          marks-same
+          (λ e _.
+          ⊎_elim
+          (λ (s : e ≡ place).
+          ap (λ (v : Bool). cond v b (test e)) (eq-eqb e place s)
+          ∙ sym (ap (λ (v : Bool). not v) (ap test s ∙ there) ∙ twice b)
+          ∙ sym (ap (λ (v : Bool). cond v (not (test e)) (test e)) (eq-eqb e place s)))
+          (λ d.
+          ap (λ (v : Bool). cond v b (test e)) (ne_eqb e place d)
+          ∙ sym (ap (λ (v : Bool). cond v (not (test e)) (test e)) (ne_eqb e place d)))
+          (same_or_not e place))
+          (f.marks test m);
+    }
+  where
+    twice : (b : Bool) → not (not b) ≡ b
+    twice true = refl
+    twice false = refl

@@ -1,10 +1,13 @@
 -- Laws of a set of places as the digits of a number.
-use mathlib.Core.Path.{◌≡◌, refl, ap, ◌∙◌}
-use mathlib.Core.Bool.{Bool, true, false, cond}
+use mathlib.Core.Path.{◌≡◌, refl, sym, ap, ◌∙◌}
+use mathlib.Core.Bool.{Bool, true, false, not, cond}
 use mathlib.Core.Logic.{⊎_elim}
 use Prim.Native.Nat.{ℕ, zero, suc, ◌+◌, ◌*◌, ◌/◌, ◌%◌, ◌^◌, ◌≤◌, ◌<◌}
 use native.Mathlib.Omega.{arith}
+use lib.Bits.{bit_xor, xor_add_and}
 use lib.Count.{count_trailing_zeros, under}
+use Rattle.std.specs.Int.{bit_at}
+use Rattle.std.proofs.lemmas.Nat.Bits.{bit_at_lowest, bit_at-suc, and_pow}
 use Rattle.numbers.specs.Sums.{only}
 use Rattle.numbers.proofs.Tests.{decide, le-or-lt}
 use Rattle.words.specs.Digits.{digits, first_in}
@@ -41,6 +44,49 @@ digits_more (suc count) (suc j) f g h off on same =
     (λ k d. same (suc k) (λ e. d (omega arith)))
     in
     omega arith
+
+-- the digit of a place
+bit_at-digits : (count j : ℕ) (f : ℕ → Bool) → j < count → bit_at (digits f count) j ≡ only (f j) 1
+unfolding digits
+bit_at-digits zero j f h = absurd (omega arith)
+bit_at-digits (suc count) zero f h = bit_at_lowest (digits f (suc count)) ∙ lowest (f 0)
+  where
+    lowest : (b : Bool) → (only b 1 + 2 * digits (λ k. f (suc k)) count) % 2 ≡ only b 1
+    lowest true = omega arith
+    lowest false = omega arith
+bit_at-digits (suc count) (suc j) f h =
+    bit_at-suc (digits f (suc count)) j
+    ∙ ap (λ (n : ℕ). bit_at n j) (halved (f 0))
+    ∙ bit_at-digits count j (λ k. f (suc k)) (omega arith)
+  where
+    halved : (b : Bool) → (only b 1 + 2 * digits (λ k. f (suc k)) count) / 2 ≡ digits (λ k. f (suc k)) count
+    halved true = omega arith
+    halved false = omega arith
+
+-- a place is added where it is not there, and taken where it is
+pub digits-flip :
+    (count j : ℕ) (f g : ℕ → Bool)
+    → j < count
+    → g j ≡ not (f j)
+    → ((k : ℕ) → (k ≡ j → ⊥) → g k ≡ f k)
+    → bit_xor (digits f count) (2 ^ j) ≡ digits g count
+digits-flip count j f g h turned same =
+    let x = xor_add_and (digits f count) (2 ^ j) in
+    let a = and_pow (digits f count) j in
+    ⊎_elim
+    (λ (on : f j ≡ true).
+    let b : bit_at (digits f count) j * 2 ^ j ≡ 1 * 2 ^ j =
+    ap (λ (d : ℕ). d * 2 ^ j) (bit_at-digits count j f h ∙ ap (λ (t : Bool). only t 1) on)
+    in
+    let e = digits_more count j g f h (turned ∙ ap (λ (t : Bool). not t) on) on (λ k d. sym (same k d)) in
+    omega arith)
+    (λ (off : f j ≡ false).
+    let b : bit_at (digits f count) j * 2 ^ j ≡ 0 * 2 ^ j =
+    ap (λ (d : ℕ). d * 2 ^ j) (bit_at-digits count j f h ∙ ap (λ (t : Bool). only t 1) off)
+    in
+    let e = digits_more count j f g h off (turned ∙ ap (λ (t : Bool). not t) off) same in
+    omega arith)
+    (decide (f j))
 
 pub digits-below : (count : ℕ) (f : ℕ → Bool) → digits f count < 2 ^ count
 unfolding digits

@@ -1,13 +1,14 @@
 -- Laws of the ready set: when it is the same, and its first place.
 use mathlib.Core.Path.{◌≡◌, sym, ap, ◌∙◌}
-use mathlib.Core.Bool.{Bool, true, false, not, cond}
+use mathlib.Core.Bool.{Bool, true, false, not}
 use mathlib.Core.Logic.{⊎_elim}
 use mathlib.Core.List.{List}
+use Rattle.std.specs.Prelude.{None, Some}
 use Prim.Native.Nat.{ℕ, ◌+◌, ◌*◌, ◌/◌, ◌%◌, ◌<◌}
 use native.Mathlib.Omega.{arith}
 use lib.Count.{count_trailing_zeros}
 use lib.Dec.{eqb}
-use borrow.Author.Tests.{eqb-true, eqb-false, not-true, not-false, lt-ltb, le-ltb}
+use borrow.Author.Tests.{eqb-true, eqb-false, not-true, not-false}
 use Rattle.numbers.specs.Lists.{at}
 use Rattle.numbers.proofs.Tests.{same_or_not}
 use Rattle.words.specs.Layout.{entries, bits, blocks}
@@ -108,29 +109,21 @@ module _ {c : Contents} {test : ℕ → Bool} (m : Marks test c) where
           (same_or_not (e / bits) q))
           (λ h. ap in-word bit_is ∙ first-there in-word bits (omega (arith, bit_is)))
 
-pub first-none : (none : ℕ) (c : Contents) → c.filled ≡ 0 → FirstMarked none c none
-first-none none c empty =
-    record {
-      first =
-          λ test m.
-          let e = none_first m empty in
-          sym
-          (ap (λ (b : Bool). cond b (first_in test entries) none) (le-ltb (first_in test entries) entries (omega arith)));
-    }
+pub first-none : (c : Contents) → c.filled ≡ 0 → FirstMarked c None
+first-none c empty = record { first = λ test m. none_first m empty }
 
 pub first-lowest :
-    (none : ℕ) (c : Contents) (q k : ℕ)
+    (c : Contents) (q k : ℕ)
     → (c.filled ≡ 0 → ⊥)
     → q ≡ count_trailing_zeros bits c.filled
     → k ≡ count_trailing_zeros bits (at c.ready q)
-    → FirstMarked none c (bits * q + k)
-first-lowest none c q k full word bit =
+    → FirstMarked c (Some (bits * q + k))
+first-lowest c q k full word bit =
     record {
       first =
           λ test m.
           let e = first-place m full word bit in
           let i = word_in m full word in
           let j = bit_in m full word bit in
-          sym
-          (ap (λ (b : Bool). cond b (first_in test entries) none) (lt-ltb (first_in test entries) entries (omega arith)) ∙ e);
+          (sym e, omega arith);
     }

@@ -2,27 +2,27 @@
 // two looks.
 #![tactic(auto)]
 
-ghost use Rattle.std.specs.Prelude.{◌≡◌, true, false, ◌^◌, ◌<◌};
-ghost use Rattle.std.specs.Int.Count.{count_trailing_zeros};
-ghost use Rattle.words.specs.Layout.{bits};
+ghost use Rattle.std.specs.Prelude.{◌≡◌, true, false, ◌<◌};
+ghost use Rattle.words.specs.Layout.{words, entries};
 ghost use Rattle.words.specs.Contents.{contents};
 ghost use Rattle.words.specs.Marks.{MayChange, Changed, FirstMarked, Marked};
+ghost use Rattle.ready.specs.Flipped.{Flipped};
 
 use words::plan::Plan;
 
-// The word with one bit.
-fn bit(place: usize) -> u32
-    requires { place < bits }
-    ensures { result ≡ 2 ^ place }
+// Adds a place that is not in the set, and takes one that is.
+fn flip(plan: &mut Plan, place: usize)
+    requires { ((contents plan.old.words).extent ≡ words) × (place < entries) }
+    ensures { Flipped place (contents plan.old.words) (contents plan.new.words) }
 {
-    1u32 << place
-}
-
-// The lowest bit of a word.
-fn lowest(word: u32) -> usize
-    ensures { result ≡ count_trailing_zeros bits word }
-{
-    u32::trailing_zeros(word) as usize
+    let block = place / Plan::BITS;
+    let word = plan.entry(Plan::READY_SET, block);
+    let flipped = word ^ (1 << (place % Plan::BITS));
+    plan.set_entry(Plan::READY_SET, block, flipped);
+    if word == 0 || flipped == 0 {
+        let filled = plan.entry(Plan::FILLED, 0);
+        plan.set_entry(Plan::FILLED, 0, filled ^ (1 << block));
+    }
 }
 
 // Adds a place that is not in the set.
@@ -30,13 +30,7 @@ pub fn insert(plan: &mut Plan, place: usize)
     requires { MayChange place false (contents plan.old.words) }
     ensures { Changed place true (contents plan.old.words) (contents plan.new.words) }
 {
-    let block = place / Plan::BITS;
-    let word = plan.entry(Plan::READY_SET, block);
-    plan.set_entry(Plan::READY_SET, block, word + bit(place % Plan::BITS));
-    if word == 0 {
-        let filled = plan.entry(Plan::FILLED, 0);
-        plan.set_entry(Plan::FILLED, 0, filled + bit(block));
-    }
+    flip(plan, place);
 }
 
 // Takes a place from the set.
@@ -44,26 +38,19 @@ pub fn remove(plan: &mut Plan, place: usize)
     requires { MayChange place true (contents plan.old.words) }
     ensures { Changed place false (contents plan.old.words) (contents plan.new.words) }
 {
-    let block = place / Plan::BITS;
-    let word = plan.entry(Plan::READY_SET, block);
-    let rest = word - bit(place % Plan::BITS);
-    plan.set_entry(Plan::READY_SET, block, rest);
-    if rest == 0 {
-        let filled = plan.entry(Plan::FILLED, 0);
-        plan.set_entry(Plan::FILLED, 0, filled - bit(block));
-    }
+    flip(plan, place);
 }
 
-// The first place of the set, or `none` where it is empty.
-pub fn first_ready(plan: &Plan, none: usize) -> usize
+// The first place of the set.
+pub fn first_ready(plan: &Plan) -> Option<usize>
     requires { Marked (contents plan.now.words) }
-    ensures { FirstMarked none (contents plan.now.words) result }
+    ensures { FirstMarked (contents plan.now.words) result }
 {
     let filled = plan.entry(Plan::FILLED, 0);
     if filled == 0 {
-        return none;
+        return None;
     }
-    let block = lowest(filled);
+    let block = filled.trailing_zeros() as usize;
     let word = plan.entry(Plan::READY_SET, block);
-    Plan::BITS * block + lowest(word)
+    Some(Plan::BITS * block + word.trailing_zeros() as usize)
 }

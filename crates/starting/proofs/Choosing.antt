@@ -1,20 +1,19 @@
 -- The first place of the ready set has the task that the rules start next.
 use mathlib.Core.Path.{◌≡◌, refl, sym, ap, ◌∙◌}
-use mathlib.Core.Bool.{Bool, true, false, cond, ◌&&◌}
+use mathlib.Core.Bool.{Bool, true, false, ◌&&◌}
 use mathlib.Core.List.{List, [], ◌∷◌}
-use mathlib.Core.Logic.{⊎_elim}
+use Rattle.std.specs.Prelude.{None, Some}
 use Prim.Native.Nat.{ℕ, suc, ◌<◌}
 use native.Mathlib.Omega.{arith}
 use lib.Dec.{ltb}
 use lib.ListN.{length}
-use borrow.Author.Tests.{lt-ltb, ltb-true, ltb-false}
+use borrow.Author.Tests.{lt-ltb, ltb-true}
 use Rattle.numbers.specs.Lists.{at, first}
 use Rattle.books.specs.Booking.{ready}
-use Rattle.numbers.proofs.Tests.{decide, and-true}
+use Rattle.numbers.proofs.Tests.{and-true}
 use Rattle.books.proofs.Branches.{first-later, first-at}
 use Rattle.words.specs.Layout.{entries}
 use Rattle.words.specs.Contents.{Contents}
-use Rattle.words.specs.Digits.{first_in}
 use Rattle.words.specs.Marks.{FirstMarked}
 use Rattle.ready.proofs.Digits.{first-before, first-there}
 use Rattle.store.specs.Rows.{books, execution_of}
@@ -54,51 +53,27 @@ module _ {c : Contents} (kept : Kept c) where
   unfolding is_ready_at
   not_ready e h none = sym (ap (λ (b : Bool). b && is_ready (at (execution_of c) e)) (lt-ltb e c.size h)) ∙ none
 
-  module _ {place : ℕ} (found : FirstMarked c.size c place) where
-    -- the set has a place, and this is its first, or it has none
-    by-test :
-        (b : Bool)
-        → ltb (first_in ready_at entries) entries ≡ b
-        → place ≡ cond b (first_in ready_at entries) c.size
-    by-test b e =
-        found.first ready_at kept.cached.marks
-        ∙ ap (λ (v : Bool). cond v (first_in ready_at entries) c.size) e
+  -- the set is empty: nobody is ready
+  pub none-ready : FirstMarked c None → first is_ready (execution_of c) ≡ 0
+  none-ready found =
+      let all = found.first ready_at kept.cached.marks in
+      let s = kept.invariant.small in
+      let w = kept.cached.placed.whole in
+      first-nowhere is_ready (execution_of c)
+      (λ k h. not_ready k (omega arith) (first-before ready_at entries k (omega arith)))
 
-    first-ready : (ltb (first_in ready_at entries) entries ≡ true) → ready_at place ≡ true
-    first-ready e =
-        ap ready_at (by-test true e) ∙ first-there ready_at entries (ltb-true (first_in ready_at entries) entries e)
+  -- else the task at the place is the first that is
+  module _ {place : ℕ} (found : FirstMarked c (Some place)) where
+    pub place-ready : ready_at place ≡ true
+    place-ready =
+        let e = found.first ready_at kept.cached.marks in
+        ap ready_at e.0 ∙ first-there ready_at entries (omega arith)
 
-    -- nobody is ready
-    pub none-ready : place ≡ c.size → first is_ready (execution_of c) ≡ 0
-    none-ready past =
-        ⊎_elim
-        (λ (e : ltb (first_in ready_at entries) entries ≡ true).
-        let i = (ready-there place (first-ready e)).0 in
-        absurd (omega arith))
-        (λ (e : ltb (first_in ready_at entries) entries ≡ false).
-        let all = ltb-false (first_in ready_at entries) entries e in
-        let s = kept.invariant.small in
+    pub chosen-first : first is_ready (execution_of c) ≡ at (execution_of c) place
+    chosen-first =
+        let here = ready-there place place-ready in
+        let in_size = here.0 in
         let w = kept.cached.placed.whole in
-        first-nowhere is_ready (execution_of c)
-        (λ k h. not_ready k (omega arith) (first-before ready_at entries k (omega arith))))
-        (decide (ltb (first_in ready_at entries) entries))
-
-    -- else the task at the place is the first that is
-    module _ (inside : place ≡ c.size → ⊥) where
-      some-marked : ltb (first_in ready_at entries) entries ≡ true
-      some-marked =
-          ⊎_elim (λ (e : ltb (first_in ready_at entries) entries ≡ true). e)
-          (λ (e : ltb (first_in ready_at entries) entries ≡ false). absurd (inside (by-test false e)))
-          (decide (ltb (first_in ready_at entries) entries))
-
-      pub place-ready : ready_at place ≡ true
-      place-ready = first-ready some-marked
-
-      pub chosen-first : first is_ready (execution_of c) ≡ at (execution_of c) place
-      chosen-first =
-          let here = ready-there place place-ready in
-          let in_size = here.0 in
-          let w = kept.cached.placed.whole in
-          let e = by-test true some-marked in
-          first-at is_ready (execution_of c) place (omega arith)
-          (λ k h. not_ready k (omega arith) (first-before ready_at entries k (omega arith))) here.1
+        let e = found.first ready_at kept.cached.marks in
+        first-at is_ready (execution_of c) place (omega arith)
+        (λ k h. not_ready k (omega arith) (first-before ready_at entries k (omega arith))) here.1

@@ -1,6 +1,7 @@
 -- Starting task by task: what the loop keeps, that starts the first ready task in each turn.
 use mathlib.Core.Path.{◌≡◌, refl, sym, ap, ◌∙◌}
 use mathlib.Core.List.{List, [], ◌∷◌, ◌++◌, append-nil}
+use Rattle.std.specs.Prelude.{None, Some}
 use Prim.Native.Nat.{ℕ, zero, suc, ◌+◌, ◌-◌, ◌≤◌, ◌<◌}
 use native.Mathlib.Omega.{arith}
 use lib.ListN.{length, take, set, length-append, length-drop}
@@ -56,8 +57,8 @@ front-more [] (y ∷ list) x h = refl
 front-more (z ∷ l) [] x h = absurd (omega arith)
 front-more (z ∷ l) (y ∷ list) x h = ap (λ (m : List ℕ). z ∷ m) (front-more l list x (omega arith))
 
--- from c₀ on some tasks are started, and those that start from c on are the rest; active and count are the loop's numbers
-pub record StartLoop (c₀ : Contents) (list₀ : List ℕ) (c : Contents) (list : List ℕ) (active count : ℕ) : Type 0 where
+-- from c₀ on so many tasks are started, and those that start from c on are the rest
+pub record StartLoop (c₀ : Contents) (list₀ : List ℕ) (c : Contents) (list : List ℕ) (count : ℕ) : Type 0 where
   pub done : List ℕ
   pub kept : Kept c
   pub same : SamePlan c₀ c
@@ -65,16 +66,13 @@ pub record StartLoop (c₀ : Contents) (list₀ : List ℕ) (c : Contents) (list
   pub whole : started_of c₀ ≡ done ++ started_of c
   pub counted : count ≡ length done
   pub listed : list ≡ front done list₀
-  pub runs : active ≡ c.active
-  pub so-many : active ≡ c₀.active + count
-  pub busy : active ≤ c₀.processors
+  pub run : c.active ≡ c₀.active + count
 
 module _ {c₀ : Contents} {list₀ : List ℕ} (m : MayStart c₀ list₀) where
   -- nobody is started at first
-  pub none_yet : {active : ℕ} → active ≡ c₀.active → StartLoop c₀ list₀ c₀ list₀ active 0
+  pub none_yet : StartLoop c₀ list₀ c₀ list₀ 0
   unfolding front start
-  none_yet e =
-      let b = m.busy in
+  none_yet =
       record {
         done = [];
         kept = m.kept;
@@ -83,31 +81,13 @@ module _ {c₀ : Contents} {list₀ : List ℕ} (m : MayStart c₀ list₀) wher
         whole = refl;
         counted = refl;
         listed = refl;
-        runs = e;
-        so-many = omega arith;
-        busy = omega arith;
+        run = omega arith;
       }
 
-  module _ {c : Contents} {list : List ℕ} {active count : ℕ} (g : StartLoop c₀ list₀ c list active count) where
+  module _ {c : Contents} {list : List ℕ} {count : ℕ} (g : StartLoop c₀ list₀ c list count) where
     -- the words of the ready set are those of a set
     pub marked : Marked c
     marked = record { test = _; marks = g.kept.cached.marks }
-
-    few : count ≤ least_starts
-    few =
-        let s = g.so-many in
-        let b = g.busy in
-        let l = m.few in
-        omega arith
-
-    -- the start list is as long as it was
-    pub as_long : length list ≡ length list₀
-    unfolding front
-    as_long =
-        let f = few in
-        let r = m.room in
-        let e = g.counted in
-        rw g.listed (simp (length-append, length-drop) (omega arith))
 
     -- where nobody starts any more, all are started
     ended : started_of c ≡ [] → Started c₀ c list₀ list count
@@ -122,77 +102,67 @@ module _ {c₀ : Contents} {list₀ : List ℕ} (m : MayStart c₀ list₀) wher
         }
 
     -- no processor is free
-    pub no-processor : c₀.processors ≤ active → Started c₀ c list₀ list count
+    pub no-processor : c₀.processors ≤ c₀.active + count → Started c₀ c list₀ list count
     no-processor full =
         let p = g.same.processors in
-        let a = g.runs in
+        let a = g.run in
         ended
         (starts-full c.size (at c.parents) (execution_of c) (c.processors - c.active) (books c).standings (omega arith))
 
-    module _ {place : ℕ} (found : FirstMarked c.size c place) where
-      -- nobody is ready
-      pub nobody-ready : place ≡ c.size → Started c₀ c list₀ list count
-      nobody-ready past =
-          ended
-          (starts-nobody c.size (at c.parents) (execution_of c) (c.processors - c.active) (books c).standings
-          (none-ready g.kept found past))
+    -- nobody is ready
+    pub nobody-ready : FirstMarked c None → Started c₀ c list₀ list count
+    nobody-ready none =
+        ended
+        (starts-nobody c.size (at c.parents) (execution_of c) (c.processors - c.active) (books c).standings
+        (none-ready g.kept none))
 
-      module _ (inside : place ≡ c.size → ⊥) where
-        -- else the task at the place runs
-        pub may-run : MayRun place c
-        may-run = record { kept = g.kept; ready = place-ready g.kept found inside }
+    -- else the task at the place runs
+    module _ {place : ℕ} (found : FirstMarked c (Some place)) where
+      pub may-run : MayRun place c
+      may-run = record { kept = g.kept; ready = place-ready g.kept found }
 
-        module _ (free : active < c₀.processors) where
-          pub count_small : count < max_processors
-          count_small = let s = g.so-many in let l = m.few in omega arith
+      module _ (free : c₀.active + count < c₀.processors) where
+        module _ {c' : Contents} {task : ℕ} (ran : OneStarted place c c' task) where
+          -- those that start from c on: the task, and those that start from then on
+          rest : started_of c ≡ task ∷ started_of c'
+          rest =
+              let t = placed-task g.kept.cached.placed place (place_in may-run) in
+              let e = ran.chosen in
+              let p = g.same.processors in
+              let a = g.run in
+              let s = ran.same in
+              let one_fewer : c.processors - c.active ≡ suc (c.processors - (c.active + 1)) = omega arith in
+              let later : ℕ → List ℕ → List ℕ = starts c.size (at c.parents) (execution_of c) in
+              ap (λ (f : ℕ). later f (books c).standings) one_fewer
+              ∙ starts_first c.size (at c.parents) (execution_of c) (c.processors - (c.active + 1)) (books c).standings task
+              (chosen-first g.kept found ∙ sym e) (omega (arith, t.low))
+              ∙ ap (λ (l : List ℕ). task ∷ l)
+              (sym
+              (λ z.
+              starts (s.size z) (at (s.parents z)) (take (s.size z) (s.execution z)) (s.processors z - ran.active z)
+              (ran.books z).standings))
 
-          pub room : count < length list
-          room = let s = count_small in let l = as_long in let r = m.room in omega arith
-
-          module _ {c' : Contents} {task : ℕ} (ran : OneStarted place c c' task) where
-            -- those that start from c on: the task, and those that start from then on
-            rest : started_of c ≡ task ∷ started_of c'
-            rest =
-                let t = placed-task g.kept.cached.placed place (place_in may-run) in
-                let e = ran.chosen in
-                let p = g.same.processors in
-                let a = g.runs in
-                let s = ran.same in
-                let one_fewer : c.processors - c.active ≡ suc (c.processors - (c.active + 1)) = omega arith in
-                let later : ℕ → List ℕ → List ℕ = starts c.size (at c.parents) (execution_of c) in
-                ap (λ (f : ℕ). later f (books c).standings) one_fewer
-                ∙ starts_first c.size (at c.parents) (execution_of c) (c.processors - (c.active + 1)) (books c).standings task
-                (chosen-first g.kept found inside ∙ sym e) (omega (arith, t.low))
-                ∙ ap (λ (l : List ℕ). task ∷ l)
-                (sym
-                (λ z.
-                starts (s.size z) (at (s.parents z)) (take (s.size z) (s.execution z)) (s.processors z - ran.active z)
-                (ran.books z).standings))
-
-            pub next : StartLoop c₀ list₀ c' (set list count task) (active + 1) (count + 1)
-            next =
-                let longer : length (g.done ++ (task ∷ [])) ≡ length g.done + 1 = length-append g.done (task ∷ []) in
-                let n = g.counted in
-                let a = g.runs in
-                let s = g.so-many in
-                let r = ran.active in
-                let k = room in
-                let l = as_long in
-                record {
-                  done = g.done ++ (task ∷ []);
-                  kept = ran.kept;
-                  same = same-trans g.same ran.same;
-                  books =
-                      ran.books
-                      ∙ ap (λ (b : Books). record { standings = set b.standings task running; booked = b.booked }) g.books
-                      ∙ ap (λ (v : List ℕ). record { standings = v; booked = (books c₀).booked })
-                      (sym (start-more g.done (books c₀).standings task));
-                  whole =
-                      g.whole ∙ ap (λ (v : List ℕ). g.done ++ v) rest ∙ sym (append_snoc g.done task (started_of c'));
-                  counted = omega arith;
-                  listed =
-                      rw (g.listed, g.counted) (sym (front-more g.done list₀ task (omega arith)));
-                  runs = omega arith;
-                  so-many = omega arith;
-                  busy = omega arith;
-                }
+          pub next : StartLoop c₀ list₀ c' (set list count task) (count + 1)
+          next =
+              let longer : length (g.done ++ (task ∷ [])) ≡ length g.done + 1 = length-append g.done (task ∷ []) in
+              let n = g.counted in
+              let a = g.run in
+              let r = ran.active in
+              let k = m.few in
+              let l = m.room in
+              record {
+                done = g.done ++ (task ∷ []);
+                kept = ran.kept;
+                same = same-trans g.same ran.same;
+                books =
+                    ran.books
+                    ∙ ap (λ (b : Books). record { standings = set b.standings task running; booked = b.booked }) g.books
+                    ∙ ap (λ (v : List ℕ). record { standings = v; booked = (books c₀).booked })
+                    (sym (start-more g.done (books c₀).standings task));
+                whole =
+                    g.whole ∙ ap (λ (v : List ℕ). g.done ++ v) rest ∙ sym (append_snoc g.done task (started_of c'));
+                counted = omega arith;
+                listed =
+                    rw (g.listed, g.counted) (sym (front-more g.done list₀ task (omega arith)));
+                run = omega arith;
+              }

@@ -1,5 +1,5 @@
 -- The ready set: the places that pass a test, a bit each, and a word that says which words of bits are not 0.
-use Rattle.std.specs.Prelude.{◌≡◌, Bool, not, cond, ℕ, ◌+◌, ◌*◌, ◌<◌, eqb, ltb}
+use Rattle.std.specs.Prelude.{◌≡◌, Bool, not, cond, ℕ, ◌+◌, ◌*◌, ◌<◌, eqb, Option, MatchOption}
 use Rattle.numbers.specs.Lists.{at}
 use Rattle.words.specs.Layout.{words, entries, bits, blocks}
 use Rattle.words.specs.Contents.{Contents, with_ready}
@@ -26,10 +26,12 @@ pub record Changed (place : ℕ) (b : Bool) (c c' : Contents) : Type 0 where
   pub same : c' ≡ with_ready c'.ready c'.filled c
   pub marks : (test : ℕ → Bool) → Marks test c → test place ≡ not b → Marks (changed test place b) c'
 
--- the first place of the set, or `none` where it is empty
-pub record FirstMarked (none : ℕ) (c : Contents) (r : ℕ) : Type 0 where
+-- the first place of the set, or none where it is empty
+pub record FirstMarked (c : Contents) (r : Option ℕ) : Type 0 where
   pub first :
-      (test : ℕ → Bool) → Marks test c → r ≡ cond (ltb (first_in test entries) entries) (first_in test entries) none
+      (test : ℕ → Bool)
+      → Marks test c
+      → MatchOption r (first_in test entries ≡ entries) (λ place. (place ≡ first_in test entries) × (place < entries))
 
 -- the words are those of some set
 pub record Marked (c : Contents) : Type 0 where
