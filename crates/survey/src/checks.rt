@@ -6,9 +6,10 @@ ghost use Rattle.numbers.specs.Lists.{at};
 ghost use Rattle.numbers.specs.Limits.{max_tasks};
 ghost use Rattle.tree.specs.Peak;
 ghost use Rattle.words.specs.Contents.{contents};
-ghost use Rattle.survey.specs.Survey.{RankedIn, order_ground};
+ghost use Rattle.survey.specs.Survey.{RankedIn, order_ground, ground_told};
 ghost use Rattle.survey.specs.Checks.{is_late, Parented};
 
+use refusal::Refusal;
 use words::plan::Plan;
 
 // How many tasks have no parent.
@@ -55,16 +56,16 @@ fn late(plan: &Plan, n: usize) -> usize
     found
 }
 
-// The number of the ground against the order, or 0.
-pub(crate) fn ground(plan: &Plan, n: usize) -> u8
+// The ground against the order.
+pub(crate) fn ground(plan: &Plan, n: usize) -> Result<(), Refusal>
     requires { RankedIn n (contents plan.now.words) }
-    ensures { result ≡ order_ground n (at (contents plan.now.words).parents) (take n (contents plan.now.words).activation) }
+    ensures { ground_told result ≡ order_ground n (at (contents plan.now.words).parents) (take n (contents plan.now.words).activation) }
 {
     if roots(plan, n) != 1 {
-        return 7;
+        return Err(Refusal::NotOneRoot);
     }
     if late(plan, n) != 0 {
-        return 8;
+        return Err(Refusal::ParentFirst);
     }
-    0
+    Ok(())
 }

@@ -12,10 +12,10 @@ use words::plan::Plan;
 const ROWS: usize = Plan::MAX_TASKS + 1;
 
 // A sum, and the task that runs then.
-#[derive(Clone, Copy)]
-pub(crate) struct Peaked {
-    pub(crate) trays: u64,
-    pub(crate) task: u16,
+#[derive(Clone, Copy, Debug, PartialEq, Eq)]
+pub struct Peaked {
+    pub trays: u64,
+    pub task: u16,
 }
 
 // Adds the out of each task to the entry of its parent.
