@@ -18,10 +18,8 @@ pub fn roots(plan: &Plan, n: usize) -> usize
     ensures { result ≡ roots n (at (contents plan.now.words).parents) }
 {
     let mut found = 0;
-    let mut i = 0;
-    while i < n {
-        i += 1;
-        if plan.cell(i, Plan::PARENT) == 0 {
+    for task in 1..n + 1 {
+        if plan.cell(task, Plan::PARENT) == 0 {
             found += 1;
         }
     }
@@ -34,10 +32,7 @@ fn is_late(plan: &Plan, task: usize) -> bool
     ensures { result ≡ is_late (at (contents plan.now.words).parents) (at (contents plan.now.words).ranks) task }
 {
     let parent = plan.cell(task, Plan::PARENT) as usize;
-    if parent == 0 {
-        return false;
-    }
-    plan.cell(parent, Plan::RANK) <= plan.cell(task, Plan::RANK)
+    parent != 0 && plan.cell(parent, Plan::RANK) <= plan.cell(task, Plan::RANK)
 }
 
 // How many tasks have a parent that does not stand later.
@@ -46,10 +41,8 @@ fn late(plan: &Plan, n: usize) -> usize
     ensures { result ≡ count_to (is_late (at (contents plan.now.words).parents) (at (contents plan.now.words).ranks)) n }
 {
     let mut found = 0;
-    let mut i = 0;
-    while i < n {
-        i += 1;
-        if is_late(plan, i) {
+    for task in 1..n + 1 {
+        if is_late(plan, task) {
             found += 1;
         }
     }
