@@ -1,7 +1,9 @@
--- Where the columns of the scratch array begin. The names are those of its constants.
+-- Where the columns of the scratch array begin.
 use Rattle.std.specs.Prelude.{List, ℕ, ◌+◌, ◌*◌}
 use Rattle.numbers.specs.Lists.{at}
 use Rattle.numbers.specs.Limits.{max_tasks}
+use Rattle.children.specs.declared.scratch.Column.{Column}
+use Rattle.children.specs.declared.scratch.Column.TheVariants.{First, Sibling, Queue, SubtreePeak, Head, After}
 
 -- a column has an entry for every task and one for nobody
 abbrev pub tall : ℕ
@@ -27,6 +29,14 @@ after = 5 * tall
 
 abbrev pub cells : ℕ
 cells = 6 * tall
+
+abbrev pub base_of : Column → ℕ
+base_of First = first
+base_of Sibling = sibling
+base_of Queue = queue
+base_of SubtreePeak = subtree_peak
+base_of Head = head
+base_of After = after
 
 -- the entry of a task in a column
 abbrev pub field : ℕ → List ℕ → ℕ → ℕ

@@ -1,49 +1,57 @@
 // The scratch array: six columns, each with an entry for every task and entry 0 for nobody.
-ghost use Rattle.std.specs.Prelude.{◌≡◌, ◌+◌, ◌^◌, ◌<◌, set};
-ghost use Rattle.numbers.specs.Lists.{at};
-ghost use Rattle.children.specs.Scratch.{cells};
+ghost use Rattle.std.specs.Prelude.{◌≡◌, ◌+◌, ◌^◌, ◌≤◌, ◌<◌, replicate, set};
+ghost use Rattle.numbers.specs.Limits.{max_tasks};
+ghost use Rattle.children.specs.Scratch.{base_of, cells, field};
 
 use words::plan::Plan;
 
-// A column has an entry for every task and one for nobody.
-const TALL: usize = Plan::MAX_TASKS + 1;
-
-// A task's first child, and the next child of the same parent; 0 is none.
-pub const FIRST: usize = 0;
-
-pub const SIBLING: usize = TALL;
-
-// The tasks in the sequence in which they are reached.
-pub const QUEUE: usize = 2 * TALL;
-
-// The peak of the order of a task's subtree, the task it begins with, and the task behind each.
-pub const SUBTREE_PEAK: usize = 3 * TALL;
-
-pub const HEAD: usize = 4 * TALL;
-
-pub const AFTER: usize = 5 * TALL;
-
-pub const CELLS: usize = 6 * TALL;
-
-// An entry as a number of the machine's width.
-fn wide(x: u32) -> usize
-    ensures { (result ≡ x) × (result < 2 ^ 32) }
-{
-    x as usize
+#[derive(Clone, Copy, Debug, PartialEq, Eq)]
+pub enum Column {
+    // a task's first child, and the next child of the same parent; 0 is none
+    First,
+    Sibling,
+    // the tasks in the sequence in which they are reached
+    Queue,
+    // the peak of the order of a task's subtree, the task it begins with, and the task behind each
+    SubtreePeak,
+    Head,
+    After,
 }
 
-// An entry of a column.
-pub fn get(scratch: &[u32; CELLS], column: usize, i: usize) -> usize
-    requires { column + i < cells }
-    ensures { (result ≡ at scratch.now (column + i)) × (result < 2 ^ 32) }
-{
-    wide(scratch[column + i])
+#[derive(Drop)]
+pub struct Scratch {
+    pub cells: [u32; Scratch::CELLS],
 }
 
-// It is set, and no other entry changes.
-pub fn put(scratch: &mut [u32; CELLS], column: usize, i: usize, value: usize)
-    requires { (column + i < cells) × (value < 2 ^ 32) }
-    ensures { scratch.new ≡ set scratch.old (column + i) value }
-{
-    scratch[column + i] = value as u32;
+impl Scratch {
+    // A column has an entry for every task and one for nobody.
+    const TALL: usize = Plan::MAX_TASKS + 1;
+
+    const COLUMNS: usize = 6;
+
+    pub const CELLS: usize = Scratch::COLUMNS * Scratch::TALL;
+
+    pub fn new() -> Self
+        ensures { result.cells ≡ replicate cells 0 }
+    {
+        Scratch {
+            cells: [0u32; Scratch::CELLS],
+        }
+    }
+
+    // An entry of a column.
+    pub fn get(&self, column: Column, i: usize) -> usize
+        requires { i ≤ max_tasks }
+        ensures { (result ≡ field (base_of column) self.now.cells i) × (result < 2 ^ 32) }
+    {
+        self.cells[column as usize * Scratch::TALL + i] as usize
+    }
+
+    // It is set, and no other entry changes.
+    pub fn put(&mut self, column: Column, i: usize, value: usize)
+        requires { (i ≤ max_tasks) × (value < 2 ^ 32) }
+        ensures { self.new.cells ≡ set self.old.cells (base_of column + i) value }
+    {
+        self.cells[column as usize * Scratch::TALL + i] = value as u32;
+    }
 }

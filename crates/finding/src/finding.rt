@@ -13,21 +13,21 @@ use crate::arranging::{arrange, write_order};
 use crate::reaching::reach;
 use answer::Wrote;
 use children::list_children;
-use children::scratch::{CELLS, QUEUE, get};
+use children::scratch::{Column, Scratch};
 use survey::roots;
 use words::plan::Plan;
 
 // Where all tasks are reached from the root: its order at the front of the list.
-fn write_found(plan: &Plan, scratch: &mut [u32; CELLS], n: usize, list: &mut [u16])
+fn write_found(plan: &Plan, scratch: &mut Scratch, n: usize, list: &mut [u16])
     requires { (n ≡ (contents plan.now.words).size) × AllReached (contents plan.now.words).size (at (contents plan.now.words).parents)
-        (at (contents plan.now.words).stores.chilled.works) (at (contents plan.now.words).stores.chilled.outs) scratch.old list.old }
+        (at (contents plan.now.words).stores.chilled.works) (at (contents plan.now.words).stores.chilled.outs) scratch.old.cells list.old }
     ensures { list.new ≡ best_postorder (contents plan.now.words).size (contents plan.now.words).size
         (at (contents plan.now.words).parents) (at (contents plan.now.words).stores.chilled.works)
-        (at (contents plan.now.words).stores.chilled.outs) (field queue scratch.old 0)
+        (at (contents plan.now.words).stores.chilled.outs) (field queue scratch.old.cells 0)
         ++ drop (contents plan.now.words).size list.old }
 {
     arrange(plan, scratch, n);
-    let root = get(scratch, QUEUE, 0);
+    let root = scratch.get(Column::Queue, 0);
     write_order(scratch, root, list, n);
 }
 
@@ -41,7 +41,7 @@ fn find_rooted(plan: &Plan, list: &mut [u16]) -> u8
         list.new result }
 {
     let n = plan.cell(Plan::HEAD, Plan::SIZE) as usize;
-    let mut scratch = [0u32; CELLS];
+    let mut scratch = Scratch::new();
     list_children(plan, n, &mut scratch);
     if reach(plan, &mut scratch) != n {
         return 12;

@@ -7,7 +7,7 @@ ghost use Rattle.children.specs.Linked.{Linked};
 ghost use Rattle.finding.specs.Joining.{peak_along, MayWeigh, Joined};
 ghost use Rattle.finding.specs.Arranging.{MayJoin, HasJoined};
 
-use children::scratch::{AFTER, CELLS, FIRST, HEAD, SIBLING, SUBTREE_PEAK, get, put};
+use children::scratch::{Column, Scratch};
 use children::sort_children;
 use words::plan::Plan;
 
@@ -19,18 +19,18 @@ fn larger(a: usize, b: usize) -> usize
 }
 
 // The peak of a subtree: each child's order begins at the level that those before it leave.
-fn subtree_peak(plan: &Plan, scratch: &[u32; CELLS], task: usize) -> usize
-    requires { MayWeigh (at (contents plan.now.words).stores.chilled.works) (at (contents plan.now.words).stores.chilled.outs) scratch.now task }
+fn subtree_peak(plan: &Plan, scratch: &Scratch, task: usize) -> usize
+    requires { MayWeigh (at (contents plan.now.words).stores.chilled.works) (at (contents plan.now.words).stores.chilled.outs) scratch.now.cells task }
     ensures { result ≡ peak_along (at (contents plan.now.words).stores.chilled.works) (at (contents plan.now.words).stores.chilled.outs)
-        scratch.now task }
+        scratch.now.cells task }
 {
     let mut best = 0;
     let mut level = 0;
-    let mut child = get(scratch, FIRST, task);
+    let mut child = scratch.get(Column::First, task);
     while child != 0 {
-        best = larger(best, level + get(scratch, SUBTREE_PEAK, child));
+        best = larger(best, level + scratch.get(Column::SubtreePeak, child));
         level += plan.cell(child, Plan::CHILLED + Plan::OUT) as usize;
-        child = get(scratch, SIBLING, child);
+        child = scratch.get(Column::Sibling, child);
     }
     let work = plan.cell(task, Plan::CHILLED + Plan::WORK) as usize;
     let out = plan.cell(task, Plan::CHILLED + Plan::OUT) as usize;
@@ -39,33 +39,33 @@ fn subtree_peak(plan: &Plan, scratch: &[u32; CELLS], task: usize) -> usize
 
 // The orders of the children are linked one behind the other, from nobody's entry on, and the task
 // behind them. An order ends with its own task, so that its last entry is known.
-fn link_orders(scratch: &mut [u32; CELLS], task: usize)
-    requires { Linked scratch.old task × (length scratch.old ≡ cells) }
-    ensures { Joined scratch.old task scratch.new }
+fn link_orders(scratch: &mut Scratch, task: usize)
+    requires { Linked scratch.old.cells task × (length scratch.old.cells ≡ cells) }
+    ensures { Joined scratch.old.cells task scratch.new.cells }
 {
     let mut last = 0;
-    let mut child = get(scratch, FIRST, task);
+    let mut child = scratch.get(Column::First, task);
     while child != 0 {
-        let head = get(scratch, HEAD, child);
-        put(scratch, AFTER, last, head);
+        let head = scratch.get(Column::Head, child);
+        scratch.put(Column::After, last, head);
         last = child;
-        child = get(scratch, SIBLING, child);
+        child = scratch.get(Column::Sibling, child);
     }
-    put(scratch, AFTER, last, task);
-    let head = get(scratch, AFTER, 0);
-    put(scratch, HEAD, task, head);
+    scratch.put(Column::After, last, task);
+    let head = scratch.get(Column::After, 0);
+    scratch.put(Column::Head, task, head);
 }
 
 // A task's turn, where its children have had theirs: the order and the peak of its subtree.
-pub(crate) fn join(plan: &Plan, scratch: &mut [u32; CELLS], task: usize)
+pub(crate) fn join(plan: &Plan, scratch: &mut Scratch, task: usize)
     requires { MayJoin (contents plan.now.words).size (at (contents plan.now.words).parents) (at (contents plan.now.words).stores.chilled.works)
-        (at (contents plan.now.words).stores.chilled.outs) task scratch.old }
+        (at (contents plan.now.words).stores.chilled.outs) task scratch.old.cells }
     ensures { HasJoined (contents plan.now.words).size (at (contents plan.now.words).parents)
         (at (contents plan.now.words).stores.chilled.works) (at (contents plan.now.words).stores.chilled.outs) task
-        scratch.old scratch.new }
+        scratch.old.cells scratch.new.cells }
 {
     sort_children(plan, scratch, task);
     link_orders(scratch, task);
     let peak = subtree_peak(plan, scratch, task);
-    put(scratch, SUBTREE_PEAK, task, peak);
+    scratch.put(Column::SubtreePeak, task, peak);
 }

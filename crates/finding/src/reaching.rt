@@ -3,37 +3,37 @@ ghost use Rattle.numbers.specs.Lists.{at};
 ghost use Rattle.words.specs.Contents.{contents};
 ghost use Rattle.finding.specs.Reaching.{MayAppend, Appended, MayReach, Reached};
 
-use children::scratch::{CELLS, FIRST, QUEUE, SIBLING, get, put};
+use children::scratch::{Column, Scratch};
 use words::plan::Plan;
 
 // The children of a task go behind those that are reached.
-fn reach_children(scratch: &mut [u32; CELLS], task: usize, count: usize) -> usize
-    requires { MayAppend scratch.old task count }
-    ensures { Appended scratch.old task count scratch.new result }
+fn reach_children(scratch: &mut Scratch, task: usize, count: usize) -> usize
+    requires { MayAppend scratch.old.cells task count }
+    ensures { Appended scratch.old.cells task count scratch.new.cells result }
 {
     let mut next = count;
-    let mut child = get(scratch, FIRST, task);
+    let mut child = scratch.get(Column::First, task);
     while child != 0 {
-        put(scratch, QUEUE, next, child);
+        scratch.put(Column::Queue, next, child);
         next += 1;
-        child = get(scratch, SIBLING, child);
+        child = scratch.get(Column::Sibling, child);
     }
     next
 }
 
 // From the root on, the children of each task that is reached. How many are reached is answered. The
 // contract names the plan's parents; the code goes by the lists of children.
-pub(crate) fn reach(plan: &Plan, scratch: &mut [u32; CELLS]) -> usize
-    requires { MayReach (contents plan.now.words).size (at (contents plan.now.words).parents) scratch.old }
-    ensures { Reached (contents plan.now.words).size (at (contents plan.now.words).parents) scratch.old
-        scratch.new result }
+pub(crate) fn reach(plan: &Plan, scratch: &mut Scratch) -> usize
+    requires { MayReach (contents plan.now.words).size (at (contents plan.now.words).parents) scratch.old.cells }
+    ensures { Reached (contents plan.now.words).size (at (contents plan.now.words).parents) scratch.old.cells
+        scratch.new.cells result }
 {
-    let root = get(scratch, FIRST, 0);
-    put(scratch, QUEUE, 0, root);
+    let root = scratch.get(Column::First, 0);
+    scratch.put(Column::Queue, 0, root);
     let mut count = 1;
     let mut k = 0;
     while k < count {
-        let task = get(scratch, QUEUE, k);
+        let task = scratch.get(Column::Queue, k);
         count = reach_children(scratch, task, count);
         k += 1;
     }

@@ -1,41 +1,44 @@
 -- A loop that counts the tasks that pass a test.
 use mathlib.Core.Path.{◌≡◌, refl}
 use mathlib.Core.Bool.{Bool, true, false}
-use Prim.Native.Nat.{ℕ, ◌+◌, ◌≤◌, ◌<◌}
+use Prim.Native.Nat.{ℕ, ◌+◌, ◌-◌, ◌<◌}
 use native.Mathlib.Omega.{arith}
 use Rattle.numbers.specs.Sums.{count_to, sum_to}
 use Rattle.numbers.proofs.Counts.{count_yes, count_no}
 
--- of the first i tasks of n, so many pass the test
-pub record CountedTo (test : ℕ → Bool) (n i found : ℕ) : Type 0 where
-  pub passed : i ≤ n
-  pub small : found ≤ i
-  pub same : found ≡ count_to test i
+-- of the tasks before one, so many pass the test
+pub record CountedBefore (test : ℕ → Bool) (task found : ℕ) : Type 0 where
+  pub small : found < task
+  pub same : found ≡ count_to test (task - 1)
 
 -- none at first
-pub counted_none : (test : ℕ → Bool) (n : ℕ) → CountedTo test n 0 0
+pub counted_none : (test : ℕ → Bool) → CountedBefore test 1 0
 unfolding count_to sum_to
-counted_none test n = record { passed = omega arith; small = omega arith; same = refl }
+counted_none test = record { small = omega arith; same = refl }
 
 -- one task more, which passes or does not
 pub counted-yes :
-    (test : ℕ → Bool) (n i found : ℕ)
-    → CountedTo test n i found
-    → i < n
-    → test (i + 1) ≡ true
-    → CountedTo test n (i + 1) (found + 1)
-counted-yes test n i found c h e =
-    record { passed = omega arith; small = omega arith; same = omega (arith, count_yes test i e) }
+    (test : ℕ → Bool) (task found : ℕ)
+    → CountedBefore test task found
+    → test task ≡ true
+    → CountedBefore test (task + 1) (found + 1)
+counted-yes test task found c e =
+    let task_is : task - 1 + 1 ≡ task = omega arith in
+    let next_is : task + 1 - 1 ≡ task - 1 + 1 = omega arith in
+    let more = count_yes test (task - 1) (rw task_is e) in
+    record { small = omega arith; same = rw next_is (omega arith) }
 
 pub counted-no :
-    (test : ℕ → Bool) (n i found : ℕ)
-    → CountedTo test n i found
-    → i < n
-    → test (i + 1) ≡ false
-    → CountedTo test n (i + 1) found
-counted-no test n i found c h e =
-    record { passed = omega arith; small = omega arith; same = omega (arith, count_no test i e) }
+    (test : ℕ → Bool) (task found : ℕ)
+    → CountedBefore test task found
+    → test task ≡ false
+    → CountedBefore test (task + 1) found
+counted-no test task found c e =
+    let task_is : task - 1 + 1 ≡ task = omega arith in
+    let next_is : task + 1 - 1 ≡ task - 1 + 1 = omega arith in
+    let more = count_no test (task - 1) (rw task_is e) in
+    record { small = omega arith; same = rw next_is (omega arith) }
 
 -- all at last
-pub counted-all : (test : ℕ → Bool) (n i found : ℕ) → CountedTo test n i found → n ≤ i → found ≡ count_to test n
-counted-all test n i found c h = let all : i ≡ n = omega arith in rw (← all) c.same
+pub counted-all : (test : ℕ → Bool) (n found : ℕ) → CountedBefore test (n + 1) found → found ≡ count_to test n
+counted-all test n found c = let all : n + 1 - 1 ≡ n = omega arith in rw all at c.same

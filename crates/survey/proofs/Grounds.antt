@@ -6,6 +6,9 @@ use Prim.Native.Nat.{ℕ, ◌≤◌, ◌<◌}
 use native.Mathlib.Omega.{arith}
 use lib.Dec.{eqb, leb}
 use borrow.Author.Tests.{eq-eqb, eqb-true, eqb-false, leb-true, leb-false, ne_eqb, not-true}
+use Rattle.std.proofs.lemmas.Grind.{common_steps}
+use Rattle.refusal.specs.declared.Refusal.{Refusal}
+use Rattle.refusal.specs.Number.{number_of}
 use Rattle.numbers.specs.Sums.{Task, count_to, within}
 use Rattle.numbers.specs.Lists.{mem, place}
 use Rattle.rules.specs.Grounds.{demand}
@@ -17,6 +20,10 @@ use Rattle.rules.proofs.Formed.{demand-none}
 use Rattle.store.specs.Cached.{Placed}
 use Rattle.survey.specs.Checks.{Parented, is_late}
 use Rattle.survey.specs.Survey.{order_ground}
+
+-- a ground has a number above 0
+pub number_some : (refusal : Refusal) → 0 < number_of refusal
+number_some refusal = grind (arith, common_steps)
 
 -- 7
 pub ground-roots : (n : ℕ) (par : ℕ → ℕ) (order : List ℕ) → (roots n par ≡ 1 → ⊥) → 7 ≡ order_ground n par order

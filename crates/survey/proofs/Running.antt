@@ -20,10 +20,10 @@ use Rattle.tree.proofs.Peaks.{level, level-first, level-snoc, kept, turn_level, 
 use Rattle.survey.specs.Level.{higher}
 
 -- the two cases of the higher sum
-pub higher-above : (earlier later : Peaked) → earlier.trays < later.trays → higher earlier later ≡ later
+higher-above : (earlier later : Peaked) → earlier.trays < later.trays → higher earlier later ≡ later
 higher-above earlier later h = rw (lt-ltb earlier.trays later.trays h)
 
-pub higher-kept : (earlier later : Peaked) → later.trays ≤ earlier.trays → higher earlier later ≡ earlier
+higher-kept : (earlier later : Peaked) → later.trays ≤ earlier.trays → higher earlier later ≡ earlier
 higher-kept earlier later h = rw (le-ltb earlier.trays later.trays h)
 
 -- the sum of a task comes into it, ahead of the rest

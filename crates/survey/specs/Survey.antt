@@ -1,5 +1,5 @@
 -- What a survey of a plan's activation order asks and answers.
-use Rattle.std.specs.Prelude.{cond, List, ℕ, eqb, take}
+use Rattle.std.specs.Prelude.{cond, List, ℕ, eqb, take, Result, Ok, Err}
 use Rattle.tree.specs.Tree.{roots, ordered}
 use Rattle.books.specs.Kind.{chilled}
 use Rattle.numbers.specs.Lists.{at}
@@ -9,6 +9,10 @@ use Rattle.rules.specs.Grounds.{demand}
 use Rattle.words.specs.Contents.{Contents}
 use Rattle.store.specs.Rows.{tasks_of, activation_of}
 use Rattle.store.specs.Cached.{Placed}
+use Rattle.refusal.specs.declared.Refusal.{Refusal}
+use Rattle.refusal.specs.Number.{number_of}
+use Rattle.survey.specs.declared.level.Peaked.{Peaked}
+use Rattle.survey.specs.Level.{meant}
 use Rattle.survey.specs.Checks.{Parented}
 
 -- of n tasks: each parent is a task or nobody, and the first n entries of the activation order hold every task once, at the place that is
@@ -35,3 +39,13 @@ peaked_of c =
     cond (eqb (ground_of c) 0)
     (Tasks.peaked (tasks_of c chilled) (activation_of c))
     Peak.no_peak
+
+-- what is told of an outcome: the number of its ground, and 0 where there is none
+abbrev pub ground_told : {T : Type 0} → Result T Refusal → ℕ
+ground_told (Ok _) = 0
+ground_told (Err refusal) = number_of refusal
+
+-- and its peak with its task, where there is no ground
+abbrev pub peak_told : Result Peaked Refusal → Peak.Peaked
+peak_told (Ok peak) = meant peak
+peak_told (Err _) = Peak.no_peak

@@ -6,9 +6,10 @@ ghost use Rattle.numbers.specs.Lists.{at};
 ghost use Rattle.numbers.specs.Limits.{max_tasks};
 ghost use Rattle.tree.specs.Peak;
 ghost use Rattle.words.specs.Contents.{contents};
-ghost use Rattle.survey.specs.Survey.{RankedIn, order_ground};
+ghost use Rattle.survey.specs.Survey.{RankedIn, order_ground, ground_told};
 ghost use Rattle.survey.specs.Checks.{is_late, Parented};
 
+use refusal::Refusal;
 use words::plan::Plan;
 
 // How many tasks have no parent.
@@ -17,10 +18,8 @@ pub fn roots(plan: &Plan, n: usize) -> usize
     ensures { result ≡ roots n (at (contents plan.now.words).parents) }
 {
     let mut found = 0;
-    let mut i = 0;
-    while i < n {
-        i += 1;
-        if plan.cell(i, Plan::PARENT) == 0 {
+    for task in 1..n + 1 {
+        if plan.cell(task, Plan::PARENT) == 0 {
             found += 1;
         }
     }
@@ -33,10 +32,7 @@ fn is_late(plan: &Plan, task: usize) -> bool
     ensures { result ≡ is_late (at (contents plan.now.words).parents) (at (contents plan.now.words).ranks) task }
 {
     let parent = plan.cell(task, Plan::PARENT) as usize;
-    if parent == 0 {
-        return false;
-    }
-    plan.cell(parent, Plan::RANK) <= plan.cell(task, Plan::RANK)
+    parent != 0 && plan.cell(parent, Plan::RANK) <= plan.cell(task, Plan::RANK)
 }
 
 // How many tasks have a parent that does not stand later.
@@ -45,26 +41,24 @@ fn late(plan: &Plan, n: usize) -> usize
     ensures { result ≡ count_to (is_late (at (contents plan.now.words).parents) (at (contents plan.now.words).ranks)) n }
 {
     let mut found = 0;
-    let mut i = 0;
-    while i < n {
-        i += 1;
-        if is_late(plan, i) {
+    for task in 1..n + 1 {
+        if is_late(plan, task) {
             found += 1;
         }
     }
     found
 }
 
-// The number of the ground against the order, or 0.
-pub(crate) fn ground(plan: &Plan, n: usize) -> u8
+// The ground against the order.
+pub(crate) fn ground(plan: &Plan, n: usize) -> Result<(), Refusal>
     requires { RankedIn n (contents plan.now.words) }
-    ensures { result ≡ order_ground n (at (contents plan.now.words).parents) (take n (contents plan.now.words).activation) }
+    ensures { ground_told result ≡ order_ground n (at (contents plan.now.words).parents) (take n (contents plan.now.words).activation) }
 {
     if roots(plan, n) != 1 {
-        return 7;
+        return Err(Refusal::NotOneRoot);
     }
     if late(plan, n) != 0 {
-        return 8;
+        return Err(Refusal::ParentFirst);
     }
-    0
+    Ok(())
 }

@@ -37,9 +37,7 @@ pub fn prepare(plan: &mut Plan)
     ensures { Prepared (contents plan.old.words) (contents plan.new.words) }
 {
     let n = plan.cell(Plan::HEAD, Plan::SIZE) as usize;
-    let mut i = 0;
-    while i < n {
-        i += 1;
-        weigh(plan, i);
+    for task in 1..n + 1 {
+        weigh(plan, task);
     }
 }

@@ -12,10 +12,10 @@ use words::plan::Plan;
 const ROWS: usize = Plan::MAX_TASKS + 1;
 
 // A sum, and the task that runs then.
-#[derive(Clone, Copy)]
-pub(crate) struct Peaked {
-    pub(crate) trays: u64,
-    pub(crate) task: u16,
+#[derive(Clone, Copy, Debug, PartialEq, Eq)]
+pub struct Peaked {
+    pub trays: u64,
+    pub task: u16,
 }
 
 // Adds the out of each task to the entry of its parent.
@@ -23,11 +23,9 @@ fn feed(plan: &Plan, store: usize, n: usize, fed: &mut [u64; ROWS])
     requires { MayFeed n store plan.now.words fed.old }
     ensures { Fed n (at (contents plan.now.words).parents) (at (store_contents store plan.now.words).outs) fed.new }
 {
-    let mut i = 0;
-    while i < n {
-        i += 1;
-        let parent = plan.cell(i, Plan::PARENT) as usize;
-        let out = plan.cell(i, store + Plan::OUT) as u64;
+    for task in 1..n + 1 {
+        let parent = plan.cell(task, Plan::PARENT) as usize;
+        let out = plan.cell(task, store + Plan::OUT) as u64;
         fed[parent] += out;
     }
 }
@@ -79,12 +77,10 @@ fn highest(plan: &Plan, store: usize, n: usize, fed: &[u64; ROWS]) -> Peaked
         task: first,
     };
     let mut level = 0;
-    let mut k = 0;
-    while k < n {
-        let x = plan.entry(Plan::ACTIVATION, k) as usize;
-        best = highest_of(best, sum(plan, store, x, level), x as u16);
-        level = level + kept_out(plan, store, x) - fed[x];
-        k += 1;
+    for place in 0..n {
+        let task = plan.entry(Plan::ACTIVATION, place) as usize;
+        best = highest_of(best, sum(plan, store, task, level), task as u16);
+        level = level + kept_out(plan, store, task) - fed[task];
     }
     best
 }
