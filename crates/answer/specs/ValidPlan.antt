@@ -28,12 +28,6 @@ pub record Judged (w : List ℕ) (c : rules.Command) (used : ℕ) (list : List �
 abbrev pub Obeyed : (w : List ℕ) (c : rules.Command) (used : ℕ) (a : Answer) (w' : List ℕ) → Type 0
 Obeyed w c used a w' = (list : List ℕ) → Judged w c used list a w' list
 
--- what was decoded, with a start list
-pub record Responded (w : List ℕ) (d : rules.Decoded) (list : List ℕ) (a : Answer) (w' list' : List ℕ) : Type 0 where
-  pub same : answered_of a (contents w') list' ≡ answers.respond (plan_of w) d list
-  pub valid : ValidPlan w'
-  pub refused : (a.number ≡ 0 → ⊥) → w' ≡ w
-
 -- any command, asked in bytes: all that its caller receives
 pub record Commanded (w : List ℕ) (asking : answers.Asking) (a : Answer) (w' list' : List ℕ) : Type 0 where
   -- the number, bytes used, starts, the peak with its task, offers, the plan and the whole start list are those of the rules

@@ -3,31 +3,27 @@ ghost use Rattle.std.specs.Prelude.{◌≡◌, ◌≤◌, length};
 ghost use Rattle.format.specs.Command as rules;
 ghost use Rattle.numbers.specs.Limits.{least_starts};
 ghost use Rattle.words.specs.Contents.{contents};
+ghost use Rattle.answer.specs.Told.{told};
 ghost use Rattle.answer.specs.ValidPlan.{ValidPlan, Judged};
 ghost use Rattle.day.specs.Day.{begins, MayBegin, Begun};
 
 use crate::advance::advance;
-use answer::Answer;
+use answer::Accepted;
 use ordering::complete;
+use refusal::Refusal;
 use survey::{prepare, survey};
+use words::order::Order;
+use words::phase::Phase;
 use words::plan::Plan;
 
 // Whether the plan waits for its BEGIN: both orders are whole, or the activation order alone is given.
 fn is_in_turn(plan: &Plan) -> bool
     ensures { result ≡ begins (contents plan.now.words) }
 {
-    if plan.cell(Plan::HEAD, Plan::PHASE) != Plan::ORDERS {
+    if !plan.is_in(Phase::Orders) || !plan.is_complete(Order::Activation) {
         return false;
     }
-    let size = plan.cell(Plan::HEAD, Plan::SIZE);
-    if plan.cell(Plan::HEAD, Plan::RANKED) != size {
-        return false;
-    }
-    let placed = plan.cell(Plan::HEAD, Plan::PLACED);
-    if placed == 0 {
-        return true;
-    }
-    placed == size
+    plan.cell(Plan::HEAD, Plan::PLACED) == 0 || plan.is_complete(Order::Execution)
 }
 
 // The day begins: booking ahead and starting follow.
@@ -37,33 +33,29 @@ fn start_day(plan: &mut Plan, starts: &mut [u16]) -> usize
 {
     prepare(plan);
     let started = advance(plan, starts);
-    plan.set_cell(Plan::HEAD, Plan::PHASE, Plan::RUNNING);
+    plan.set_phase(Phase::Running);
     started
 }
 
-pub fn begin(plan: &mut Plan, used: usize, starts: &mut [u16]) -> Answer
+pub fn begin(plan: &mut Plan, used: usize, starts: &mut [u16]) -> Result<Accepted, Refusal>
     requires { ValidPlan plan.old.words × (least_starts ≤ length starts.old) }
-    ensures { Judged plan.old.words rules.begin used starts.old result plan.new.words starts.new }
+    ensures { Judged plan.old.words rules.begin used starts.old (told result) plan.new.words starts.new }
 {
     if !is_in_turn(plan) {
-        return Answer::refused(3);
+        return Err(Refusal::OutOfTurn);
     }
-    let surveyed = survey(plan);
-    if surveyed.number != 0 {
-        return Answer::refused(surveyed.number);
-    }
+    let peak = survey(plan)?;
     let bound = plan.cell(Plan::HEAD, Plan::CHILLED + Plan::BOUND);
-    if (bound as u64) < surveyed.peak {
-        return Answer::refused(9);
+    if (bound as u64) < peak.trays {
+        return Err(Refusal::PeakAboveBound);
     }
     complete(plan);
     let started = start_day(plan, starts);
-    Answer {
-        number: 0,
+    Ok(Accepted {
         used,
         starts: started,
-        peak: surveyed.peak,
-        by: surveyed.by,
+        peak: peak.trays,
+        by: peak.task,
         offers: 0,
-    }
+    })
 }

@@ -3,6 +3,8 @@ ghost use Rattle.std.specs.Prelude.{◌≡◌, ◌≤◌, length};
 ghost use Rattle.format.specs.Command as rules;
 ghost use Rattle.numbers.specs.Limits.{least_starts};
 ghost use Rattle.words.specs.Contents.{contents};
+ghost use Rattle.refusal.specs.Number.{number_in};
+ghost use Rattle.answer.specs.Told.{told};
 ghost use Rattle.answer.specs.ValidPlan.{ValidPlan, Judged};
 ghost use Rattle.rules.specs.Grounds.{ground_for};
 ghost use Rattle.answer.specs.Meaning.{plan_of};
@@ -10,10 +12,13 @@ ghost use Rattle.dispatch.specs.Ended.{MayEnd};
 ghost use Rattle.day.specs.Day.{MayGoOn, WentOn, made_ready};
 
 use crate::advance::advance;
-use answer::Answer;
+use answer::Accepted;
 use dispatch::{end_root, finish};
 use measure::is_within;
+use refusal::Refusal;
+use words::phase::Phase;
 use words::plan::Plan;
+use words::standing::Standing;
 
 // What is counted of a report that is accepted.
 #[derive(Clone, Copy)]
@@ -22,21 +27,21 @@ pub(crate) struct Counted {
     pub(crate) offers: usize,
 }
 
-// The ground against a report; 0 is none.
-fn report_ground(plan: &Plan, task: usize) -> u8
+// The ground against a report.
+fn may_report(plan: &Plan, task: usize) -> Result<(), Refusal>
     requires { ValidPlan plan.now.words }
-    ensures { result ≡ ground_for (plan_of plan.now.words) (rules.done task) }
+    ensures { number_in result ≡ ground_for (plan_of plan.now.words) (rules.done task) }
 {
-    if plan.cell(Plan::HEAD, Plan::PHASE) != Plan::RUNNING {
-        return 3;
+    if !plan.is_in(Phase::Running) {
+        return Err(Refusal::OutOfTurn);
     }
     if !is_within(task, plan.cell(Plan::HEAD, Plan::SIZE) as usize) {
-        return 4;
+        return Err(Refusal::OutsideLimits);
     }
-    if plan.cell(task, Plan::STANDING) != Plan::STARTED {
-        return 6;
+    if !plan.stands(task, Standing::Started) {
+        return Err(Refusal::NotRunning);
     }
-    0
+    Ok(())
 }
 
 // "DONE shares out, books ahead and starts": a task that has a parent.
@@ -58,28 +63,28 @@ fn make_ready(plan: &mut Plan, root: usize)
     ensures { contents plan.new.words ≡ made_ready root (contents plan.old.words) }
 {
     end_root(plan, root);
-    plan.set_cell(Plan::HEAD, Plan::PHASE, Plan::READY);
+    plan.set_phase(Phase::Ready);
 }
 
-pub fn report(plan: &mut Plan, task: u16, used: usize, starts: &mut [u16]) -> Answer
+pub fn report(
+    plan: &mut Plan,
+    task: u16,
+    used: usize,
+    starts: &mut [u16],
+) -> Result<Accepted, Refusal>
     requires { ValidPlan plan.old.words × (least_starts ≤ length starts.old) }
-    ensures { Judged plan.old.words (rules.done task) used starts.old result plan.new.words starts.new }
+    ensures { Judged plan.old.words (rules.done task) used starts.old (told result) plan.new.words starts.new }
 {
-    let ground = report_ground(plan, task as usize);
-    if ground != 0 {
-        return Answer::refused(ground);
+    let task = task as usize;
+    may_report(plan, task)?;
+    if plan.cell(task, Plan::PARENT) == 0 {
+        make_ready(plan, task);
+        return Ok(Accepted::plain(used));
     }
-    if plan.cell(task as usize, Plan::PARENT) == 0 {
-        make_ready(plan, task as usize);
-        return Answer::plain(used);
-    }
-    let counted = go_on(plan, task as usize, starts);
-    Answer {
-        number: 0,
-        used,
+    let counted = go_on(plan, task, starts);
+    Ok(Accepted {
         starts: counted.starts,
-        peak: 0,
-        by: 0,
         offers: counted.offers,
-    }
+        ..Accepted::plain(used)
+    })
 }

@@ -5,31 +5,35 @@ ghost use Rattle.numbers.specs.Limits.{least_starts};
 ghost use Rattle.rules.specs.Grounds.{ground_for};
 ghost use Rattle.words.specs.Contents.{contents};
 ghost use Rattle.answer.specs.Meaning.{plan_of};
+ghost use Rattle.refusal.specs.Number.{number_in};
+ghost use Rattle.answer.specs.Told.{told};
 ghost use Rattle.answer.specs.ValidPlan.{ValidPlan, Judged};
 ghost use Rattle.day.specs.Day.{MayResize, Resized};
 
 use crate::advance::advance;
-use answer::Answer;
+use answer::Accepted;
+use refusal::Refusal;
 use survey::survey;
+use words::phase::Phase;
 use words::plan::Plan;
 
-// The ground against a new bound: "3; then 9 if below the peak; then 13 if below the booked trays"; 0 is
-// none. The peak is that of the whole activation order, whoever has ended.
-fn resize_ground(plan: &Plan, bound: u32) -> u8
+// The ground against a new bound: "3; then 9 if below the peak; then 13 if below the booked trays". The
+// peak is that of the whole activation order, whoever has ended.
+fn may_resize(plan: &Plan, bound: u32) -> Result<(), Refusal>
     requires { ValidPlan plan.now.words }
-    ensures { result ≡ ground_for (plan_of plan.now.words) (rules.places bound) }
+    ensures { number_in result ≡ ground_for (plan_of plan.now.words) (rules.places bound) }
 {
-    if plan.cell(Plan::HEAD, Plan::PHASE) != Plan::RUNNING {
-        return 3;
+    if !plan.is_in(Phase::Running) {
+        return Err(Refusal::OutOfTurn);
     }
-    let surveyed = survey(plan);
-    if (bound as u64) < surveyed.peak {
-        return 9;
+    let peak = survey(plan)?;
+    if (bound as u64) < peak.trays {
+        return Err(Refusal::PeakAboveBound);
     }
     if bound < plan.cell(Plan::HEAD, Plan::CHILLED + Plan::TOTAL) {
-        return 13;
+        return Err(Refusal::BoundBelowBooked);
     }
-    0
+    Ok(())
 }
 
 // "then booking ahead and starting follow", within the new bound.
@@ -42,21 +46,19 @@ fn advance_within(plan: &mut Plan, bound: u32, starts: &mut [u16]) -> usize
 }
 
 // "the starts are answered as for DONE, with no offers".
-pub fn resize(plan: &mut Plan, bound: u32, used: usize, starts: &mut [u16]) -> Answer
+pub fn resize(
+    plan: &mut Plan,
+    bound: u32,
+    used: usize,
+    starts: &mut [u16],
+) -> Result<Accepted, Refusal>
     requires { ValidPlan plan.old.words × (least_starts ≤ length starts.old) }
-    ensures { Judged plan.old.words (rules.places bound) used starts.old result plan.new.words starts.new }
+    ensures { Judged plan.old.words (rules.places bound) used starts.old (told result) plan.new.words starts.new }
 {
-    let ground = resize_ground(plan, bound);
-    if ground != 0 {
-        return Answer::refused(ground);
-    }
+    may_resize(plan, bound)?;
     let started = advance_within(plan, bound, starts);
-    Answer {
-        number: 0,
-        used,
+    Ok(Accepted {
         starts: started,
-        peak: 0,
-        by: 0,
-        offers: 0,
-    }
+        ..Accepted::plain(used)
+    })
 }

@@ -1,36 +1,37 @@
 // One command, asked in bytes.
 ghost use Rattle.std.specs.Prelude.{◌≤◌, length};
 ghost use Rattle.numbers.specs.Limits.{least_starts};
-ghost use Rattle.codec.specs.Meaning.{decoded};
-ghost use Rattle.answer.specs.ValidPlan.{ValidPlan, Responded, Commanded};
+ghost use Rattle.codec.specs.Meaning.{command_of};
+ghost use Rattle.answer.specs.Told.{told};
+ghost use Rattle.answer.specs.ValidPlan.{ValidPlan, Judged, Commanded};
 
-use answer::Answer;
-use codec::{Command, Decoded, decode};
+use answer::Accepted;
+use codec::{Command, Read, decode};
 use day::begin::begin;
 use day::fetch::fetch;
 use day::report::report;
 use day::resize::resize;
 use opening::{add_task, open};
-use ordering::{place, rank};
+use ordering::append;
+use refusal::Refusal;
+use words::order::Order;
 use words::plan::Plan;
 
-// The answer to what was decoded.
-fn obey(plan: &mut Plan, asked: Decoded, starts: &mut [u16]) -> Answer
+// The answer to a command that was read.
+fn obey(plan: &mut Plan, read: Read, starts: &mut [u16]) -> Result<Accepted, Refusal>
     requires { ValidPlan plan.old.words × (least_starts ≤ length starts.old) }
-    ensures { Responded plan.old.words (decoded asked) starts.old result plan.new.words starts.new }
+    ensures { Judged plan.old.words (command_of read.command) read.used starts.old (told result) plan.new.words starts.new }
 {
-    match asked {
-        Decoded::Refused(number) => Answer::refused(number),
-        Decoded::Read { command, used } => match command {
-            Command::Plan { n, p, bound } => open(plan, n, p, bound, used),
-            Command::Task { parent, work, out } => add_task(plan, parent, work, out, used),
-            Command::Activation(task) => rank(plan, task, used),
-            Command::Execution(task) => place(plan, task, used),
-            Command::Begin => begin(plan, used, starts),
-            Command::Done(task) => report(plan, task, used, starts),
-            Command::Fetch => fetch(plan, used),
-            Command::Places(bound) => resize(plan, bound, used, starts),
-        },
+    let used = read.used;
+    match read.command {
+        Command::Plan { n, p, bound } => open(plan, n, p, bound, used),
+        Command::Task { parent, work, out } => add_task(plan, parent, work, out, used),
+        Command::Activation(task) => append(plan, Order::Activation, task, used),
+        Command::Execution(task) => append(plan, Order::Execution, task, used),
+        Command::Begin => begin(plan, used, starts),
+        Command::Done(task) => report(plan, task, used, starts),
+        Command::Fetch => fetch(plan, used),
+        Command::Places(bound) => resize(plan, bound, used, starts),
     }
 }
 
@@ -41,13 +42,13 @@ pub fn command(
     stream: &[u8],
     place: usize,
     starts: &mut [u16],
-) -> Answer
+) -> Result<Accepted, Refusal>
     requires { ValidPlan plan.old.words }
-    ensures { Commanded plan.old.words (record { stream = stream.now; place = place; list = starts.old }) result plan.new.words starts.new }
+    ensures { Commanded plan.old.words (record { stream = stream.now; place = place; list = starts.old }) (told result) plan.new.words starts.new }
 {
     if starts.len() < Plan::LEAST_STARTS {
-        return Answer::refused(10);
+        return Err(Refusal::FewStarts);
     }
-    let asked = decode(stream, place);
-    obey(plan, asked, starts)
+    let read = decode(stream, place)?;
+    obey(plan, read, starts)
 }

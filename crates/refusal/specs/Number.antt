@@ -18,7 +18,7 @@ number_of ShortList = 11
 number_of RootUnreached = 12
 number_of BoundBelowBooked = 13
 
--- the number of the ground that a test finds, and 0 where there is none
-abbrev pub number_in : Result (Unit {0}) Refusal → ℕ
+-- the number of the ground that is answered, and 0 where there is none
+abbrev pub number_in : {T : Type 0} → Result T Refusal → ℕ
 number_in (Ok _) = 0
 number_in (Err refusal) = number_of refusal

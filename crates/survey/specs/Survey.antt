@@ -10,7 +10,6 @@ use Rattle.words.specs.Contents.{Contents}
 use Rattle.store.specs.Rows.{tasks_of, activation_of}
 use Rattle.store.specs.Cached.{Placed}
 use Rattle.refusal.specs.declared.Refusal.{Refusal}
-use Rattle.refusal.specs.Number.{number_of}
 use Rattle.survey.specs.declared.level.Peaked.{Peaked}
 use Rattle.survey.specs.Level.{meant}
 use Rattle.survey.specs.Checks.{Parented}
@@ -40,12 +39,7 @@ peaked_of c =
     (Tasks.peaked (tasks_of c chilled) (activation_of c))
     Peak.no_peak
 
--- what is told of an outcome: the number of its ground, and 0 where there is none
-abbrev pub ground_told : {T : Type 0} → Result T Refusal → ℕ
-ground_told (Ok _) = 0
-ground_told (Err refusal) = number_of refusal
-
--- and its peak with its task, where there is no ground
+-- the peak with its task that is answered, where there is no ground
 abbrev pub peak_told : Result Peaked Refusal → Peak.Peaked
 peak_told (Ok peak) = meant peak
 peak_told (Err _) = Peak.no_peak

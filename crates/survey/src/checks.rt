@@ -5,8 +5,9 @@ ghost use Rattle.numbers.specs.Sums.{count_to};
 ghost use Rattle.numbers.specs.Lists.{at};
 ghost use Rattle.numbers.specs.Limits.{max_tasks};
 ghost use Rattle.tree.specs.Peak;
+ghost use Rattle.refusal.specs.Number.{number_in};
 ghost use Rattle.words.specs.Contents.{contents};
-ghost use Rattle.survey.specs.Survey.{RankedIn, order_ground, ground_told};
+ghost use Rattle.survey.specs.Survey.{RankedIn, order_ground};
 ghost use Rattle.survey.specs.Checks.{is_late, Parented};
 
 use refusal::Refusal;
@@ -52,7 +53,7 @@ fn late(plan: &Plan, n: usize) -> usize
 // The ground against the order.
 pub(crate) fn ground(plan: &Plan, n: usize) -> Result<(), Refusal>
     requires { RankedIn n (contents plan.now.words) }
-    ensures { ground_told result ≡ order_ground n (at (contents plan.now.words).parents) (take n (contents plan.now.words).activation) }
+    ensures { number_in result ≡ order_ground n (at (contents plan.now.words).parents) (take n (contents plan.now.words).activation) }
 {
     if roots(plan, n) != 1 {
         return Err(Refusal::NotOneRoot);

@@ -6,8 +6,9 @@ mod figures;
 mod level;
 
 ghost use Rattle.std.specs.Prelude.{◌≡◌};
+ghost use Rattle.refusal.specs.Number.{number_in};
 ghost use Rattle.words.specs.Contents.{contents};
-ghost use Rattle.survey.specs.Survey.{Ordered, ground_of, peaked_of, ground_told, peak_told};
+ghost use Rattle.survey.specs.Survey.{Ordered, ground_of, peaked_of, peak_told};
 
 pub use checks::roots;
 pub use figures::prepare;
@@ -19,7 +20,7 @@ use words::plan::Plan;
 // none.
 pub fn survey(plan: &Plan) -> Result<Peaked, Refusal>
     requires { Ordered (contents plan.now.words) }
-    ensures { (ground_told result ≡ ground_of (contents plan.now.words)) × (peak_told result ≡ peaked_of (contents plan.now.words)) }
+    ensures { (number_in result ≡ ground_of (contents plan.now.words)) × (peak_told result ≡ peaked_of (contents plan.now.words)) }
 {
     let n = plan.cell(Plan::HEAD, Plan::SIZE) as usize;
     checks::ground(plan, n)?;

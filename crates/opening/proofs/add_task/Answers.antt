@@ -48,9 +48,10 @@ set_cell-requires-3 c =
 
 pub overflow_add-given : goal.overflow_add-given
 overflow_add-given c =
-    omega
-    (arith,
-    given-small c.args.plan.now.words c.requires.sound (eqb-true _ _ (sym c.is_in.ensures ∙ c.if-not-is_in.false)) c.cell-given.ensures)
+    omega (
+      arith,
+      given-small c.args.plan.now.words c.requires.sound (eqb-true _ _ (sym c.is_in.ensures ∙ c.if-not-is_in.false)) c.cell-given.ensures,
+    )
 
 pub returns : goal.returns
 unfolding contents
