@@ -6,15 +6,16 @@ ghost use Rattle.store.specs.Kept.{Kept};
 ghost use Rattle.booking.specs.Booked.{MayActivate, DidActivate, SomeWait, BookedNext, BookedAhead};
 
 use ready::insert;
-use store::{grant, has_room, missing};
+use store::Store;
 use words::plan::Plan;
+use words::standing::Standing;
 
 // A task becomes booked, and is ready where all its children have ended.
 fn activate(plan: &mut Plan, task: usize)
     requires { MayActivate task (contents plan.old.words) }
     ensures { DidActivate task (contents plan.old.words) (contents plan.new.words) }
 {
-    plan.set_cell(task, Plan::STANDING, Plan::ACTIVATED);
+    plan.set_standing(task, Standing::Activated);
     if plan.cell(task, Plan::UNENDED) == 0 {
         let place = plan.cell(task, Plan::PLACE) as usize;
         insert(plan, place);
@@ -28,11 +29,11 @@ fn book_next(plan: &mut Plan, next: usize) -> bool
     ensures { BookedNext plan.old.words plan.new.words (contents plan.old.words) (contents plan.new.words) result }
 {
     let task = plan.entry(Plan::ACTIVATION, next) as usize;
-    let units = missing(plan, Plan::CHILLED, task);
-    if !has_room(plan, Plan::CHILLED, units) {
+    let units = Store::CHILLED.missing(plan, task);
+    if !Store::CHILLED.has_room(plan, units) {
         return false;
     }
-    grant(plan, Plan::CHILLED, task, units);
+    Store::CHILLED.grant(plan, task, units);
     activate(plan, task);
     plan.set_cell(Plan::HEAD, Plan::NEXT, next as u32 + 1);
     true
@@ -44,11 +45,10 @@ pub fn book_ahead(plan: &mut Plan)
     ensures { BookedAhead (contents plan.old.words) (contents plan.new.words) }
 {
     let n = plan.cell(Plan::HEAD, Plan::SIZE) as usize;
-    let mut next = plan.cell(Plan::HEAD, Plan::NEXT) as usize;
-    while next < n {
+    let first = plan.cell(Plan::HEAD, Plan::NEXT) as usize;
+    for next in first..n {
         if !book_next(plan, next) {
             break;
         }
-        next += 1;
     }
 }

@@ -8,42 +8,39 @@ ghost use Rattle.dispatch.specs.Ended.{MayEnd, ended, MayFeed, Fed, root_ended};
 ghost use Rattle.dispatch.specs.Finished.{MayFinish, Finished};
 
 use ready::insert;
-use store::{free, hold_alone, pass, release, rest};
+use store::Store;
 use words::plan::Plan;
+use words::standing::Standing;
 
+// What a climb comes to.
 #[derive(Clone, Copy)]
-pub(crate) struct Passed {
+struct Passed {
     // the tasks on the way, each one offer
-    pub(crate) offers: usize,
+    offers: usize,
     // what is left of R, and free
-    pub(crate) left: u32,
+    left: u32,
 }
 
 // "Then climb from parent to parent, from j's parent on, ending at the first of: past the root, a
 // step that is waiting, R is 0." `below` is j and `units` is R. The figures still have R in them, and
 // lose it where the climb passes or stops at a waiting task.
-fn climb(plan: &mut Plan, store: usize, below: usize, units: u32) -> Passed
-    requires { MayClimb store below units (contents plan.old.words) }
+fn climb(plan: &mut Plan, store: Store, below: usize, units: u32) -> Passed
+    requires { MayClimb store.offset below units (contents plan.old.words) }
     ensures { DidClimb below units (contents plan.old.words) (contents plan.new.words) result.offers result.left }
 {
     let mut i = plan.cell(below, Plan::PARENT) as usize;
     let mut left = units;
     let mut offers = 0;
-    loop {
-        if i == 0 {
-            break Passed { offers, left };
+    while i != 0 && left != 0 {
+        if plan.stands(i, Standing::Waiting) {
+            store.rest(plan, i, left);
+            break;
         }
-        if plan.cell(i, Plan::STANDING) == Plan::WAITING {
-            rest(plan, store, i, left);
-            break Passed { offers, left };
-        }
-        if left == 0 {
-            break Passed { offers, left };
-        }
-        left = pass(plan, store, i, left);
+        left = store.pass(plan, i, left);
         offers += 1;
         i = plan.cell(i, Plan::PARENT) as usize;
     }
+    Passed { offers, left }
 }
 
 // The parent waits for one child fewer, and is ready where it waits for none and is booked.
@@ -53,11 +50,9 @@ fn feed(plan: &mut Plan, parent: usize)
 {
     let unended = plan.cell(parent, Plan::UNENDED) - 1;
     plan.set_cell(parent, Plan::UNENDED, unended);
-    if unended == 0 {
-        if plan.cell(parent, Plan::STANDING) == Plan::ACTIVATED {
-            let place = plan.cell(parent, Plan::PLACE) as usize;
-            insert(plan, place);
-        }
+    if unended == 0 && plan.stands(parent, Standing::Activated) {
+        let place = plan.cell(parent, Plan::PLACE) as usize;
+        insert(plan, place);
     }
 }
 
@@ -68,7 +63,7 @@ fn end(plan: &mut Plan, task: usize)
 {
     let active = plan.cell(Plan::HEAD, Plan::ACTIVE);
     let ended = plan.cell(Plan::HEAD, Plan::ENDED);
-    plan.set_cell(task, Plan::STANDING, Plan::FINISHED);
+    plan.set_standing(task, Standing::Finished);
     plan.set_cell(Plan::HEAD, Plan::ACTIVE, active - 1);
     plan.set_cell(Plan::HEAD, Plan::ENDED, ended + 1);
 }
@@ -83,9 +78,9 @@ pub fn finish(plan: &mut Plan, task: usize) -> usize
     let parent = plan.cell(task, Plan::PARENT) as usize;
     end(plan, task);
     feed(plan, parent);
-    let units = release(plan, Plan::CHILLED, task);
-    let passed = climb(plan, Plan::CHILLED, task, units);
-    free(plan, Plan::CHILLED, passed.left);
+    let units = Store::CHILLED.release(plan, task);
+    let passed = climb(plan, Store::CHILLED, task, units);
+    Store::CHILLED.free(plan, passed.left);
     passed.offers
 }
 
@@ -97,5 +92,5 @@ pub fn end_root(plan: &mut Plan, task: usize)
 {
     end(plan, task);
     let out = plan.cell(task, Plan::CHILLED + Plan::OUT);
-    hold_alone(plan, Plan::CHILLED, task, out);
+    Store::CHILLED.hold_alone(plan, task, out);
 }

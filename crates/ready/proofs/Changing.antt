@@ -16,7 +16,7 @@ use Rattle.numbers.proofs.Tests.{same_or_not}
 use Rattle.words.specs.Layout.{words, entries, bits, blocks, ready_base, filled_word}
 use Rattle.words.specs.Contents.{Contents, contents, with_ready}
 use Rattle.words.specs.Digits.{digits}
-use Rattle.words.specs.Marks.{Marks, changed, MayChange, Changed}
+use Rattle.words.specs.Marks.{Marks, Changed}
 use Rattle.words.proofs.Views.{part_at}
 use Rattle.words.proofs.Contents.{lengths, contents-ready, contents-filled}
 use Rattle.ready.specs.Flipped.{flipped, Flipped}

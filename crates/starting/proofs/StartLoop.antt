@@ -4,10 +4,9 @@ use mathlib.Core.List.{List, [], ◌∷◌, ◌++◌, append-nil}
 use Rattle.std.specs.Prelude.{None, Some}
 use Prim.Native.Nat.{ℕ, zero, suc, ◌+◌, ◌-◌, ◌≤◌, ◌<◌}
 use native.Mathlib.Omega.{arith}
-use lib.ListN.{length, take, set, length-append, length-drop}
+use lib.ListN.{length, take, set, length-append}
 use lib.Seq.{append_snoc}
 use Rattle.numbers.specs.Lists.{at, first}
-use Rattle.numbers.specs.Limits.{max_processors, least_starts}
 use Rattle.books.specs.Standing.{running}
 use Rattle.books.specs.Booking.{Books, ready, starts, start}
 use Rattle.rules.specs.Answer.{front}

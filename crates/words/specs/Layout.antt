@@ -1,7 +1,6 @@
 -- Where the words of a plan lie. The names are those of the constants of the plan type.
 use Rattle.std.specs.Prelude.{ℕ}
 use Rattle.books.specs.Kind.{Kind}
-use Rattle.books.specs.Kind
 
 -- the words of a row
 abbrev pub row : ℕ
