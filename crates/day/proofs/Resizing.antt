@@ -62,7 +62,7 @@ module _ (c : Contents) (long : Lengths c) (reached : Reachable (meaning c)) (so
   may-survey = whole-order c sound long reached (sound.day on).ranked_all
 
   -- it finds no ground against the activation order of a day
-  fine : ground_of c ≡ 0
+  pub fine : ground_of c ≡ 0
   unfolding order_ground
   fine =
       sym (ground-is c sound long reached (sound.day on).ranked_all)

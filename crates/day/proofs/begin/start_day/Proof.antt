@@ -17,7 +17,7 @@ returns : tie.Need-returns
 unfolding contents
 returns c =
     begun c.requires c.prepare.ensures c.advance-started.ensures
-    (wrote-head c.advance-started.new.plan.words 0 3 c.advance-started.ensures.kept.cached.long (omega arith) c.set_cell.ensures).0
+    (wrote-head c.advance-started.new.plan.words 0 3 c.advance-started.ensures.kept.cached.long (omega arith) c.set_phase.ensures).0
 
 pub start_day_spec : {M : Type 1} → statement M
 start_day_spec =

@@ -17,7 +17,7 @@ returns c =
     let k = c in
     let s = k in
     let w = k.end_root.new.plan.words in
-    (wrote-head w 0 Phase.ready (ap (λ (d : Contents). d.extent) k.end_root.ensures ∙ s.requires.long) (omega arith) c.set_cell.ensures).0
+    (wrote-head w 0 Phase.ready (ap (λ (d : Contents). d.extent) k.end_root.ensures ∙ s.requires.long) (omega arith) c.set_phase.ensures).0
     ∙ ap (with_head 0 Phase.ready) k.end_root.ensures
 
 pub make_ready_spec : {M : Type 1} → statement M
