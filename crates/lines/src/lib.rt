@@ -4,33 +4,28 @@
 
 mod tail;
 
-ghost use Rattle.std.specs.Prelude.{take};
+ghost use Rattle.std.specs.Prelude.{length};
 ghost use Rattle.texts.specs.Text.{begin_line, done_line, fetch_line, places_line, refused_line};
-ghost use Rattle.lines.specs.Line.{Line};
+ghost use Rattle.lines.specs.Line.{Line, told};
+
+use put::Page;
+pub use tail::Figures;
 
 // No line has more bytes.
 pub const LONGEST_LINE: usize = 512;
 
-// The line of an accepted BEGIN: the peak, the task that sets it, and the figures. The tasks started
-// are the first `count` of the list, all of it where the count is larger.
-pub fn begin_line(
-    buffer: &mut [u8],
-    peak: u64,
-    by: u16,
-    booked: u32,
-    used: u32,
-    full: u32,
-    starts: &[u16],
-    count: usize,
-) -> usize
-    ensures { Line (begin_line (record { trays = peak; task = by }) booked used full (take count starts.now))
-        count buffer.old buffer.new result }
+// The line of an accepted BEGIN: the peak, the task that sets it, the figures, and the tasks started.
+pub fn begin_line(buffer: &mut [u8], peak: u64, by: u16, figures: Figures, started: &[u16]) -> usize
+    ensures { Line (told (begin_line (record { trays = peak; task = by })) figures started.now)
+        (length started.now) buffer.old buffer.new result }
 {
-    let next = put::text(buffer, 0, b"begin peak=");
-    let next = put::decimal(buffer, next, peak);
-    let next = put::text(buffer, next, b" by=");
-    let next = put::decimal(buffer, next, by as u64);
-    tail::figures(buffer, next, booked, used, full, starts, count)
+    let mut page = Page::new(buffer);
+    page.text(b"begin peak=");
+    page.decimal(peak);
+    page.text(b" by=");
+    page.decimal(by as u64);
+    figures.put(started, &mut page);
+    page.place()
 }
 
 // The line of an accepted DONE: the task finished, the offers made, and the rest as for BEGIN.
@@ -38,54 +33,53 @@ pub fn done_line(
     buffer: &mut [u8],
     task: u16,
     offers: usize,
-    booked: u32,
-    used: u32,
-    full: u32,
-    starts: &[u16],
-    count: usize,
+    figures: Figures,
+    started: &[u16],
 ) -> usize
-    ensures { Line (done_line task offers booked used full (take count starts.now)) count buffer.old buffer.new result }
+    ensures { Line (told (done_line task offers) figures started.now)
+        (length started.now) buffer.old buffer.new result }
 {
-    let next = put::text(buffer, 0, b"done ");
-    let next = put::decimal(buffer, next, task as u64);
-    let next = put::text(buffer, next, b" offers=");
-    let next = put::decimal(buffer, next, offers as u64);
-    tail::figures(buffer, next, booked, used, full, starts, count)
+    let mut page = Page::new(buffer);
+    page.text(b"done ");
+    page.decimal(task as u64);
+    page.text(b" offers=");
+    page.decimal(offers as u64);
+    figures.put(started, &mut page);
+    page.place()
 }
 
 // The line of an accepted FETCH.
 pub fn fetch_line(buffer: &mut [u8], booked: u32) -> usize
     ensures { Line (fetch_line booked) 0 buffer.old buffer.new result }
 {
-    let next = put::text(buffer, 0, b"fetch booked=");
-    let next = put::decimal(buffer, next, booked as u64);
-    put::byte(buffer, next, b'\n')
+    let mut page = Page::new(buffer);
+    page.text(b"fetch booked=");
+    page.decimal(booked as u64);
+    page.byte(b'\n');
+    page.place()
 }
 
 // The line of an accepted 08: the new bound, and the rest as for BEGIN.
-pub fn places_line(
-    buffer: &mut [u8],
-    bound: u32,
-    booked: u32,
-    used: u32,
-    full: u32,
-    starts: &[u16],
-    count: usize,
-) -> usize
-    ensures { Line (places_line bound booked used full (take count starts.now)) count buffer.old buffer.new result }
+pub fn places_line(buffer: &mut [u8], bound: u32, figures: Figures, started: &[u16]) -> usize
+    ensures { Line (told (places_line bound) figures started.now)
+        (length started.now) buffer.old buffer.new result }
 {
-    let next = put::text(buffer, 0, b"places M=");
-    let next = put::decimal(buffer, next, bound as u64);
-    tail::figures(buffer, next, booked, used, full, starts, count)
+    let mut page = Page::new(buffer);
+    page.text(b"places M=");
+    page.decimal(bound as u64);
+    figures.put(started, &mut page);
+    page.place()
 }
 
 // The line of a refusal: its number, and the byte offset of the command.
 pub fn refused_line(buffer: &mut [u8], number: u8, offset: u64) -> usize
     ensures { Line (refused_line number offset) 0 buffer.old buffer.new result }
 {
-    let next = put::text(buffer, 0, b"refused ");
-    let next = put::decimal(buffer, next, number as u64);
-    let next = put::text(buffer, next, b" at ");
-    let next = put::decimal(buffer, next, offset);
-    put::byte(buffer, next, b'\n')
+    let mut page = Page::new(buffer);
+    page.text(b"refused ");
+    page.decimal(number as u64);
+    page.text(b" at ");
+    page.decimal(offset);
+    page.byte(b'\n');
+    page.place()
 }

@@ -1,68 +1,52 @@
 // What the lines of BEGIN, DONE and 08 go on with: the figures, and the tasks that were started.
-ghost use Rattle.std.specs.Prelude.{◌≡◌, [], ◌∷◌, take};
 ghost use Rattle.texts.specs.Text.{spaced, listed, figures};
-ghost use Rattle.put.specs.Put.{Put};
+ghost use Rattle.put.specs.Pages.{Puts};
+ghost use Rattle.lines.specs.Line.{told};
 
-// The front of the list, all of it where the count is larger.
-fn front(starts: &[u16], count: usize) -> &[u16]
-    ensures { result.now ≡ take count starts.now }
-{
-    if count < starts.len() {
-        &starts[..count]
-    } else {
-        starts
+use put::Page;
+
+// The trays booked and in use, and the fullness.
+#[derive(Clone, Copy)]
+pub struct Figures {
+    pub booked: u32,
+    pub used: u32,
+    pub full: u32,
+}
+
+impl Figures {
+    // They go ahead of the tasks that were started.
+    pub(crate) fn put(self, started: &[u16], page: &mut Page)
+        ensures { Puts (told figures self started.now) page.old page.new }
+    {
+        page.text(b" booked=");
+        page.decimal(self.booked as u64);
+        page.text(b" used=");
+        page.decimal(self.used as u64);
+        page.text(b" full=");
+        page.decimal(self.full as u64);
+        page.text(b" start");
+        listed(started, page);
+        page.byte(b'\n');
     }
 }
 
-// A task behind a space.
-fn start(buffer: &mut [u8], place: usize, task: u16) -> usize
-    ensures { Put (spaced (task ∷ [])) place buffer.old buffer.new result }
+// Each task behind a space.
+fn spaced(tasks: &[u16], page: &mut Page)
+    ensures { Puts (spaced tasks.now) page.old page.new }
 {
-    let next = put::byte(buffer, place, b' ');
-    put::decimal(buffer, next, task as u64)
-}
-
-fn spaced(buffer: &mut [u8], place: usize, starts: &[u16]) -> usize
-    ensures { Put (spaced starts.now) place buffer.old buffer.new result }
-{
-    let mut next = place;
-    let mut i = 0;
-    while i < starts.len() {
-        next = start(buffer, next, starts[i]);
-        i += 1;
+    for task in tasks {
+        page.byte(b' ');
+        page.decimal(*task as u64);
     }
-    next
 }
 
 // The tasks, or `-` where there is none.
-fn listed(buffer: &mut [u8], place: usize, starts: &[u16]) -> usize
-    ensures { Put (listed starts.now) place buffer.old buffer.new result }
+fn listed(tasks: &[u16], page: &mut Page)
+    ensures { Puts (listed tasks.now) page.old page.new }
 {
-    if starts.len() == 0 {
-        put::text(buffer, place, b" -")
+    if tasks.is_empty() {
+        page.text(b" -");
     } else {
-        spaced(buffer, place, starts)
+        spaced(tasks, page);
     }
-}
-
-pub(crate) fn figures(
-    buffer: &mut [u8],
-    place: usize,
-    booked: u32,
-    used: u32,
-    full: u32,
-    starts: &[u16],
-    count: usize,
-) -> usize
-    ensures { Put (figures booked used full (take count starts.now)) place buffer.old buffer.new result }
-{
-    let next = put::text(buffer, place, b" booked=");
-    let next = put::decimal(buffer, next, booked as u64);
-    let next = put::text(buffer, next, b" used=");
-    let next = put::decimal(buffer, next, used as u64);
-    let next = put::text(buffer, next, b" full=");
-    let next = put::decimal(buffer, next, full as u64);
-    let next = put::text(buffer, next, b" start");
-    let next = listed(buffer, next, front(starts, count));
-    put::byte(buffer, next, b'\n')
 }

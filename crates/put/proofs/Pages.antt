@@ -1,5 +1,5 @@
 -- Pieces that are put on a page one behind the other are one text.
-use Rattle.std.proofs.Common.{◌≡◌, refl, ◌∙◌, List, [], ◌∷◌, ◌++◌, ℕ, ◌+◌, ◌<◌, length, take, get_or, add-one}
+use Rattle.std.proofs.Common.{◌≡◌, refl, sym, ◌∙◌, List, [], ◌∷◌, ◌++◌, ℕ, ◌+◌, ◌<◌, length, take, get_or, add-one}
 use lib.Seq.{take-suc}
 use Rattle.put.specs.declared.Page.{Page}
 use Rattle.put.specs.Pages.{Puts}
@@ -31,13 +31,14 @@ pub turn : (text : List ℕ → List ℕ)
     → Puts (text (take (i + 1) list)) before after
 turn text grows list i more p q = rw (add-one i, take-suc list i 0, grows) (p then q)
 
--- at the front of a buffer, which is at last as the page left it
-pub from-front : {text before after : List ℕ} {end : ℕ} {first last : Page}
+-- a page of a buffer, from its front on: the buffer is at last as the page left it
+pub from-front : {text before after : List ℕ} {name end : ℕ} {first last : Page}
     → Puts text first last
+    → first.buffer.ghost_name ≡ name
     → first.buffer.now ≡ before
     → first.place ≡ 0
-    → after ≡ last.buffer.now
+    → (name ≡ last.buffer.ghost_name → after ≡ last.buffer.now)
     → end ≡ last.place
     → Put text 0 before after end
-from-front p unwritten at_front lent place =
-    rw (lent, place) (rw (unwritten, at_front) at p.piece)
+from-front p same_buffer unwritten at_front lent place =
+    rw (lent (sym (p.same_buffer ∙ same_buffer)), place) (rw (unwritten, at_front) at p.piece)

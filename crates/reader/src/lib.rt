@@ -7,7 +7,8 @@ ghost use Rattle.format.specs.Command as rules;
 ghost use Rattle.codec.specs.Meaning.{decoded};
 ghost use Rattle.reader.specs.Onward.{onward};
 
-use codec::{Decoded, decode};
+use codec::{Read, decode};
+use refusal::Refusal;
 
 // A stream that is lent, and the place of the next command in it.
 #[derive(Clone, Copy)]
@@ -17,19 +18,11 @@ pub struct Reader<'a> {
 }
 
 // The place `used` bytes further on, and the end of the stream where it has no such place.
+#[tactic(auto, unfolding(crate::specs::Onward::onward))]
 fn ahead(stream: &[u8], place: usize, used: usize) -> usize
     ensures { result ≡ onward stream.now place used }
 {
-    let end = stream.len();
-    if place <= end {
-        if used <= end - place {
-            place + used
-        } else {
-            end
-        }
-    } else {
-        end
-    }
+    place.saturating_add(used).min(stream.len())
 }
 
 impl<'a> Reader<'a> {
@@ -60,7 +53,7 @@ impl<'a> Reader<'a> {
     }
 
     // The next command. The reader stays where it is until it is moved on.
-    pub fn next(self) -> Decoded
+    pub fn next(self) -> Result<Read, Refusal>
         ensures { decoded result ≡ rules.decode self.entry.bytes.now self.entry.place }
     {
         decode(self.bytes, self.place)
@@ -72,15 +65,15 @@ impl<'a> Reader<'a> {
             × (result.place ≡ onward self.entry.bytes.now self.entry.place used) }
     {
         Reader {
-            bytes: self.bytes,
             place: ahead(self.bytes, self.place, used),
+            ..self
         }
     }
 }
 
 // The command that stands at a place of a stream: a reader is set there and asked for the next. It
 // serves callers that keep the place as a number.
-pub fn next_at(stream: &[u8], place: usize) -> Decoded
+pub fn next_at(stream: &[u8], place: usize) -> Result<Read, Refusal>
     ensures { decoded result ≡ rules.decode stream.now place }
 {
     Reader::at(stream, place).next()

@@ -1,0 +1,17 @@
+-- The pieces, one behind the other, are the line.
+use Rattle.std.proofs.Common.{arith, rules}
+use Rattle.texts.specs.Text.{ascii, fetch_line}
+use Rattle.texts.proofs.Lengths.{fetch_line-short}
+use Rattle.put.proofs.Pieces.{whole}
+use Rattle.put.proofs.Pages.{◌then◌, from-front}
+use Rattle.lines.proofs.fetch_line.Goals as goal
+
+pub returns : goal.returns
+unfolding ascii fetch_line
+returns c =
+    let all = c.text.ensures then c.decimal.ensures then c.byte.ensures in
+    let page = c.new-page.ensures in
+    record {
+      written = whole (from-front all page.same_buffer page.unwritten page.at_front (search rules) c.place.ensures);
+      short = λ _. fetch_line-short _ (omega arith);
+    }
