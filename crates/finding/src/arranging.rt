@@ -17,10 +17,8 @@ pub(crate) fn arrange(plan: &Plan, scratch: &mut Scratch, n: usize)
         (at (contents plan.now.words).stores.chilled.works) (at (contents plan.now.words).stores.chilled.outs)
         scratch.old.cells scratch.new.cells }
 {
-    let mut k = n;
-    while k != 0 {
-        k -= 1;
-        let task = scratch.get(Column::Queue, k);
+    for place in (0..n).rev() {
+        let task = scratch.get(Column::Queue, place);
         join(plan, scratch, task);
     }
 }
@@ -31,10 +29,8 @@ pub(crate) fn write_order(scratch: &Scratch, root: usize, list: &mut [u16], n: u
     ensures { list.new ≡ order_from n scratch.now.cells root ++ drop n list.old }
 {
     let mut task = scratch.get(Column::Head, root);
-    let mut k = 0;
-    while k < n {
-        list[k] = task as u16;
+    for place in 0..n {
+        list[place] = task as u16;
         task = scratch.get(Column::After, task);
-        k += 1;
     }
 }

@@ -5,16 +5,19 @@ ghost use Rattle.postorders.specs.Postorder.{best_postorder};
 ghost use Rattle.postorders.specs.Find as rules;
 ghost use Rattle.words.specs.Contents.{contents};
 ghost use Rattle.answer.specs.Meaning.{plan_of, wrote_of};
+ghost use Rattle.answer.specs.Told.{written};
 ghost use Rattle.answer.specs.ValidPlan.{ValidPlan};
+ghost use Rattle.survey.specs.Survey.{ground_told};
 ghost use Rattle.children.specs.Scratch.{queue, field};
 ghost use Rattle.finding.specs.Finding.{AllReached, MayFind, Finds};
 
 use crate::arranging::{arrange, write_order};
 use crate::reaching::reach;
-use answer::Wrote;
 use children::list_children;
 use children::scratch::{Column, Scratch};
+use refusal::Refusal;
 use survey::roots;
+use words::phase::Phase;
 use words::plan::Plan;
 
 // Where all tasks are reached from the root: its order at the front of the list.
@@ -31,47 +34,41 @@ fn write_found(plan: &Plan, scratch: &mut Scratch, n: usize, list: &mut [u16])
     write_order(scratch, root, list, n);
 }
 
-// Where one task has no parent: 12 where the chain of parents of some task never reaches it, 11 where
-// the list is too short, or the order and 0.
-fn find_rooted(plan: &Plan, list: &mut [u16]) -> u8
+// Where one task has no parent: the order at the front of the list, unless the chain of parents of some
+// task never reaches it, or the list is too short.
+fn find_rooted(plan: &Plan, list: &mut [u16]) -> Result<(), Refusal>
     requires { MayFind (contents plan.now.words).size (at (contents plan.now.words).parents) (at (contents plan.now.words).stores.chilled.works)
         (at (contents plan.now.words).stores.chilled.outs) }
     ensures { Finds (contents plan.now.words).size (at (contents plan.now.words).parents)
         (at (contents plan.now.words).stores.chilled.works) (at (contents plan.now.words).stores.chilled.outs) list.old
-        list.new result }
+        list.new (ground_told result) }
 {
     let n = plan.cell(Plan::HEAD, Plan::SIZE) as usize;
     let mut scratch = Scratch::new();
     list_children(plan, n, &mut scratch);
     if reach(plan, &mut scratch) != n {
-        return 12;
+        return Err(Refusal::RootUnreached);
     }
     if list.len() < n {
-        return 11;
+        return Err(Refusal::ShortList);
     }
     write_found(plan, &mut scratch, n, list);
-    0
+    Ok(())
 }
 
 // "3 until all steps are given; then 7; then 12 if some step's chain of parents never reaches the root;
 // then 11 if the list has fewer than n entries."
-pub fn find_order(plan: &Plan, list: &mut [u16]) -> Wrote
+pub fn find_order(plan: &Plan, list: &mut [u16]) -> Result<usize, Refusal>
     requires { ValidPlan plan.now.words }
-    ensures { wrote_of result list.new ≡ rules.find_order (plan_of plan.now.words) list.old }
+    ensures { wrote_of (written result) list.new ≡ rules.find_order (plan_of plan.now.words) list.old }
 {
-    if plan.cell(Plan::HEAD, Plan::PHASE) < Plan::ORDERS {
-        return Wrote::refused(3);
+    if plan.is_in(Phase::Empty) || plan.is_in(Phase::Steps) {
+        return Err(Refusal::OutOfTurn);
     }
     let n = plan.cell(Plan::HEAD, Plan::SIZE) as usize;
     if roots(plan, n) != 1 {
-        return Wrote::refused(7);
+        return Err(Refusal::NotOneRoot);
     }
-    let number = find_rooted(plan, list);
-    if number != 0 {
-        return Wrote::refused(number);
-    }
-    Wrote {
-        number: 0,
-        count: n,
-    }
+    find_rooted(plan, list)?;
+    Ok(n)
 }

@@ -1,5 +1,5 @@
 // The order of a task's subtree: its children's orders one after another, and then the task.
-ghost use Rattle.std.specs.Prelude.{◌≡◌, max, length};
+ghost use Rattle.std.specs.Prelude.{◌≡◌, length};
 ghost use Rattle.numbers.specs.Lists.{at};
 ghost use Rattle.words.specs.Contents.{contents};
 ghost use Rattle.children.specs.Scratch.{cells};
@@ -11,30 +11,23 @@ use children::scratch::{Column, Scratch};
 use children::sort_children;
 use words::plan::Plan;
 
-// The larger of two numbers.
-fn larger(a: usize, b: usize) -> usize
-    ensures { result ≡ max a b }
-{
-    if a < b { b } else { a }
-}
-
 // The peak of a subtree: each child's order begins at the level that those before it leave.
 fn subtree_peak(plan: &Plan, scratch: &Scratch, task: usize) -> usize
     requires { MayWeigh (at (contents plan.now.words).stores.chilled.works) (at (contents plan.now.words).stores.chilled.outs) scratch.now.cells task }
     ensures { result ≡ peak_along (at (contents plan.now.words).stores.chilled.works) (at (contents plan.now.words).stores.chilled.outs)
         scratch.now.cells task }
 {
-    let mut best = 0;
+    let mut best: usize = 0;
     let mut level = 0;
     let mut child = scratch.get(Column::First, task);
     while child != 0 {
-        best = larger(best, level + scratch.get(Column::SubtreePeak, child));
+        best = best.max(level + scratch.get(Column::SubtreePeak, child));
         level += plan.cell(child, Plan::CHILLED + Plan::OUT) as usize;
         child = scratch.get(Column::Sibling, child);
     }
     let work = plan.cell(task, Plan::CHILLED + Plan::WORK) as usize;
     let out = plan.cell(task, Plan::CHILLED + Plan::OUT) as usize;
-    larger(best, level + work + out)
+    best.max(level + work + out)
 }
 
 // The orders of the children are linked one behind the other, from nobody's entry on, and the task
