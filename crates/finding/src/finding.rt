@@ -5,9 +5,9 @@ ghost use Rattle.postorders.specs.Postorder.{best_postorder};
 ghost use Rattle.postorders.specs.Find as rules;
 ghost use Rattle.words.specs.Contents.{contents};
 ghost use Rattle.answer.specs.Meaning.{plan_of, wrote_of};
-ghost use Rattle.answer.specs.Told.{written};
+ghost use Rattle.answer.specs.Told.{told_count};
 ghost use Rattle.answer.specs.ValidPlan.{ValidPlan};
-ghost use Rattle.survey.specs.Survey.{ground_told};
+ghost use Rattle.refusal.specs.Number.{number_in};
 ghost use Rattle.children.specs.Scratch.{queue, field};
 ghost use Rattle.finding.specs.Finding.{AllReached, MayFind, Finds};
 
@@ -41,7 +41,7 @@ fn find_rooted(plan: &Plan, list: &mut [u16]) -> Result<(), Refusal>
         (at (contents plan.now.words).stores.chilled.outs) }
     ensures { Finds (contents plan.now.words).size (at (contents plan.now.words).parents)
         (at (contents plan.now.words).stores.chilled.works) (at (contents plan.now.words).stores.chilled.outs) list.old
-        list.new (ground_told result) }
+        list.new (number_in result) }
 {
     let n = plan.cell(Plan::HEAD, Plan::SIZE) as usize;
     let mut scratch = Scratch::new();
@@ -60,7 +60,7 @@ fn find_rooted(plan: &Plan, list: &mut [u16]) -> Result<(), Refusal>
 // then 11 if the list has fewer than n entries."
 pub fn find_order(plan: &Plan, list: &mut [u16]) -> Result<usize, Refusal>
     requires { ValidPlan plan.now.words }
-    ensures { wrote_of (written result) list.new ≡ rules.find_order (plan_of plan.now.words) list.old }
+    ensures { wrote_of (told_count result) list.new ≡ rules.find_order (plan_of plan.now.words) list.old }
 {
     if plan.is_in(Phase::Empty) || plan.is_in(Phase::Steps) {
         return Err(Refusal::OutOfTurn);

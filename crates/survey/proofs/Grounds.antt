@@ -21,10 +21,6 @@ use Rattle.store.specs.Cached.{Placed}
 use Rattle.survey.specs.Checks.{Parented, is_late}
 use Rattle.survey.specs.Survey.{order_ground}
 
--- a ground has a number above 0
-pub number_some : (refusal : Refusal) → 0 < number_of refusal
-number_some refusal = grind (arith, common_steps)
-
 -- 7
 pub ground-roots : (n : ℕ) (par : ℕ → ℕ) (order : List ℕ) → (roots n par ≡ 1 → ⊥) → 7 ≡ order_ground n par order
 unfolding order_ground

@@ -7,7 +7,8 @@ use Rattle.tree.specs.Peak.{Peaked, peaked, no_peak}
 use Rattle.words.specs.Contents.{Contents, contents}
 use Rattle.store.specs.Rows.{tasks_of}
 use Rattle.survey.specs.Survey.{RankedIn, ground_of, order_ground, peaked_of}
-use Rattle.survey.proofs.Grounds.{no-ground, number_some}
+use Rattle.refusal.proofs.Number.{some_number}
+use Rattle.survey.proofs.Grounds.{no-ground}
 use Rattle.survey.proofs.survey.Goals as goal
 
 -- the ground of the first n entries, where n is the size
@@ -29,7 +30,7 @@ unfolding contents
 returns-in_err-ground c =
     let p = err_from_is_err_and c.from_residual.result c.from_residual.ensures.1 in
     let k = contents c.args.plan.now.words in
-    let some = number_some c.in_err-ground.field-0.0 in
+    let some = some_number c.in_err-ground.field-0.0 in
     let same = ground_is k _ _ c.cell-n.ensures c.in_err-ground.ensures in
     rw (p.1, p.2) (same, untold k (omega arith))
 

@@ -26,14 +26,14 @@ pub returns-then-is_complete : goal.returns-then-is_complete
 unfolding contents
 returns-then-is_complete c =
     elim c.if-not-is_in.branch [
-      then-not-is_in w ↦ rw (counted _ c.requires, ← c.is_in.ensures, w.if-not-is_in.true, ← w.is_complete.ensures, ← w.value-is, c.if-is_complete.true) c.is_complete-then-is_complete.ensures
-    | else-not-is_in w ↦ absurd (cc)
+      | then-not-is_in w ↦ rw (counted _ c.requires, ← c.is_in.ensures, w.if-not-is_in.true, ← w.is_complete.ensures, ← w.value-is, c.if-is_complete.true) c.is_complete-then-is_complete.ensures
+      | else-not-is_in w ↦ absurd (cc)
     ]
 
 pub returns-else-is_complete : goal.returns-else-is_complete
 unfolding contents
 returns-else-is_complete c =
     elim c.if-not-is_in.branch [
-      then-not-is_in w ↦ rw (counted _ c.requires, ← c.is_in.ensures, w.if-not-is_in.true, ← w.is_complete.ensures, ← w.value-is, c.if-is_complete.false)
-    | else-not-is_in w ↦ rw (w.value-is, counted _ c.requires, ← c.is_in.ensures, w.if-not-is_in.false)
+      | then-not-is_in w ↦ rw (counted _ c.requires, ← c.is_in.ensures, w.if-not-is_in.true, ← w.is_complete.ensures, ← w.value-is, c.if-is_complete.false)
+      | else-not-is_in w ↦ rw (w.value-is, counted _ c.requires, ← c.is_in.ensures, w.if-not-is_in.false)
     ]

@@ -5,7 +5,7 @@ use Rattle.std.proofs.lemmas.Result.{err_from_is_err_and}
 use Rattle.rules.specs.Phase
 use Rattle.words.specs.Contents.{contents}
 use Rattle.answer.proofs.Unwritten.{unwritten}
-use Rattle.survey.proofs.Grounds.{number_some}
+use Rattle.refusal.proofs.Number.{some_number}
 use Rattle.finding.proofs.Told.{may-find, told-early, told-several, told-refused, told-found}
 use Rattle.finding.proofs.finding.find_order.Goals as goal
 use Rattle.finding.proofs.finding.find_order.Goals.{then-is_in-via-then-is_in, then-is_in-via-else-is_in+then-is_in-2}
@@ -49,7 +49,7 @@ unfolding contents
 returns-in_err-find_rooted c =
     let p = err_from_is_err_and c.from_residual.result c.from_residual.ensures.1 in
     let roots = rw c.cell-n.ensures at c.roots.ensures in
-    let some = number_some c.in_err-find_rooted.field-0.0 in
+    let some = some_number c.in_err-find_rooted.field-0.0 in
     rw (p.1, p.2)
     (unwritten _ _ _ refl
     ∙ told-refused _ c.requires _ (given _ c.if-is_in.ensures c.if-is_in-2.ensures) (sym roots ∙ c.if-roots-ne1.false) _ _ c.in_err-find_rooted.ensures (λ none. omega arith))
