@@ -15,10 +15,11 @@ ghost use Rattle.words.specs.Contents.{contents};
 ghost use Rattle.answer.specs.Meaning.{plan_of, wrote_of};
 ghost use Rattle.answer.specs.Told.{told_count};
 ghost use Rattle.answer.specs.ValidPlan.{ValidPlan};
-ghost use Rattle.put.specs.Put.{Put};
+ghost use Rattle.put.specs.Pages.{Puts};
 ghost use Rattle.writer.specs.Writing.{WholePlan, WholeTask, OrderAt};
 
 use codec::{Command, encode, encode_activation, encode_execution, encode_task};
+use put::Page;
 use refusal::Refusal;
 use words::order::Order;
 use words::phase::Phase;
@@ -34,76 +35,72 @@ fn is_whole(plan: &Plan) -> bool
         && plan.is_complete(Order::Execution)
 }
 
-// PLAN, at the front of the list.
-fn write_opening(plan: &Plan, list: &mut [u8]) -> usize
+// PLAN, at the head of the page.
+fn write_opening(plan: &Plan, page: &mut Page)
     requires { WholePlan plan.now.words }
-    ensures { Put (rules.bytes (opening_of (instance_of (plan_of plan.now.words)))) 0 list.old list.new result }
+    ensures { Puts (rules.bytes (opening_of (instance_of (plan_of plan.now.words)))) page.old page.new }
 {
     let n = plan.cell(Plan::HEAD, Plan::SIZE) as u16;
     let p = plan.cell(Plan::HEAD, Plan::PROCESSORS) as u8;
     let bound = plan.cell(Plan::HEAD, Plan::CHILLED + Plan::BOUND);
-    encode(Command::Plan { n, p, bound }, list, 0)
+    encode(Command::Plan { n, p, bound }, page);
 }
 
 // STEP of a task.
-fn write_task(plan: &Plan, task: usize, list: &mut [u8], place: usize) -> usize
+fn write_task(plan: &Plan, task: usize, page: &mut Page)
     requires { WholeTask plan.now.words task }
-    ensures { Put (rules.bytes (task_of (instance_of (plan_of plan.now.words)) task)) place list.old list.new result }
+    ensures { Puts (rules.bytes (task_of (instance_of (plan_of plan.now.words)) task)) page.old page.new }
 {
     let parent = plan.cell(task, Plan::PARENT) as u16;
     let work = plan.cell(task, Plan::CHILLED + Plan::WORK) as u16;
     let out = plan.cell(task, Plan::CHILLED + Plan::OUT) as u16;
-    encode_task(parent, work, out, list, place)
+    encode_task(parent, work, out, page);
 }
 
 // All tasks, by their numbers.
-fn write_tasks(plan: &Plan, list: &mut [u8], place: usize) -> usize
+fn write_tasks(plan: &Plan, page: &mut Page)
     requires { WholePlan plan.now.words }
-    ensures { Put (flat_map rules.bytes (tasks_to (instance_of (plan_of plan.now.words)) (plan_of plan.now.words).size))
-        place list.old list.new result }
+    ensures { Puts (flat_map rules.bytes (tasks_to (instance_of (plan_of plan.now.words)) (plan_of plan.now.words).size))
+        page.old page.new }
 {
     let n = plan.cell(Plan::HEAD, Plan::SIZE) as usize;
-    let mut next = place;
     for task in 1..n + 1 {
-        next = write_task(plan, task, list, next);
+        write_task(plan, task, page);
     }
-    next
 }
 
 // 03 or 04, by the order that a task is the next of.
-fn write_entry(order: Order, task: u16, list: &mut [u8], place: usize) -> usize
-    ensures { Put (rules.bytes (next_in order task)) place list.old list.new result }
+fn write_entry(order: Order, task: u16, page: &mut Page)
+    ensures { Puts (rules.bytes (next_in order task)) page.old page.new }
 {
     match order {
-        Order::Activation => encode_activation(task, list, place),
-        Order::Execution => encode_execution(task, list, place),
+        Order::Activation => encode_activation(task, page),
+        Order::Execution => encode_execution(task, page),
     }
 }
 
 // All entries of an order.
-fn write_order(plan: &Plan, order: Order, list: &mut [u8], place: usize) -> usize
+fn write_order(plan: &Plan, order: Order, page: &mut Page)
     requires { OrderAt (order_base order) plan.now.words }
-    ensures { Put (flat_map rules.bytes (map (next_in order) (take (contents plan.now.words).size (part (order_base order) entries plan.now.words))))
-        place list.old list.new result }
+    ensures { Puts (flat_map rules.bytes (map (next_in order) (take (contents plan.now.words).size (part (order_base order) entries plan.now.words))))
+        page.old page.new }
 {
     let n = plan.cell(Plan::HEAD, Plan::SIZE) as usize;
-    let mut next = place;
     for k in 0..n {
         let task = plan.entry(order.base(), k) as u16;
-        next = write_entry(order, task, list, next);
+        write_entry(order, task, page);
     }
-    next
 }
 
 // The four parts, one behind another.
-fn write_whole(plan: &Plan, list: &mut [u8]) -> usize
+fn write_whole(plan: &Plan, page: &mut Page)
     requires { WholePlan plan.now.words }
-    ensures { Put (written (instance_of (plan_of plan.now.words))) 0 list.old list.new result }
+    ensures { Puts (written (instance_of (plan_of plan.now.words))) page.old page.new }
 {
-    let next = write_opening(plan, list);
-    let next = write_tasks(plan, list, next);
-    let next = write_order(plan, Order::Activation, list, next);
-    write_order(plan, Order::Execution, list, next)
+    write_opening(plan, page);
+    write_tasks(plan, page);
+    write_order(plan, Order::Activation, page);
+    write_order(plan, Order::Execution, page);
 }
 
 // "3 unless both orders are complete; then 11 if the list is shorter than 8 + 13 times n bytes; either
@@ -119,5 +116,7 @@ pub fn write(plan: &Plan, list: &mut [u8]) -> Result<usize, Refusal>
     if list.len() < Plan::OPENING_BYTES + Plan::TASK_BYTES * n {
         return Err(Refusal::ShortList);
     }
-    Ok(write_whole(plan, list))
+    let mut page = Page::new(list);
+    write_whole(plan, &mut page);
+    Ok(page.place())
 }

@@ -1,5 +1,5 @@
 -- `write` meets its contract: 3, then 11, and else the written plan at the front.
-use Rattle.std.proofs.Common.{arith, ◌≡◌, ◌+◌, ◌*◌, ℕ, List, sym, ap, ap₂, ◌∙◌}
+use Rattle.std.proofs.Common.{rules, arith, ◌≡◌, ◌+◌, ◌*◌, ℕ, List, sym, ap, ap₂, ◌∙◌}
 use Rattle.streams.specs.Instance.{instance_of}
 use Rattle.rules.specs.Answer.{front}
 use Rattle.streams.specs.Write as writing
@@ -7,6 +7,7 @@ use Rattle.streams.proofs.Written.{every-write-holds, write-early, write-short, 
 use Rattle.words.specs.Contents.{contents}
 use Rattle.answer.specs.Meaning.{plan_of}
 use Rattle.put.proofs.Pieces.{with-room}
+use Rattle.put.proofs.Pages.{from-front}
 use Rattle.writer.specs.Writing.{WholePlan}
 use Rattle.writer.proofs.write.Goals as goal
 
@@ -33,6 +34,6 @@ returns c =
     let whole = sym c.is_whole.ensures ∙ c.if-not-is_whole.false in
     let e = room-is c.args.plan.now.words c.cell-n.result c.cell-n.ensures in
     let long = (every-write-holds.plans _ c.requires.reached whole).sized in
-    let room = with-room c.write_whole.ensures (omega (arith, e, long, c.if-list-n.false)) in
+    let room = with-room (from-front c.write_whole.ensures c.new-page.ensures.same_buffer c.new-page.ensures.unwritten c.new-page.ensures.at_front (search rules) c.place.ensures) (omega (arith, e, long, c.if-list-n.false)) in
     ap₂ (λ (count : ℕ) (list : List ℕ). record { number = 0; count = count; list = list }) room.1 room.0
     ∙ sym (write-whole _ _ whole (omega (arith, e, c.if-list-n.false)))

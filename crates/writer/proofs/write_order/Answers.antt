@@ -7,13 +7,13 @@ use Rattle.words.specs.Layout.{entries}
 use Rattle.words.specs.Views.{part}
 use Rattle.words.specs.Contents.{contents}
 use Rattle.words.proofs.Views.{part_length, part_at}
-use Rattle.put.proofs.Pieces.{nothing}
+use Rattle.put.proofs.Pages.{nothing}
 use Rattle.writer.proofs.Turning.{entry-turn}
 use Rattle.writer.proofs.write_order.Goals as goal
 
 pub loop-k-init : goal.loop-k-init
 unfolding flat_map
-loop-k-init c = nothing _ _
+loop-k-init c = nothing _
 
 pub entry-task-requires : goal.entry-task-requires
 unfolding contents
@@ -34,7 +34,7 @@ loop-k-preserved c =
     let there : c.entry-task.result ≡ at (part base entries w) c.loop-k.k =
     rw c.base.ensures at c.entry-task.ensures ∙ part_at base entries w c.loop-k.k inside in
     entry-turn (next_in c.args.order) (part base entries w) c.loop-k.k (rw (part_length base entries w) inside) there c.loop-k.invariant
-    c.write_entry-next.ensures
+    c.write_entry.ensures
 
 pub returns : goal.returns
 unfolding contents

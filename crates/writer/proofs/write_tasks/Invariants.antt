@@ -4,9 +4,9 @@ use Rattle.std.proofs.Common.{◌-◌}
 use Rattle.format.specs.Command.{bytes}
 use Rattle.streams.specs.Instance.{instance_of, tasks_to}
 use Rattle.answer.specs.Meaning.{plan_of}
-use Rattle.put.specs.Put.{Put}
+use Rattle.put.specs.Pages.{Puts}
 use Rattle.writer.proofs.write_tasks.Given as goal
 
 abbrev pub invariant-loop-task : goal.invariant-loop-task
 invariant-loop-task l =
-    Put (flat_map bytes (tasks_to (instance_of (plan_of l.plan.words)) (l.task - 1))) l.place l.fn.list l.list l.next
+    Puts (flat_map bytes (tasks_to (instance_of (plan_of l.plan.words)) (l.task - 1))) l.fn.page l.page

@@ -11,7 +11,7 @@ use Rattle.words.specs.Layout.{entries}
 use Rattle.words.specs.Views.{part}
 use Rattle.words.specs.Contents.{contents}
 use Rattle.answer.specs.Meaning.{plan_of}
-use Rattle.put.proofs.Pieces.{◌then◌}
+use Rattle.put.proofs.Pages.{◌then◌}
 use Rattle.writer.specs.Writing.{WholePlan}
 use Rattle.writer.proofs.Ordered.{activation-is, execution-is, activation-at, execution-at}
 use Rattle.writer.proofs.write_whole.Goals as goal
@@ -30,13 +30,13 @@ parts_are :
     ++ order_bytes Execution w
 parts_are w whole = rw (activation-is w whole, execution-is w whole) (written-parts (instance_of (plan_of w)))
 
-pub write_order-next-requires : goal.write_order-next-requires
-write_order-next-requires c = activation-at _ c.requires
-
 pub write_order-requires : goal.write_order-requires
-write_order-requires c = execution-at _ c.requires
+write_order-requires c = activation-at _ c.requires
+
+pub write_order-requires-2 : goal.write_order-requires-2
+write_order-requires-2 c = execution-at _ c.requires
 
 pub returns : goal.returns
 returns c =
     rw (parts_are _ c.requires)
-    (c.write_opening-next.ensures then c.write_tasks-next.ensures then c.write_order-next.ensures then c.write_order.ensures)
+    (c.write_opening.ensures then c.write_tasks.ensures then c.write_order.ensures then c.write_order-2.ensures)
