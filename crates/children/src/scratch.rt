@@ -1,4 +1,6 @@
-// The scratch array: six columns, each with an entry for every task and entry 0 for nobody.
+// The scratch array: six columns, each with an entry for every task and entry 0 for nobody. All memory is
+// fixed, so that the children of a task are a list of links from entry to entry, and whoever goes along one
+// goes to the next sibling until 0 comes; on the way other entries are written.
 ghost use Rattle.std.specs.Prelude.{◌≡◌, ◌+◌, ◌^◌, ◌≤◌, ◌<◌, replicate, set};
 ghost use Rattle.numbers.specs.Limits.{max_tasks};
 ghost use Rattle.children.specs.Scratch.{base_of, cells, field};

@@ -1,12 +1,9 @@
 -- What the proofs cite.
--- a list in an array of a fixed length, the columns as they are copied
-mod Padding
-mod Columns
 -- the order: its entries are tasks, and none stands twice
 mod Listing
 mod Ranking
--- the rows of the tasks
+-- the rows of the tasks, and the tasks of the records
 mod Rowing
--- the checks in their order, the survey, and what is answered for the records
+mod Records
+-- the checks in their order, and the survey
 mod Surveying
-mod Answers

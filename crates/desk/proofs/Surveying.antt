@@ -1,5 +1,5 @@
 -- The checks of the desk in their order, and what a survey of the room's plan tells of the desk.
-use mathlib.Core.Path.{◌≡◌, sym, ap, ◌∙◌, subst}
+use mathlib.Core.Path.{◌≡◌, refl, sym, ap, ◌∙◌, subst}
 use mathlib.Core.Bool.{true, false, cond, ◌&&◌, and-false}
 use mathlib.Core.List.{List}
 use Prim.Native.Nat.{ℕ, ◌+◌}
@@ -7,19 +7,24 @@ use native.Mathlib.Omega.{arith}
 use lib.Dec.{eqb, leb}
 use lib.ListN.{length, take, set}
 use borrow.Author.Tests.{leb-true, eq-eqb, ne_eqb}
+use Rattle.std.specs.Prelude.{Result, Ok, Err}
 use Rattle.numbers.specs.Sums.{every_to, within}
 use Rattle.numbers.specs.Lists.{at, every, distinct}
 use Rattle.numbers.specs.Limits.{max_tasks}
 use Rattle.tree.specs.Peak
-use Rattle.peaks.specs.Desk.{desk_ground, desk_answer}
+use Rattle.tree.specs.Tasks.{Tasks}
+use Rattle.peaks.specs.Desk.{DeskAnswer, desk_ground, desk_answer}
 use Rattle.numbers.proofs.Sums.{every_one}
 use Rattle.tree.proofs.Orders.{within-task}
 use Rattle.words.specs.Layout.{words, head_base}
 use Rattle.words.specs.Contents.{Contents, contents, with_head, store_with_head}
 use Rattle.words.proofs.Contents.{wrote-head}
+use Rattle.refusal.specs.declared.Refusal.{Refusal}
+use Rattle.survey.specs.declared.level.Peaked.{Peaked}
 use Rattle.survey.specs.Survey as survey
-use Rattle.survey.specs.Survey.{RankedIn, order_ground, ground_of, peaked_of}
-use Rattle.desk.specs.Columns.{of_task}
+use Rattle.survey.specs.Survey.{RankedIn, order_ground, ground_of, peaked_of, ground_told, peak_told}
+use Rattle.desk.specs.Records as records
+use Rattle.desk.specs.Records.{answer_of}
 use Rattle.desk.specs.Room.{RowsWritten, MayWriteOrder, Ranked, OrderWritten}
 
 -- n tasks with parents in their limits, and an order of n of them
@@ -28,6 +33,16 @@ pub record InLimits (n : ℕ) (par : ℕ → ℕ) (order : List ℕ) : Type 0 wh
   pub sized : within n max_tasks ≡ true
   pub parents : every_to (λ i. leb (par i) n) n ≡ true
   pub inside : every (λ i. within i n) order ≡ true
+
+pub in-limits :
+    {n : ℕ} {par : ℕ → ℕ} {order : List ℕ}
+    → length order ≡ n
+    → true ≡ within n max_tasks
+    → true ≡ every_to (λ i. leb (par i) n) n
+    → true ≡ every (λ i. within i n) order
+    → InLimits n par order
+in-limits whole sized parents inside =
+    record { whole = whole; sized = sym sized; parents = sym parents; inside = sym inside }
 
 module _ (n : ℕ) (par work out : ℕ → ℕ) (order : List ℕ) where
   abbrev pub Answered : ℕ → Peak.Peaked → Type 0
@@ -120,9 +135,16 @@ module _ (n : ℕ) (par work out : ℕ → ℕ) (order : List ℕ) (c : Contents
       ∙ sym
       (rw (e, f, filled.size, filled.parents, filled.works, filled.outs, filled.first))
 
+-- as plain numbers
+pub outcome :
+    (surveyed : Result Peaked Refusal)
+    → ◌≡◌ {A = DeskAnswer} (record { number = ground_told surveyed; peak = peak_told surveyed }) (answer_of (records.told surveyed))
+outcome (Ok peak) = refl
+outcome (Err refusal) = refl
+
 -- the rows are written, then their number, then the order
-module _ (n : ℕ) (parents works outs order w₁ w₂ : List ℕ) (rowed : RowsWritten n parents works outs (contents w₁))
-    (limits : InLimits n (of_task n parents) order) (sized : w₂ ≡ set w₁ (head_base + 1) n) where
+module _ (n : ℕ) (t : Tasks) (order w₁ w₂ : List ℕ) (rowed : RowsWritten t (contents w₁))
+    (limits : InLimits n t.parent order) (sized : w₂ ≡ set w₁ (head_base + 1) n) where
   sized-is : (contents w₂ ≡ with_head 1 n (contents w₁)) × (length w₂ ≡ words)
   unfolding contents
   sized-is = wrote-head w₁ 1 n rowed.long (omega arith) sized
@@ -141,7 +163,7 @@ module _ (n : ℕ) (parents works outs order w₁ w₂ : List ℕ) (rowed : Rows
       (w₃ : List ℕ)
       → OrderWritten order (contents w₂) (contents w₃)
       → distinct order ≡ true
-      → Filled n (of_task n parents) (of_task n works) (of_task n outs) order (contents w₃)
+      → Filled n t.parent t.work t.out order (contents w₃)
   unfolding with_head store_with_head
   fill w₃ ordered once =
       record {

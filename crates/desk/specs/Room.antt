@@ -3,9 +3,9 @@ use Rattle.std.specs.Prelude.{◌≡◌, true, List, ℕ, ◌+◌, ◌≤◌, �
 use Rattle.numbers.specs.Lists.{at, every, distinct}
 use Rattle.numbers.specs.Limits.{max_tasks}
 use Rattle.numbers.specs.Sums.{within}
+use Rattle.tree.specs.Tasks.{Tasks}
 use Rattle.words.specs.Layout.{rows, words, chilled}
 use Rattle.words.specs.Contents.{Contents, with_cell}
-use Rattle.desk.specs.Columns.{of_task}
 
 -- a row that may be written
 pub record AtRow (task : ℕ) (c : Contents) : Type 0 where
@@ -27,12 +27,12 @@ unfoldable pub with_row : (task parent work out : ℕ) → Contents → Contents
 with_row task parent work out c =
     with_cell out_column task out (with_cell work_column task work (with_cell parent_column task parent c))
 
--- the rows of n tasks are those of the columns, and the others are empty
-pub record RowsWritten (n : ℕ) (parents works outs : List ℕ) (c : Contents) : Type 0 where
+-- the rows of the tasks have their numbers, and the others are empty
+pub record RowsWritten (tasks : Tasks) (c : Contents) : Type 0 where
   pub long : c.extent ≡ words
-  pub parent_is : (i : ℕ) → at c.parents i ≡ of_task n parents i
-  pub work_is : (i : ℕ) → at c.stores.chilled.works i ≡ of_task n works i
-  pub out_is : (i : ℕ) → at c.stores.chilled.outs i ≡ of_task n outs i
+  pub parent_is : (i : ℕ) → at c.parents i ≡ tasks.parent i
+  pub work_is : (i : ℕ) → at c.stores.chilled.works i ≡ tasks.work i
+  pub out_is : (i : ℕ) → at c.stores.chilled.outs i ≡ tasks.out i
 
 -- each entry is one of as many tasks as there are entries
 pub record Listed (order : List ℕ) : Type 0 where

@@ -1,7 +1,7 @@
 -- Laws of the peak of a subtree, summed up child by child.
 use mathlib.Core.Path.{◌≡◌}
 use mathlib.Core.List.{List, [], ◌∷◌}
-use Prim.Native.Nat.{ℕ, ◌+◌, ◌^◌, ◌<◌, max}
+use Prim.Native.Nat.{ℕ, ◌+◌, max}
 use native.Mathlib.Omega.{arith}
 use Rattle.children.specs.Scratch.{first, sibling, subtree_peak, field}
 use Rattle.children.specs.Linked.{linked_in}
@@ -32,13 +32,6 @@ module _ (work out : ℕ → ℕ) (w : List ℕ) (i : ℕ) (may : MayWeigh work 
           max best (level + highest (field subtree_peak w) out (work i + out i) (child ∷ step.later)) ≡ peak_along work out w i
       best-step = rw step.split at a.best-is
 
-      pub weighing-fits : (level + field subtree_peak w child < 2 ^ 32) × (level + out child < 2 ^ 32)
-      unfolding highest
-      weighing-fits =
-          let b = best-step in
-          let fits = may.fits in
-          (omega arith, omega arith)
-
       pub weighing-next :
           (next : ℕ)
           → next ≡ field sibling w child
@@ -58,6 +51,3 @@ module _ (work out : ℕ → ℕ) (w : List ℕ) (i : ℕ) (may : MayWeigh work 
           let b : max best (level + highest (field subtree_peak w) out (work i + out i) []) ≡ peak_along work out w i
           = rw (walking-end w child a.rest a.walk z) at a.best-is in
           omega arith
-
-      pub weighing-last : level + work i + out i < 2 ^ 32
-      weighing-last = let whole = weighing-end in let fits = may.fits in omega arith

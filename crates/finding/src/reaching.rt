@@ -30,6 +30,7 @@ pub(crate) fn reach(plan: &Plan, scratch: &mut Scratch) -> usize
 {
     let root = scratch.get(Column::First, 0);
     scratch.put(Column::Queue, 0, root);
+    // the queue grows while it is read
     let mut count = 1;
     let mut k = 0;
     while k < count {
