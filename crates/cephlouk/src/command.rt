@@ -3,10 +3,13 @@ ghost use Rattle.std.specs.Prelude.{◌≡◌};
 ghost use Rattle.format.specs.Command as rules;
 ghost use Rattle.codec.specs.Meaning.{command_of, decoded};
 ghost use Rattle.answer.specs.Meaning.{wrote_of};
+ghost use Rattle.answer.specs.Told.{told_count};
 ghost use Rattle.cephlouk.specs.FlatCommand as flat;
 
 use answer::Wrote;
-use codec::{Command, Decoded, decode, encode};
+use codec::{Command, Read, decode, encode};
+use put::Page;
+use refusal::Refusal;
 
 // The byte of a command, and its operands by their names. What a command does not have is 0 where it is
 // told, and not looked at where it is given.
@@ -55,98 +58,126 @@ impl FlatCommand {
         ensures { result ≡ flat.of_task byte task }
     {
         FlatCommand {
-            byte,
-            p: 0,
-            n: 0,
             task,
-            parent: 0,
-            work: 0,
-            out: 0,
-            bound: 0,
+            ..FlatCommand::bare(byte)
         }
     }
+}
 
-    // The numbers of a command, case by case.
-    fn of(command: Command) -> Self
-        ensures { result ≡ flat.flat_command (command_of command) }
-    {
+// The numbers of a command, case by case.
+impl From<Command> for FlatCommand {
+    ghost from_gives = { λ command told. told ≡ flat.flat_command (command_of command) };
+
+    fn from(command: Command) -> FlatCommand {
         match command {
-            Command::Plan { n, p, bound } => {
-                let mut command = FlatCommand::bare(1);
-                command.n = n;
-                command.p = p;
-                command.bound = bound;
-                command
-            }
-            Command::Task { parent, work, out } => {
-                let mut command = FlatCommand::bare(2);
-                command.parent = parent;
-                command.work = work;
-                command.out = out;
-                command
-            }
+            Command::Plan { n, p, bound } => FlatCommand {
+                n,
+                p,
+                bound,
+                ..FlatCommand::bare(1)
+            },
+            Command::Task { parent, work, out } => FlatCommand {
+                parent,
+                work,
+                out,
+                ..FlatCommand::bare(2)
+            },
             Command::Activation(task) => FlatCommand::of_task(3, task),
             Command::Execution(task) => FlatCommand::of_task(4, task),
             Command::Begin => FlatCommand::bare(5),
             Command::Done(task) => FlatCommand::of_task(6, task),
             Command::Fetch => FlatCommand::bare(7),
-            Command::Places(bound) => {
-                let mut command = FlatCommand::bare(8);
-                command.bound = bound;
-                command
-            }
+            Command::Places(bound) => FlatCommand {
+                bound,
+                ..FlatCommand::bare(8)
+            },
         }
     }
+}
 
-    // The command that the numbers name, with how many bytes it has, or "the byte is none of .." (2).
-    fn named(self) -> Decoded
-        ensures { decoded result ≡ flat.known (flat.named self) }
-    {
-        let byte = self.byte;
-        match byte {
-            1 => Decoded::Read {
+// The command that the numbers name, with how many bytes it has, or "the byte is none of .." (2).
+impl TryFrom<FlatCommand> for Read {
+    type Error = Refusal;
+
+    ghost try_from_gives = { λ given read. decoded read ≡ flat.known (flat.named given) };
+
+    fn try_from(given: FlatCommand) -> Result<Read, Refusal> {
+        match given.byte {
+            1 => Ok(Read {
                 command: Command::Plan {
-                    n: self.n,
-                    p: self.p,
-                    bound: self.bound,
+                    n: given.n,
+                    p: given.p,
+                    bound: given.bound,
                 },
                 used: 8,
-            },
-            2 => Decoded::Read {
+            }),
+            2 => Ok(Read {
                 command: Command::Task {
-                    parent: self.parent,
-                    work: self.work,
-                    out: self.out,
+                    parent: given.parent,
+                    work: given.work,
+                    out: given.out,
                 },
                 used: 7,
-            },
-            3 => Decoded::Read {
-                command: Command::Activation(self.task),
+            }),
+            3 => Ok(Read {
+                command: Command::Activation(given.task),
                 used: 3,
-            },
-            4 => Decoded::Read {
-                command: Command::Execution(self.task),
+            }),
+            4 => Ok(Read {
+                command: Command::Execution(given.task),
                 used: 3,
-            },
-            5 => Decoded::Read {
+            }),
+            5 => Ok(Read {
                 command: Command::Begin,
                 used: 1,
-            },
-            6 => Decoded::Read {
-                command: Command::Done(self.task),
+            }),
+            6 => Ok(Read {
+                command: Command::Done(given.task),
                 used: 3,
-            },
-            7 => Decoded::Read {
+            }),
+            7 => Ok(Read {
                 command: Command::Fetch,
                 used: 1,
-            },
-            8 => Decoded::Read {
-                command: Command::Places(self.bound),
+            }),
+            8 => Ok(Read {
+                command: Command::Places(given.bound),
                 used: 5,
-            },
-            _ => Decoded::Refused(2),
+            }),
+            _ => Err(Refusal::UnknownByte),
         }
     }
+}
+
+impl From<Result<Read, Refusal>> for FlatDecoded {
+    ghost from_gives = { λ outcome told. told ≡ flat.flat_decoded (decoded outcome) };
+
+    fn from(outcome: Result<Read, Refusal>) -> FlatDecoded {
+        match outcome {
+            Ok(read) => FlatDecoded {
+                number: 0,
+                used: read.used,
+                command: FlatCommand::from(read.command),
+            },
+            Err(refusal) => FlatDecoded {
+                number: u8::from(refusal),
+                used: 0,
+                command: FlatCommand::bare(0),
+            },
+        }
+    }
+}
+
+// A command that is named goes to the front of a list that has room for it: how many bytes it has.
+fn encode_named(given: FlatCommand, list: &mut [u8]) -> Result<usize, Refusal>
+    ensures { wrote_of (told_count result) list.new ≡ flat.encode given list.old }
+{
+    let read = Read::try_from(given)?;
+    if list.len() < read.used {
+        return Err(Refusal::ShortList);
+    }
+    let mut page = Page::new(list);
+    encode(read.command, &mut page);
+    Ok(page.place())
 }
 
 // The bytes of a command, to the front of a lent list, which a refusal leaves as it was: 2 where the byte
@@ -155,17 +186,7 @@ impl FlatCommand {
 pub extern "C" fn cephlouk_encode(command: FlatCommand, list: &mut [u8]) -> Wrote
     ensures { wrote_of result list.new ≡ flat.encode command list.old }
 {
-    let named = command.named();
-    match named {
-        Decoded::Refused(number) => Wrote::refused(number),
-        Decoded::Read { command, used } => {
-            if list.len() < used {
-                return Wrote::refused(11);
-            }
-            let count = encode(command, list, 0);
-            Wrote { number: 0, count }
-        }
-    }
+    Wrote::from(encode_named(command, list))
 }
 
 // The command at a place of a stream.
@@ -173,23 +194,5 @@ pub extern "C" fn cephlouk_encode(command: FlatCommand, list: &mut [u8]) -> Wrot
 pub extern "C" fn cephlouk_decode(stream: &[u8], place: usize) -> FlatDecoded
     ensures { result ≡ flat.flat_decoded (rules.decode stream.now place) }
 {
-    let found = decode(stream, place);
-    match found {
-        Decoded::Refused(number) => {
-            let command = FlatCommand::bare(0);
-            FlatDecoded {
-                number,
-                used: 0,
-                command,
-            }
-        }
-        Decoded::Read { command, used } => {
-            let command = FlatCommand::of(command);
-            FlatDecoded {
-                number: 0,
-                used,
-                command,
-            }
-        }
-    }
+    FlatDecoded::from(decode(stream, place))
 }

@@ -13,7 +13,7 @@ ghost use Rattle.streams.specs.Write as writing;
 ghost use Rattle.words.specs.Layout.{words};
 ghost use Rattle.answer.specs.Meaning.{plan_of, wrote_of};
 ghost use Rattle.answer.specs.ValidPlan.{ValidPlan, Commanded};
-ghost use Rattle.reason.specs.Meaning.{reason_of};
+ghost use Rattle.reason.specs.Meaning.{answered};
 ghost use Rattle.cephlouk.specs.Flat.{flat};
 
 use answer::{Answer, Wrote};
@@ -21,6 +21,7 @@ use finding::find_order;
 use plan::command;
 use question::{booked, fullness, in_use, phase, standing};
 use reason::{Reason, why};
+use refusal::Refusal;
 use words::plan::Plan;
 use writer::write;
 
@@ -29,7 +30,7 @@ use writer::write;
 pub extern "C" fn cephlouk_plan_empty(plan: &mut Plan)
     ensures { plan.new.words ≡ replicate words 0 }
 {
-    *plan = Plan::new();
+    plan.words = [0u32; Plan::WORDS];
 }
 
 // One command, asked in bytes.
@@ -43,7 +44,7 @@ pub extern "C" fn cephlouk_plan_command(
     requires { ValidPlan plan.old.words }
     ensures { Commanded plan.old.words (record { stream = stream.now; place = place; list = starts.old }) result plan.new.words starts.new }
 {
-    command(plan, stream, place, starts)
+    Answer::from(command(plan, stream, place, starts))
 }
 
 // "Phases: empty, steps, orders, running, over": 0 to 4.
@@ -105,9 +106,9 @@ pub extern "C" fn cephlouk_plan_standing(plan: &Plan) -> Standing
     Standing { counts }
 }
 
-// Why a task is not starting, as plain numbers: the ground of a refusal, or 0; which reason it is, in
-// the order in which they are tried; the task that it names; and the places that are lacking. What a
-// reason does not tell is 0.
+// Why a task is not starting: the ground of a refusal, or 0; which reason it is, in the order in which
+// they are tried; the task that it names; and the places that are lacking. What a reason does not tell is
+// 0.
 #[repr(C)]
 #[derive(Clone, Copy)]
 pub struct FlatReason {
@@ -143,22 +144,23 @@ fn told(kind: u8, task: u16, lack: u32) -> FlatReason
     }
 }
 
-// The numbers of a reason, case by case.
-fn flatten(reason: Reason) -> FlatReason
-    ensures { result ≡ flat (reason_of reason) }
-{
-    match reason {
-        Reason::Refused(number) => FlatReason {
-            number,
-            kind: FlatReason::REFUSED,
-            task: 0,
-            lack: 0,
-        },
-        Reason::Ended => told(FlatReason::ENDED, 0, 0),
-        Reason::Running => told(FlatReason::RUNNING, 0, 0),
-        Reason::NotBooked { first, lack } => told(FlatReason::NOT_BOOKED, first, lack),
-        Reason::Unfed(child) => told(FlatReason::UNFED, child, 0),
-        Reason::NoProcessor => told(FlatReason::NO_PROCESSOR, 0, 0),
+impl From<Result<Reason, Refusal>> for FlatReason {
+    ghost from_gives = { λ outcome told. told ≡ flat (answered outcome) };
+
+    fn from(outcome: Result<Reason, Refusal>) -> FlatReason {
+        match outcome {
+            Err(refusal) => FlatReason {
+                number: u8::from(refusal),
+                kind: FlatReason::REFUSED,
+                task: 0,
+                lack: 0,
+            },
+            Ok(Reason::Ended) => told(FlatReason::ENDED, 0, 0),
+            Ok(Reason::Running) => told(FlatReason::RUNNING, 0, 0),
+            Ok(Reason::NotBooked { first, lack }) => told(FlatReason::NOT_BOOKED, first, lack),
+            Ok(Reason::Unfed(child)) => told(FlatReason::UNFED, child, 0),
+            Ok(Reason::NoProcessor) => told(FlatReason::NO_PROCESSOR, 0, 0),
+        }
     }
 }
 
@@ -168,8 +170,7 @@ pub extern "C" fn cephlouk_plan_why(plan: &Plan, task: u16) -> FlatReason
     requires { ValidPlan plan.now.words }
     ensures { result ≡ flat (reasons.why (plan_of plan.now.words) task) }
 {
-    let reason = why(plan, task);
-    flatten(reason)
+    FlatReason::from(why(plan, task))
 }
 
 // "Write a plan back out": to the front of a lent list of bytes, which a refusal leaves as it was.
@@ -178,7 +179,7 @@ pub extern "C" fn cephlouk_plan_write(plan: &Plan, list: &mut [u8]) -> Wrote
     requires { ValidPlan plan.now.words }
     ensures { wrote_of result list.new ≡ writing.write (plan_of plan.now.words) list.old }
 {
-    write(plan, list)
+    Wrote::from(write(plan, list))
 }
 
 // "Find a good activation order": to the front of a lent list of step numbers, which a refusal leaves as
@@ -188,5 +189,5 @@ pub extern "C" fn cephlouk_plan_find_order(plan: &Plan, list: &mut [u16]) -> Wro
     requires { ValidPlan plan.now.words }
     ensures { wrote_of result list.new ≡ orders.find_order (plan_of plan.now.words) list.old }
 {
-    find_order(plan, list)
+    Wrote::from(find_order(plan, list))
 }
