@@ -18,5 +18,5 @@ pub extern "C" fn cephlouk_records_peak(
     ensures { (desk (step_records records.now) activation.now
         ≡ answer_of result) × (room.new.words ≡ replicate words 0) }
 {
-    peak(records, activation, room)
+    DeskAnswer::from(peak(records, activation, room))
 }

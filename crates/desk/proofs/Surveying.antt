@@ -21,8 +21,9 @@ use Rattle.words.specs.Contents.{Contents, contents, with_head, store_with_head}
 use Rattle.words.proofs.Contents.{wrote-head}
 use Rattle.refusal.specs.declared.Refusal.{Refusal}
 use Rattle.survey.specs.declared.level.Peaked.{Peaked}
+use Rattle.refusal.specs.Number.{number_in}
 use Rattle.survey.specs.Survey as survey
-use Rattle.survey.specs.Survey.{RankedIn, order_ground, ground_of, peaked_of, ground_told, peak_told}
+use Rattle.survey.specs.Survey.{RankedIn, order_ground, ground_of, peaked_of, peak_told}
 use Rattle.desk.specs.Records as records
 use Rattle.desk.specs.Records.{answer_of}
 use Rattle.desk.specs.Room.{RowsWritten, MayWriteOrder, Ranked, OrderWritten}
@@ -138,7 +139,7 @@ module _ (n : ℕ) (par work out : ℕ → ℕ) (order : List ℕ) (c : Contents
 -- as plain numbers
 pub outcome :
     (surveyed : Result Peaked Refusal)
-    → ◌≡◌ {A = DeskAnswer} (record { number = ground_told surveyed; peak = peak_told surveyed }) (answer_of (records.told surveyed))
+    → ◌≡◌ {A = DeskAnswer} (record { number = number_in surveyed; peak = peak_told surveyed }) (answer_of (records.told surveyed))
 outcome (Ok peak) = refl
 outcome (Err refusal) = refl
 

@@ -6,13 +6,15 @@ ghost use Rattle.numbers.specs.Limits.{least_starts};
 ghost use Rattle.rules.specs.State.{none};
 ghost use Rattle.rules.specs.Answer as rules;
 ghost use Rattle.answer.specs.Meaning.{answer_of};
+ghost use Rattle.answer.specs.Told.{told};
 
-use answer::Answer;
+use answer::Accepted;
 use plan::command;
+use refusal::Refusal;
 use words::plan::Plan;
 
-pub fn first_answer(bytes: &[u8], place: usize) -> Answer
-    ensures { answer_of result ≡ (rules.command none (record { stream = bytes.now; place = place; list = replicate least_starts 0 })).answer }
+pub fn first_answer(bytes: &[u8], place: usize) -> Result<Accepted, Refusal>
+    ensures { answer_of (told result) ≡ (rules.command none (record { stream = bytes.now; place = place; list = replicate least_starts 0 })).answer }
 {
     let mut plan = Plan::new();
     let mut starts = [0u16; Plan::LEAST_STARTS];

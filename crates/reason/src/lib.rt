@@ -15,7 +15,7 @@ ghost use Rattle.reason.specs.Asked.{AskedWaiting, Asked};
 
 use measure::is_within;
 use refusal::Refusal;
-use store::{missing, shortage};
+use store::Store;
 use words::phase::Phase;
 use words::plan::Plan;
 use words::standing::Standing;
@@ -63,8 +63,8 @@ fn not_booked(plan: &Plan) -> Reason
 {
     let next = plan.cell(Plan::HEAD, Plan::NEXT) as usize;
     let first = plan.entry(Plan::ACTIVATION, next) as u16;
-    let units = missing(plan, Plan::CHILLED, first as usize);
-    let lack = shortage(plan, Plan::CHILLED, units);
+    let units = Store::CHILLED.missing(plan, first as usize);
+    let lack = Store::CHILLED.shortage(plan, units);
     Reason::NotBooked { first, lack }
 }
 

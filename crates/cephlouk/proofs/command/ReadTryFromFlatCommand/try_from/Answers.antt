@@ -1,46 +1,45 @@
--- `FlatCommand::named` meets its contract: in each arm the byte is known, and its line of the table has the command and its bytes.
-use borrow.Author.Tests.{ne_eqb}
+-- In each arm the byte is known, and its line of the table has the command and its bytes.
+use Rattle.std.proofs.lemmas.Bool.{ne_eqb}
 use Rattle.format.specs.Command.{forms, find, byte_of, operands_of, widths_of, little, littles, bytes}
 use Rattle.cephlouk.specs.FlatCommand.{named, known}
-use Rattle.cephlouk.proofs.command.FlatCommand.named.Statement.{statement}
-use Rattle.cephlouk.proofs.command.FlatCommand.named.Tie as tie
+use Rattle.cephlouk.proofs.command.ReadTryFromFlatCommand.try_from.Goals as goal
 
-plan : tie.Need-returns-in-1
+pub returns-in-1 : goal.returns-in-1
 unfolding named known bytes byte_of operands_of widths_of find forms littles little
-plan c = rw c.in-1.is
+returns-in-1 c = rw c.in-1.is
 
-task : tie.Need-returns-in-2
+pub returns-in-2 : goal.returns-in-2
 unfolding named known bytes byte_of operands_of widths_of find forms littles little
-task c = rw c.in-2.is
+returns-in-2 c = rw c.in-2.is
 
-activation : tie.Need-returns-in-3
+pub returns-in-3 : goal.returns-in-3
 unfolding named known bytes byte_of operands_of widths_of find forms littles little
-activation c = rw c.in-3.is
+returns-in-3 c = rw c.in-3.is
 
-execution : tie.Need-returns-in-4
+pub returns-in-4 : goal.returns-in-4
 unfolding named known bytes byte_of operands_of widths_of find forms littles little
-execution c = rw c.in-4.is
+returns-in-4 c = rw c.in-4.is
 
-begin : tie.Need-returns-in-5
+pub returns-in-5 : goal.returns-in-5
 unfolding named known bytes byte_of operands_of widths_of find forms littles little
-begin c = rw c.in-5.is
+returns-in-5 c = rw c.in-5.is
 
-done : tie.Need-returns-in-6
+pub returns-in-6 : goal.returns-in-6
 unfolding named known bytes byte_of operands_of widths_of find forms littles little
-done c = rw c.in-6.is
+returns-in-6 c = rw c.in-6.is
 
-fetch : tie.Need-returns-in-7
+pub returns-in-7 : goal.returns-in-7
 unfolding named known bytes byte_of operands_of widths_of find forms littles little
-fetch c = rw c.in-7.is
+returns-in-7 c = rw c.in-7.is
 
-places : tie.Need-returns-in-8
+pub returns-in-8 : goal.returns-in-8
 unfolding named known bytes byte_of operands_of widths_of find forms littles little
-places c = rw c.in-8.is
+returns-in-8 c = rw c.in-8.is
 
 -- the byte is none of the arms': the last arm's fact stands outermost
-unknown : tie.Need-returns-in_default
+pub returns-in_default : goal.returns-in_default
 unfolding named known
-unknown c =
+returns-in_default c =
     let rest = c.in_default.in_default-own.rest in
     simp (
       ne_eqb _ _ rest.1,
@@ -52,6 +51,3 @@ unknown c =
       ne_eqb _ _ rest.0.0.0.0.0.0.1,
       ne_eqb _ _ rest.0.0.0.0.0.0.0.1,
     )
-
-pub named_spec : {M : Type 1} → statement M
-named_spec = tie.close (tie.spec plan task activation execution begin done fetch places unknown)
