@@ -31,11 +31,11 @@ pub fn start_ready(plan: &mut Plan, starts: &mut [u16]) -> usize
     let processors = plan.cell(Plan::HEAD, Plan::PROCESSORS);
     let active = plan.cell(Plan::HEAD, Plan::ACTIVE);
     let free = (processors - active) as usize;
-    for count in 0..free {
+    for (count, start) in starts[..free].iter_mut().enumerate() {
         let Some(place) = first_ready(plan) else {
             return count;
         };
-        starts[count] = run(plan, place);
+        *start = run(plan, place);
     }
     free
 }
