@@ -1,8 +1,7 @@
 // The scratch array: six columns, each with an entry for every task and entry 0 for nobody. All memory is
 // fixed, so that the children of a task are a list of links from entry to entry, and whoever goes along one
 // goes to the next sibling until 0 comes; on the way other entries are written.
-ghost use Rattle.std.specs.Prelude.{◌≡◌, ◌+◌, ◌^◌, ◌≤◌, ◌<◌, replicate, set};
-ghost use Rattle.numbers.specs.Limits.{max_tasks};
+ghost use Rattle.std.specs.Prelude.{◌≡◌, ◌+◌, ◌^◌, ◌<◌, replicate, set};
 ghost use Rattle.children.specs.Scratch.{base_of, cells, field};
 
 use words::plan::Plan;
@@ -43,7 +42,7 @@ impl Scratch {
 
     // An entry of a column.
     pub fn get(&self, column: Column, i: usize) -> usize
-        requires { i ≤ max_tasks }
+        requires { base_of column + i < cells }
         ensures { (result ≡ field (base_of column) self.now.cells i) × (result < 2 ^ 32) }
     {
         self.cells[column as usize * Scratch::TALL + i] as usize
@@ -51,7 +50,7 @@ impl Scratch {
 
     // It is set, and no other entry changes.
     pub fn put(&mut self, column: Column, i: usize, value: usize)
-        requires { (i ≤ max_tasks) × (value < 2 ^ 32) }
+        requires { (base_of column + i < cells) × (value < 2 ^ 32) }
         ensures { self.new.cells ≡ set self.old.cells (base_of column + i) value }
     {
         self.cells[column as usize * Scratch::TALL + i] = value as u32;

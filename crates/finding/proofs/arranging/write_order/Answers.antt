@@ -10,7 +10,8 @@ overflow_cast-list c =
     omega (arith, written_low _ _ _ _ c.requires _ _ _ c.loop-place.invariant c.loop-place-test.true)
 
 pub get-task-requires-in-loop-place : goal.get-task-requires-in-loop-place
-get-task-requires-in-loop-place c = written_low _ _ _ _ c.requires _ _ _ c.loop-place.invariant c.loop-place-test.true
+get-task-requires-in-loop-place c =
+    omega (arith, written_low _ _ _ _ c.requires _ _ _ c.loop-place.invariant c.loop-place-test.true)
 
 pub loop-place-preserved : goal.loop-place-preserved
 loop-place-preserved c =

@@ -10,7 +10,7 @@ pub get-head-requires : goal.get-head-requires
 get-head-requires c = omega (arith, walking-task _ _ _ c.loop-child.invariant.walk c.loop-child-test.true)
 
 pub put-requires : goal.put-requires
-put-requires c = (linking-low _ _ _ _ _ c.requires.0 c.loop-child.invariant, c.get-head.ensures.1)
+put-requires c = (omega (arith, linking-low _ _ _ _ _ c.requires.0 c.loop-child.invariant), c.get-head.ensures.1)
 
 pub get-child-requires-in-loop-child : goal.get-child-requires-in-loop-child
 get-child-requires-in-loop-child c = omega (arith, walking-task _ _ _ c.loop-child.invariant.walk c.loop-child-test.true)
@@ -28,7 +28,7 @@ loop-child-preserved c =
 pub put-requires-2 : goal.put-requires-2
 put-requires-2 c =
     let t = c.requires.0.task in
-    (linking-low _ _ _ _ _ c.requires.0 c.loop-child.invariant, omega arith)
+    (omega (arith, linking-low _ _ _ _ _ c.requires.0 c.loop-child.invariant), omega arith)
 
 pub returns : goal.returns
 returns c =
