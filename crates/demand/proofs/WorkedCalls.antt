@@ -4,6 +4,8 @@ use mathlib.Core.List.{List, [], ◌∷◌, map}
 use Prim.Native.Nat.{ℕ, ◌+◌, ◌<◌}
 use native.Mathlib.Omega.{arith}
 use lib.ListN.{set, replicate}
+use Rattle.std.specs.Prelude.{Ok, Err}
+use Rattle.refusal.specs.declared.Refusal.TheVariants.{UnknownByte}
 use Rattle.rules.specs.Phase
 use Rattle.rules.specs.State.{State}
 use Rattle.format.specs.Command.{plan, bytes, decode}
@@ -18,21 +20,22 @@ use Rattle.answer.specs.Meaning.{plan_of}
 use Rattle.answer.specs.ValidPlan.{Judged, NewPlan}
 use Rattle.demand.specs.Calls.{Call, CallContract, Calls, Entries, Answers, left_by, asked, all_received, next_plan, history}
 use Rattle.demand.specs.Demand.{OpenedWith, CallsHold}
-use Rattle.answer.proofs.Obeying.{refused, accepted, acceptance}
+use Rattle.answer.specs.Told.{told}
+use Rattle.answer.proofs.Obeying.{accepted, acceptance}
 use Rattle.opening.proofs.Opening.{opening-contents, opening-sound, opening-means, open_free}
 use Rattle.plan.proofs.NewPlan.{new-long, new-blank, new-empty, new-valid}
 use Rattle.demand.proofs.Demand.{every-call-holds}
 
 -- an unknown byte
 unfoldable pub unknown : List ℕ → Call
-unknown w = record { asking = reading (9 ∷ []) 0; answer = refused 2; left = w; list = replicate 64 0 }
+unknown w = record { asking = reading (9 ∷ []) 0; answer = told (Err UnknownByte); left = w; list = replicate 64 0 }
 
 -- PLAN with n = 3, p = 2 and M = 7: five words of the head are written
 unfoldable pub opens : List ℕ → Call
 opens w =
     record {
       asking = ask (plan 3 2 7);
-      answer = accepted 8;
+      answer = told (Ok (accepted 8));
       left =
           set (set (set (set (set w (head_base + 0) Phase.steps) (head_base + 1) 3) (head_base + 2) 2) (head_base + 3) 1)
           (head_base + 5) 7;
@@ -47,7 +50,7 @@ module _ {w : List ℕ} (new : NewPlan w) where
   unfolding unknown computing reading
   unknown-byte = record { same = refl; valid = new-valid new; refused = λ _. refl }
 
-  judged : Judged w (plan 3 2 7) 8 (replicate 64 0) (accepted 8) (opens w).left (replicate 64 0)
+  judged : Judged w (plan 3 2 7) 8 (replicate 64 0) (told (Ok (accepted 8))) (opens w).left (replicate 64 0)
   unfolding opens Phase.holds_trays
   judged =
       acceptance
