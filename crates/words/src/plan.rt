@@ -32,28 +32,6 @@ impl Plan {
 
     pub const MOST_BYTES: usize = Plan::OPENING_BYTES + Plan::TASK_BYTES * Plan::MAX_TASKS;
 
-    // phases
-    pub const EMPTY: u32 = 0;
-
-    pub const STEPS: u32 = 1;
-
-    pub const ORDERS: u32 = 2;
-
-    pub const RUNNING: u32 = 3;
-
-    pub const OVER: u32 = 4;
-
-    pub const READY: u32 = 5;
-
-    // standings: waiting, booked, running and ended
-    pub const WAITING: u32 = 0;
-
-    pub const ACTIVATED: u32 = 1;
-
-    pub const STARTED: u32 = 2;
-
-    pub const FINISHED: u32 = 3;
-
     // words of a row, and columns of a task
     pub const ROW: usize = 16;
 

@@ -12,9 +12,9 @@ pub returns-then-not-is_in : goal.returns-then-not-is_in
 unfolding contents begins
 returns-then-not-is_in c =
     elim c.then-not-is_in.branch [
-      then-not-is_in-via-then-not-is_in w ↦ rw (← c.is_in.ensures, w.if-not-is_in.true)
-    | then-not-is_in-via-else-not-is_in+then-not-is_complete w ↦
-        rw (← c.is_in.ensures, w.if-not-is_in.false, ← w.is_complete.ensures, w.if-not-is_complete.true)
+      | then-not-is_in-via-then-not-is_in w ↦ rw (← c.is_in.ensures, w.if-not-is_in.true)
+      | then-not-is_in-via-else-not-is_in+then-not-is_complete w ↦
+          rw (← c.is_in.ensures, w.if-not-is_in.false, ← w.is_complete.ensures, w.if-not-is_complete.true)
     ]
 
 pub returns-then-cell-eq0 : goal.returns-then-cell-eq0
