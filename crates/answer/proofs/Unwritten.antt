@@ -3,7 +3,7 @@ use mathlib.Core.Path.{◌≡◌, ap}
 use mathlib.Core.List.{List}
 use Prim.Native.Nat.{ℕ}
 use Rattle.streams.specs.Write as writing
-use Rattle.answer.specs.declared.flat.Wrote.{Wrote}
+use Rattle.answer.specs.declared.Wrote.{Wrote}
 use Rattle.answer.specs.Meaning.{wrote_of}
 
 pub unwritten : (r : Wrote) (k : ℕ) (list : List ℕ) → r ≡ record { number = k; count = 0 } → wrote_of r list ≡ writing.untouched k list

@@ -7,8 +7,8 @@ use Rattle.rules.specs.State.{State}
 use Rattle.rules.specs.Answer as rules
 use Rattle.streams.specs.Write as writing
 use Rattle.words.specs.Contents.{Contents, contents}
-use Rattle.answer.specs.declared.flat.Answer.{Answer}
-use Rattle.answer.specs.declared.flat.Wrote.{Wrote}
+use Rattle.answer.specs.declared.Answer.{Answer}
+use Rattle.answer.specs.declared.Wrote.{Wrote}
 
 -- how many entries the columns of a day have: one for nobody and one for each task, from BEGIN on
 abbrev pub day_rows : Contents → ℕ

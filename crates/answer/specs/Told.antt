@@ -3,8 +3,8 @@ use Rattle.std.specs.Prelude.{ℕ, Result, Ok, Err}
 use Rattle.refusal.specs.declared.Refusal.{Refusal}
 use Rattle.refusal.specs.Number.{number_of}
 use Rattle.answer.specs.declared.accepted.Accepted.{Accepted}
-use Rattle.answer.specs.declared.flat.Answer.{Answer}
-use Rattle.answer.specs.declared.flat.Wrote.{Wrote}
+use Rattle.answer.specs.declared.Answer.{Answer}
+use Rattle.answer.specs.declared.Wrote.{Wrote}
 
 abbrev pub told : Result Accepted Refusal → Answer
 told (Ok a) = record { number = 0; used = a.used; starts = a.starts; peak = a.peak; by = a.by; offers = a.offers }

@@ -5,7 +5,7 @@ use Rattle.rules.specs.Reachable.{Reachable}
 use Rattle.rules.specs.Answer as answers
 use Rattle.words.specs.Layout.{words}
 use Rattle.words.specs.Contents.{contents}
-use Rattle.answer.specs.declared.flat.Answer.{Answer}
+use Rattle.answer.specs.declared.Answer.{Answer}
 use Rattle.answer.specs.Meaning.{plan_of, answered_of}
 use Rattle.answer.specs.Sound.{Sound}
 

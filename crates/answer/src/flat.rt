@@ -1,22 +1,9 @@
-// Answers as plain numbers, for other languages.
+// What is told of an outcome as plain numbers.
 ghost use Rattle.std.specs.Prelude.{◌≡◌};
 ghost use Rattle.answer.specs.Told.{told, told_count};
 
-use crate::Accepted;
+use crate::{Accepted, Answer, Wrote};
 use refusal::Refusal;
-
-// "An accepted command answers number 0, the bytes used and how many steps it starts"; "A refusal answers
-// its number, with bytes used, starts and every other count 0".
-#[repr(C)]
-#[derive(Clone, Copy)]
-pub struct Answer {
-    pub number: u8,
-    pub used: usize,
-    pub starts: usize,
-    pub peak: u64,
-    pub by: u16,
-    pub offers: usize,
-}
 
 impl From<Result<Accepted, Refusal>> for Answer {
     ghost from_gives = { λ outcome answer. answer ≡ told outcome };
@@ -41,15 +28,6 @@ impl From<Result<Accepted, Refusal>> for Answer {
             },
         }
     }
-}
-
-// What is answered by a tool that writes to the front of a lent list: how many entries it wrote, bytes of
-// a plan or step numbers of an order. On a refusal nothing is told_count.
-#[repr(C)]
-#[derive(Clone, Copy)]
-pub struct Wrote {
-    pub number: u8,
-    pub count: usize,
 }
 
 impl From<Result<usize, Refusal>> for Wrote {

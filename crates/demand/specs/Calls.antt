@@ -10,7 +10,7 @@ use Rattle.streams.specs.Write.{Wrote, write}
 use Rattle.postorders.specs.Find.{find_order}
 use Rattle.rules.specs.Day as days
 use Rattle.words.specs.Contents.{contents}
-use Rattle.answer.specs.declared.flat.Answer.{Answer}
+use Rattle.answer.specs.declared.Answer.{Answer}
 use Rattle.answer.specs.Meaning.{plan_of, answered_of}
 use Rattle.answer.specs.ValidPlan.{Commanded}
 

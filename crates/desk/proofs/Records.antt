@@ -10,7 +10,7 @@ use Rattle.numbers.specs.Lists.{at}
 use Rattle.numbers.proofs.Sums.{Task}
 use Rattle.numbers.proofs.Tests.{le-or-lt}
 use Rattle.peaks.specs.Desk.{StepRecord, column, desk_answer, desk_tasks, desk}
-use Rattle.desk.specs.declared.flat.TaskRecord.{TaskRecord}
+use Rattle.desk.specs.declared.TaskRecord.{TaskRecord}
 use Rattle.desk.specs.Records.{step_record, step_records}
 use Rattle.desk.proofs.Rowing.{NoOthers}
 

@@ -5,8 +5,8 @@ use Rattle.peaks.specs.Desk.{StepRecord}
 use Rattle.refusal.specs.declared.Refusal.{Refusal}
 use Rattle.refusal.specs.Number.{number_of}
 use Rattle.survey.specs.declared.level.Peaked.{Peaked}
-use Rattle.desk.specs.declared.flat.TaskRecord.{TaskRecord}
-use Rattle.desk.specs.declared.flat.DeskAnswer.{DeskAnswer}
+use Rattle.desk.specs.declared.TaskRecord.{TaskRecord}
+use Rattle.desk.specs.declared.DeskAnswer.{DeskAnswer}
 
 -- "A record is parent, work and out"
 abbrev pub step_record : TaskRecord → StepRecord

@@ -10,11 +10,29 @@ ghost use Rattle.peaks.specs.Desk.{desk};
 ghost use Rattle.words.specs.Layout.{words};
 ghost use Rattle.desk.specs.Records.{step_records, answer_of, told};
 
-pub use flat::{DeskAnswer, TaskRecord};
 use measure::is_within;
 use refusal::Refusal;
 use survey::{Peaked, survey};
 use words::plan::Plan;
+
+// "A record is parent, work and out": one task (step).
+#[repr(C)]
+#[derive(Clone, Copy)]
+pub struct TaskRecord {
+    pub parent: u16,
+    pub work: u16,
+    pub out: u16,
+}
+
+// What the desk is answered: the number of a ground, or 0, the peak, and `by`, the task that sets it.
+// Both are 0 on a refusal.
+#[repr(C)]
+#[derive(Clone, Copy)]
+pub struct DeskAnswer {
+    pub number: u8,
+    pub peak: u64,
+    pub by: u16,
+}
 
 // What the desk is answered for the records, which are written into an empty room.
 fn answer(records: &[TaskRecord], activation: &[u16], room: &mut Plan) -> Result<Peaked, Refusal>

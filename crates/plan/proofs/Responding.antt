@@ -16,7 +16,7 @@ use Rattle.rules.specs.Reachable.{Reachable, next}
 use Rattle.rules.specs.Answer as rules
 use Rattle.rules.proofs.Reaching.{is_read}
 use Rattle.words.specs.Contents.{contents}
-use Rattle.answer.specs.declared.flat.Answer.{Answer}
+use Rattle.answer.specs.declared.Answer.{Answer}
 use Rattle.answer.specs.Told.{told}
 use Rattle.answer.specs.Meaning.{plan_of, answered_of}
 use Rattle.answer.specs.Sound.{Sound}

@@ -12,7 +12,7 @@ use Rattle.format.specs.Command.{decode}
 use Rattle.rules.specs.Answer as answers
 use Rattle.texts.specs.Printer as rules
 use Rattle.answer.specs.Meaning.{plan_of}
-use Rattle.answer.specs.declared.flat.Answer.{Answer}
+use Rattle.answer.specs.declared.Answer.{Answer}
 use Rattle.answer.specs.ValidPlan.{Commanded}
 use Rattle.printing.specs.Taken.{Taken}
 use Rattle.printing.specs.declared.Turned.{Turned}

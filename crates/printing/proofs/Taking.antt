@@ -14,7 +14,7 @@ use Rattle.texts.specs.Printer.{continues, waits, stops, idle, said, answered, i
 use Rattle.theorem.proofs.Askings.{asking_holds}
 use Rattle.rules.proofs.Reaching.{lives}
 use Rattle.words.specs.Contents.{contents}
-use Rattle.answer.specs.declared.flat.Answer.{Answer}
+use Rattle.answer.specs.declared.Answer.{Answer}
 use Rattle.answer.specs.Meaning.{plan_of, answered_of}
 use Rattle.answer.specs.ValidPlan.{ValidPlan, Commanded}
 use Rattle.lines.specs.Line.{Line}
