@@ -9,4 +9,4 @@ invariant-loop-output l =
     l.output l.written
 
 abbrev pub decreases-loop-output : goal.decreases-loop-output
-decreases-loop-output l = length l.at_hand - l.position.place
+decreases-loop-output l = length (take l.fn.position.filled l.input) - l.position.place
