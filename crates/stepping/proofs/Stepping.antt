@@ -11,7 +11,7 @@ use Rattle.rules.specs.Answer.{Asking}
 use Rattle.texts.specs.Text.{longest_line}
 use Rattle.texts.specs.Printer as rules
 use Rattle.texts.specs.Printer.{continues, Turn, idle, turn, behind, turns, moved, step}
-use Rattle.texts.proofs.Stepped.{turn-kept, no_room, last_turn, next-turn}
+use Rattle.texts.proofs.Stepped.{no_room, last_turn, next-turn}
 use Rattle.texts.proofs.Printed.{going}
 use Rattle.answer.specs.Meaning.{plan_of}
 use Rattle.answer.specs.ValidPlan.{ValidPlan}
@@ -116,7 +116,6 @@ module _ (part list₀ output₀ w₀ : List ℕ) (x₀ : Position) where
     pub printed : output ≡ text ++ drop (length text) output₀
     pub told : written ≡ length text
     pub room : length text ≤ length output₀
-    pub listed : length list ≡ length list₀
     pub valid : ValidPlan w
 
   -- before the first turn
@@ -139,7 +138,6 @@ module _ (part list₀ output₀ w₀ : List ℕ) (x₀ : Position) where
         printed = refl;
         told = refl;
         room = omega arith;
-        listed = refl;
         valid = valid;
       }
 
@@ -220,23 +218,10 @@ module _ (part list₀ output₀ w₀ : List ℕ) (x₀ : Position) where
       count : written + r.written ≡ length (h.text ++ next.text)
       count = omega (arith, put.1, h.told, length-append h.text next.text)
 
-      -- the list and the buffer keep their lengths
-      pub listed-after : length list' ≡ length list₀
-      listed-after =
-          ap length taken.starts
-          ∙ (turn-kept (plan_of w) asked x.offset x.is_last h.valid.reached).long
-          ∙ h.listed
-
       room_after : length (h.text ++ next.text) ≤ length output₀
       room_after = omega (arith, length-append h.text next.text, room-here, taken.short, h.room)
 
-      pub size-after : length output' ≡ length output₀
-      size-after = full (h.text ++ next.text) output₀ put.0 room_after
-
       -- sums that 64 bits hold
-      pub told-after : length output₀ < 2 ^ 64 → written + r.written < 2 ^ 64
-      told-after small = omega (arith, count, room_after)
-
       pub counts : length part < 2 ^ 64
           → (x.place + r.used < 2 ^ 64) × (x.offset + r.used < 2 ^ 64)
       counts small = (omega (arith, used-here), omega (arith, used-here, h.counted))
@@ -316,6 +301,5 @@ module _ (part list₀ output₀ w₀ : List ℕ) (x₀ : Position) where
               printed = put.0;
               told = count;
               room = room_after;
-              listed = listed-after;
               valid = taken.valid;
             }
