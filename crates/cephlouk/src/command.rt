@@ -175,7 +175,7 @@ fn encode_named(given: FlatCommand, list: &mut [u8]) -> Result<usize, Refusal>
     if list.len() < read.used {
         return Err(Refusal::ShortList);
     }
-    let mut page = Page::new(list);
+    let mut page = Page::new(list, 0);
     encode(read.command, &mut page);
     Ok(page.place())
 }

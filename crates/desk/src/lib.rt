@@ -64,7 +64,7 @@ fn answer(records: &[TaskRecord], activation: &[u16], room: &mut Plan) -> Result
 fn empty(room: &mut Plan)
     ensures { room.new.words ≡ replicate words 0 }
 {
-    *room = Plan::new();
+    room.words = [0u32; Plan::WORDS];
 }
 
 // "The planners' desk may ask the peak of its own list of step records, one record a step, with an

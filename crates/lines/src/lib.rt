@@ -19,7 +19,7 @@ pub fn begin_line(buffer: &mut [u8], peak: u64, by: u16, figures: Figures, start
     ensures { Line (told (begin_line (record { trays = peak; task = by })) figures started.now)
         (length started.now) buffer.old buffer.new result }
 {
-    let mut page = Page::new(buffer);
+    let mut page = Page::new(buffer, 0);
     page.text(b"begin peak=");
     page.decimal(peak);
     page.text(b" by=");
@@ -39,7 +39,7 @@ pub fn done_line(
     ensures { Line (told (done_line task offers) figures started.now)
         (length started.now) buffer.old buffer.new result }
 {
-    let mut page = Page::new(buffer);
+    let mut page = Page::new(buffer, 0);
     page.text(b"done ");
     page.decimal(task as u64);
     page.text(b" offers=");
@@ -52,7 +52,7 @@ pub fn done_line(
 pub fn fetch_line(buffer: &mut [u8], booked: u32) -> usize
     ensures { Line (fetch_line booked) 0 buffer.old buffer.new result }
 {
-    let mut page = Page::new(buffer);
+    let mut page = Page::new(buffer, 0);
     page.text(b"fetch booked=");
     page.decimal(booked as u64);
     page.byte(b'\n');
@@ -64,7 +64,7 @@ pub fn places_line(buffer: &mut [u8], bound: u32, figures: Figures, started: &[u
     ensures { Line (told (places_line bound) figures started.now)
         (length started.now) buffer.old buffer.new result }
 {
-    let mut page = Page::new(buffer);
+    let mut page = Page::new(buffer, 0);
     page.text(b"places M=");
     page.decimal(bound as u64);
     figures.put(started, &mut page);
@@ -75,7 +75,7 @@ pub fn places_line(buffer: &mut [u8], bound: u32, figures: Figures, started: &[u
 pub fn refused_line(buffer: &mut [u8], number: u8, offset: u64) -> usize
     ensures { Line (refused_line number offset) 0 buffer.old buffer.new result }
 {
-    let mut page = Page::new(buffer);
+    let mut page = Page::new(buffer, 0);
     page.text(b"refused ");
     page.decimal(number as u64);
     page.text(b" at ");

@@ -40,5 +40,5 @@ pub from-front : {text before after : List ℕ} {name end : ℕ} {first last : P
     → (name ≡ last.buffer.ghost_name → after ≡ last.buffer.now)
     → end ≡ last.place
     → Put text 0 before after end
-from-front p same_buffer unwritten at_front lent place =
-    rw (lent (sym (p.same_buffer ∙ same_buffer)), place) (rw (unwritten, at_front) at p.piece)
+from-front p same_buffer unwritten at_place lent place =
+    rw (lent (sym (p.same_buffer ∙ same_buffer)), place) (rw (unwritten, at_place) at p.piece)

@@ -15,13 +15,13 @@ pub struct Page<'a> {
 }
 
 impl<'a> Page<'a> {
-    // From the front of a buffer on.
-    pub fn new(buffer: &'a mut [u8]) -> Page<'a>
+    // From a place of a buffer on.
+    pub fn new(buffer: &'a mut [u8], place: usize) -> Page<'a>
         ensures same_buffer { result.buffer.ghost_name ≡ buffer.entry.ghost_name }
         ensures unwritten { result.buffer.now ≡ buffer.old }
-        ensures at_front { result.place ≡ 0 }
+        ensures at_place { result.place ≡ place }
     {
-        Page { buffer, place: 0 }
+        Page { buffer, place }
     }
 
     // The place behind all that was put: how many bytes there was room for.

@@ -116,7 +116,7 @@ pub fn write(plan: &Plan, list: &mut [u8]) -> Result<usize, Refusal>
     if list.len() < Plan::OPENING_BYTES + Plan::TASK_BYTES * n {
         return Err(Refusal::ShortList);
     }
-    let mut page = Page::new(list);
+    let mut page = Page::new(list, 0);
     write_whole(plan, &mut page);
     Ok(page.place())
 }

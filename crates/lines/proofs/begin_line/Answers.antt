@@ -15,7 +15,7 @@ returns c =
     let figures = c.args.figures in
     let started = c.args.started.now in
     record {
-      written = whole (from-front all page.same_buffer page.unwritten page.at_front (search rules) c.place.ensures);
+      written = whole (from-front all page.same_buffer page.unwritten page.at_place (search rules) c.place.ensures);
       short =
           λ few.
           rw (take_all (length started) started (omega arith))

@@ -12,6 +12,6 @@ returns c =
     let all = c.text.ensures then c.decimal.ensures then c.text-2.ensures then c.decimal-2.ensures then c.byte.ensures in
     let page = c.new-page.ensures in
     record {
-      written = whole (from-front all page.same_buffer page.unwritten page.at_front (search rules) c.place.ensures);
+      written = whole (from-front all page.same_buffer page.unwritten page.at_place (search rules) c.place.ensures);
       short = λ _. refused_line-short _ _ (omega arith) (omega arith);
     }

@@ -34,6 +34,6 @@ returns c =
     let whole = sym c.is_whole.ensures ∙ c.if-not-is_whole.false in
     let e = room-is c.args.plan.now.words c.cell-n.result c.cell-n.ensures in
     let long = (every-write-holds.plans _ c.requires.reached whole).sized in
-    let room = with-room (from-front c.write_whole.ensures c.new-page.ensures.same_buffer c.new-page.ensures.unwritten c.new-page.ensures.at_front (search rules) c.place.ensures) (omega (arith, e, long, c.if-list-n.false)) in
+    let room = with-room (from-front c.write_whole.ensures c.new-page.ensures.same_buffer c.new-page.ensures.unwritten c.new-page.ensures.at_place (search rules) c.place.ensures) (omega (arith, e, long, c.if-list-n.false)) in
     ap₂ (λ (count : ℕ) (list : List ℕ). record { number = 0; count = count; list = list }) room.1 room.0
     ∙ sym (write-whole _ _ whole (omega (arith, e, c.if-list-n.false)))

@@ -25,7 +25,7 @@ unfolding writing.at_front front
 returns c =
     let size = known-sized _ _ _ c.in_ok-read.ensures in
     let page = c.new-page.ensures in
-    let put = from-front c.encode.ensures page.same_buffer page.unwritten page.at_front (search rules) c.place.ensures in
+    let put = from-front c.encode.ensures page.same_buffer page.unwritten page.at_place (search rules) c.place.ensures in
     let room = with-room put (omega (arith, c.if-list-read.false, size)) in
     ap₂ (λ (count : ℕ) (list : List ℕ). record { number = 0; count = count; list = list }) room.1 room.0
     ∙ sym (encode-whole _ _ _ _ c.in_ok-read.ensures c.if-list-read.false)
