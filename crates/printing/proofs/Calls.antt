@@ -16,6 +16,7 @@ use Rattle.answer.specs.declared.Answer.{Answer}
 use Rattle.answer.specs.ValidPlan.{Commanded}
 use Rattle.printing.specs.Taken.{Taken}
 use Rattle.printing.specs.declared.Turned.{Turned}
+use Rattle.printing.specs.Verdict.{verdict_of}
 
 -- the answer that the turn was given
 abbrev pub given : answers.Answer → Answer
@@ -50,7 +51,7 @@ module _ (w : List ℕ) (asking : answers.Asking) (offset : ℕ) (is_last : Bool
   list_is = taken.starts ∙ ap (λ (t : rules.Turn). t.list) turn_is
 
   -- a refusal stops the printer, which leaves the very words
-  stops : (a.answer.number ≡ 0 → ⊥) → r.verdict ≡ rules.stops
+  stops : (a.answer.number ≡ 0 → ⊥) → verdict_of r.verdict ≡ rules.stops
   unfolding rules.answered
   stops d =
       taken.verdict

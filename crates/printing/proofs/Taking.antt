@@ -1,31 +1,44 @@
 -- What a turn of the code leaves is what the turn of the rules leaves, way by way.
 use mathlib.Core.Path.{◌≡◌, refl, ap}
-use mathlib.Core.Bool.{Bool, true, false}
+use mathlib.Core.Bool.{Bool, true, false, cond}
 use mathlib.Core.List.{List}
 use Prim.Native.Nat.{ℕ, ◌≤◌, ◌<◌}
 use native.Mathlib.Omega.{arith}
+use lib.Dec.{ltb}
 use lib.ListN.{length}
+use Rattle.std.specs.Prelude.{Result, Ok, Err}
+use Rattle.std.specs.Result.{IsOk}
 use borrow.Author.Tests.{le-leb, lt-leb, eq-eqb, ne_eqb}
-use Rattle.numbers.specs.Limits.{max_processors}
+use Rattle.numbers.specs.Limits.{max_processors, least_starts}
+use Rattle.refusal.specs.declared.Refusal.{Refusal}
+use Rattle.refusal.specs.Number.{number_of}
+use Rattle.refusal.proofs.Number.{some_number}
 use Rattle.format.specs.Command.{Decoded, decode}
 use Rattle.rules.specs.Answer as rules
-use Rattle.texts.specs.Text.{accepted_line, refused_line}
-use Rattle.texts.specs.Printer.{continues, waits, stops, idle, said, answered, is_awaited, turn}
+use Rattle.texts.specs.Text.{line, accepted_line, refused_line}
+use Rattle.texts.specs.Printer.{idle, said, answered, is_awaited, turn}
 use Rattle.theorem.proofs.Askings.{asking_holds}
 use Rattle.rules.proofs.Reaching.{lives}
+use Rattle.codec.specs.declared.Read.{Read}
+use Rattle.codec.specs.Meaning.{command_of, decoded}
 use Rattle.words.specs.Contents.{contents}
+use Rattle.answer.specs.declared.accepted.Accepted.{Accepted}
 use Rattle.answer.specs.declared.Answer.{Answer}
+use Rattle.answer.specs.Told.{told}
 use Rattle.answer.specs.Meaning.{plan_of, answered_of}
 use Rattle.answer.specs.ValidPlan.{ValidPlan, Commanded}
 use Rattle.lines.specs.Line.{Line}
 use Rattle.printing.specs.declared.Turned.{Turned}
+use Rattle.printing.specs.declared.Verdict.{Verdict}
+use Rattle.printing.specs.declared.Verdict.TheVariants.{GoesOn, Waits, Stops}
+use Rattle.printing.specs.Verdict.{verdict_of}
 use Rattle.printing.specs.Taken.{Taken}
 use Rattle.printing.proofs.Printed.{no_text}
 
 -- the buffer and the list stay, and so does the plan
-idled : (w : List ℕ) (verdict : ℕ) (list buffer : List ℕ)
+idled : (w : List ℕ) (verdict : Verdict) (list buffer : List ℕ)
     → ValidPlan w
-    → Taken w (idle verdict (plan_of w) list) buffer (record { used = 0; written = 0; verdict = verdict }) w list buffer
+    → Taken w (idle (verdict_of verdict) (plan_of w) list) buffer (record { used = 0; written = 0; verdict = verdict }) w list buffer
 unfolding idle
 idled w verdict list buffer valid =
     record {
@@ -45,7 +58,7 @@ module _ {w : List ℕ} {a : rules.Asking} {r : Answer} {w' list' : List ℕ} (h
   after-refusal : (r.number ≡ 0 → ⊥)
       → Line (refused_line r.number offset) 0 buffer buffer' n
       → Taken w (answered d offset (answered_of r (contents w') list')) buffer
-      (record { used = r.used; written = n; verdict = stops }) w' list' buffer'
+      (record { used = r.used; written = n; verdict = Stops }) w' list' buffer'
   unfolding answered said
   after-refusal refused line =
       let e = ne_eqb r.number 0 refused in
@@ -65,7 +78,7 @@ module _ {w : List ℕ} {a : rules.Asking} {r : Answer} {w' list' : List ℕ} (h
       → r.starts ≤ max_processors
       → Line (accepted_line d (answered_of r (contents w') list')) r.starts buffer buffer' n
       → Taken w (answered d offset (answered_of r (contents w') list')) buffer
-      (record { used = r.used; written = n; verdict = continues }) w' list' buffer'
+      (record { used = r.used; written = n; verdict = GoesOn }) w' list' buffer'
   unfolding answered said
   after-acceptance accepted few line =
       let e = eq-eqb r.number 0 accepted in
@@ -86,21 +99,21 @@ module _ (w : List ℕ) (a : rules.Asking) (offset : ℕ) (is_last : Bool) {d : 
       → ValidPlan w
       → awaited ≡ is_awaited is_last d
       → awaited ≡ true
-      → r ≡ record { used = 0; written = 0; verdict = waits }
+      → r ≡ record { used = 0; written = 0; verdict = Waits }
       → Taken w (turn (plan_of w) a offset is_last) buffer r w a.list buffer
   unfolding turn
-  waiting buffer valid e h same = rw (same, ← told, ← e, h) (idled w waits a.list buffer valid)
+  waiting buffer valid e h same = rw (same, ← told, ← e, h) (idled w Waits a.list buffer valid)
 
   pub ending : (buffer : List ℕ) {awaited : Bool} {r : Turned}
       → ValidPlan w
       → awaited ≡ is_awaited is_last d
       → awaited ≡ false
       → length a.stream ≤ a.place
-      → r ≡ record { used = 0; written = 0; verdict = stops }
+      → r ≡ record { used = 0; written = 0; verdict = Stops }
       → Taken w (turn (plan_of w) a offset is_last) buffer r w a.list buffer
   unfolding turn
   ending buffer valid e h out same =
-      rw (same, ← told, ← e, h, le-leb (length a.stream) a.place out) (idled w stops a.list buffer valid)
+      rw (same, ← told, ← e, h, le-leb (length a.stream) a.place out) (idled w Stops a.list buffer valid)
 
   module _ {awaited : Bool} {r : Answer} {w' list : List ℕ} (e : awaited ≡ is_awaited is_last d) (h : awaited ≡ false)
       (more : a.place < length a.stream) (commanded : Commanded w a r w' list) where
@@ -114,7 +127,7 @@ module _ (w : List ℕ) (a : rules.Asking) (offset : ℕ) (is_last : Bool) {d : 
         → (r.number ≡ 0 → ⊥)
         → Line (refused_line r.number offset) 0 buffer buffer' n
         → Taken w (turn (plan_of w) a offset is_last) buffer
-        (record { used = r.used; written = n; verdict = stops }) w' list buffer'
+        (record { used = r.used; written = n; verdict = Stops }) w' list buffer'
     refusing refused line = asked (after-refusal commanded d offset refused line)
 
     -- no more tasks start than there can be processors
@@ -128,5 +141,28 @@ module _ (w : List ℕ) (a : rules.Asking) (offset : ℕ) (is_last : Bool) {d : 
         → r.number ≡ 0
         → Line (accepted_line d (answered_of r (contents w') list)) r.starts buffer buffer' n
         → Taken w (turn (plan_of w) a offset is_last) buffer
-        (record { used = r.used; written = n; verdict = continues }) w' list buffer'
+        (record { used = r.used; written = n; verdict = GoesOn }) w' list buffer'
     accepting valid accepted line = asked (after-acceptance commanded d offset accepted (few valid) line)
+
+-- the line of what was read
+pub of-read : {asked : Result Read Refusal} {r : Read} (a : rules.Answered)
+    → asked ≡ Ok r
+    → accepted_line (decoded asked) a ≡ line (command_of r.command) a
+unfolding accepted_line
+of-read a e = rw e
+
+-- what is accepted was read
+pub accepted-read : {w : List ℕ} {a : rules.Asking} {t : Accepted} {w' list : List ℕ} (asked : Result Read Refusal)
+    → decoded asked ≡ decode a.stream a.place
+    → Commanded w a (told (Ok t)) w' list
+    → IsOk asked
+unfolding rules.command rules.respond rules.refuse
+accepted-read (Ok r) e h = refl
+accepted-read {w = w} {a = a} (Err refusal) e h =
+    absurd (go (ltb (length a.list) least_starts) (rw (← e) at (ap (λ (v : rules.Answered). v.answer.number) h.same)))
+  where
+    go : (t : Bool)
+        → 0 ≡ (cond t (rules.refuse 10 (plan_of w) a.list) (rules.refuse (number_of refusal) (plan_of w) a.list)).answer.number
+        → ⊥
+    go true e = omega arith
+    go false e = let h = some_number refusal in omega arith

@@ -6,11 +6,12 @@ use Rattle.answer.specs.Meaning.{plan_of}
 use Rattle.answer.specs.ValidPlan.{ValidPlan}
 use Rattle.put.specs.Written.{Written}
 use Rattle.printing.specs.declared.Turned.{Turned}
+use Rattle.printing.specs.Verdict.{verdict_of}
 
 -- a turn t of the rules, taken with a plan of words w and a buffer: all that its caller receives
 pub record Taken (w : List ℕ) (t : rules.Turn) (buffer : List ℕ) (r : Turned) (w' list buffer' : List ℕ) : Type 0 where
   -- the verdict, the bytes used, the plan and the whole start list are those of the rules
-  pub verdict : r.verdict ≡ t.verdict
+  pub verdict : verdict_of r.verdict ≡ t.verdict
   pub used : r.used ≡ t.used
   pub state : plan_of w' ≡ t.state
   pub starts : list ≡ t.list
@@ -21,4 +22,4 @@ pub record Taken (w : List ℕ) (t : rules.Turn) (buffer : List ℕ) (r : Turned
   -- commands led to the plan that is left
   pub valid : ValidPlan w'
   -- the very words are left, unless a command was accepted
-  pub kept : (r.verdict ≡ rules.continues → ⊥) → w' ≡ w
+  pub kept : (verdict_of r.verdict ≡ rules.continues → ⊥) → w' ≡ w

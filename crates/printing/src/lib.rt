@@ -11,30 +11,35 @@ ghost use Rattle.answer.specs.ValidPlan.{ValidPlan};
 ghost use Rattle.printing.specs.Taken.{Taken};
 
 use accepted::accepted_line;
-use codec::{Decoded, decode};
+use codec::{Read, decode};
 use lines::refused_line;
 use plan::command;
+use refusal::Refusal;
 use words::plan::Plan;
+
+// What a turn decides.
+#[derive(Clone, Copy, Debug, PartialEq, Eq)]
+pub enum Verdict {
+    // the next command is to be asked
+    GoesOn,
+    // more input is to be read
+    Waits,
+    // the day printer is to stop
+    Stops,
+}
 
 // What a turn answers: the bytes of the input that it used, the bytes of the buffer that it wrote,
 // and its verdict.
-#[derive(Clone, Copy)]
+#[derive(Clone, Copy, Debug, PartialEq, Eq)]
 pub struct Turned {
     pub used: usize,
     pub written: usize,
-    pub verdict: u8,
+    pub verdict: Verdict,
 }
 
 impl Turned {
-    // the next command is to be asked, more input is to be read, the day printer is to stop
-    pub const GOES_ON: u8 = 0;
-
-    pub const WAITS: u8 = 1;
-
-    pub const STOPS: u8 = 2;
-
     // Nothing is used or written.
-    fn idle(verdict: u8) -> Self
+    fn idle(verdict: Verdict) -> Self
         ensures { result ≡ record { used = 0; written = 0; verdict = verdict } }
     {
         Turned {
@@ -46,24 +51,17 @@ impl Turned {
 }
 
 // "no byte is left, or operands are cut short": they may still come, unless the input has ended.
-fn is_awaited(is_last: bool, asked: Decoded) -> bool
+#[tactic(auto, unfolding(texts::specs::Printer::is_awaited))]
+fn is_awaited(is_last: bool, asked: Result<Read, Refusal>) -> bool
     ensures { result ≡ rules.is_awaited is_last (decoded asked) }
 {
-    if is_last {
-        return false;
-    }
-    match asked {
-        Decoded::Refused(number) => number == 1,
-        Decoded::Read {
-            command: _,
-            used: _,
-        } => false,
-    }
+    !is_last && matches!(asked, Err(Refusal::CutShort))
 }
 
 // One turn: the command at a place of the part is asked of the plan, and its line stands at the
 // front of the buffer. That place is `offset` bytes from the start of the input; `is_last` says that
-// the input ends with this part.
+// the input ends with this part. They are no `Position`, which has only the places and offsets that
+// the day printer comes to: a caller may ask at any.
 pub fn turn(
     plan: &mut Plan,
     part: &[u8],
@@ -80,22 +78,25 @@ pub fn turn(
 {
     let asked = decode(part, place);
     if is_awaited(is_last, asked) {
-        return Turned::idle(Turned::WAITS);
+        return Turned::idle(Verdict::Waits);
     }
     if part.len() <= place {
-        return Turned::idle(Turned::STOPS);
+        return Turned::idle(Verdict::Stops);
     }
-    let answer = command(plan, part, place, starts);
-    if answer.number != 0 {
-        return Turned {
-            used: answer.used,
-            written: refused_line(buffer, answer.number, offset),
-            verdict: Turned::STOPS,
-        };
-    }
-    Turned {
-        used: answer.used,
-        written: accepted_line(plan, asked, answer, starts, buffer),
-        verdict: Turned::GOES_ON,
+    match command(plan, part, place, starts) {
+        Err(refusal) => Turned {
+            used: 0,
+            written: refused_line(buffer, u8::from(refusal), offset),
+            verdict: Verdict::Stops,
+        },
+        Ok(accepted) => {
+            // What is accepted was read.
+            let read = asked.unwrap();
+            Turned {
+                used: accepted.used,
+                written: accepted_line(plan, read.command, accepted, starts, buffer),
+                verdict: Verdict::GoesOn,
+            }
+        }
     }
 }

@@ -2,7 +2,7 @@
 use mathlib.Core.Path.{◌≡◌, sym, ap, subst, ◌∙◌}
 use mathlib.Core.Bool.{true, false, cond}
 use mathlib.Core.List.{List}
-use Rattle.std.specs.Prelude.{Option}
+use Rattle.std.specs.Prelude.{Option, Ok}
 use Prim.Native.Nat.{ℕ, zero, suc, ◌+◌, ◌-◌, ◌≤◌, ◌<◌}
 use native.Mathlib.Omega.{arith}
 use borrow.Author.Tests.{leb-true, ne_eqb}
@@ -16,7 +16,8 @@ use Rattle.answer.specs.ValidPlan.{ValidPlan}
 use Rattle.position.specs.declared.Position.{Position}
 use Rattle.stepping.specs.declared.Stepped.{Stepped}
 use Rattle.pump.specs.declared.TheConstants.{ROOM}
-use Rattle.pump.specs.declared.room.Refilled.{Refilled}
+use Rattle.printing.specs.declared.Verdict.TheVariants.{GoesOn, Waits}
+use Rattle.printing.specs.Verdict.{verdict_of}
 use Rattle.position.specs.Standing.{position_of, Stands}
 use Rattle.stepping.specs.Stepped.{Step}
 use Rattle.pump.specs.Filled.{left_of, came, Filled}
@@ -137,25 +138,25 @@ module _ {input output starts w : List ℕ} {x : Position} (loop : PumpLoop inpu
     -- where more input is waited for, there is room for it
     pub room : length starts' ≡ length starts
         → length output' ≡ length output
-        → r.verdict ≡ waits
+        → r.verdict ≡ Waits
         → Stands r.position (length input) × (r.position.filled - r.position.place < length input)
     room same-starts same-output e = (
       at_size loop.input-size (onward same-starts same-output).stands,
-      omega (arith, loop.input-size, reach.few (sym stepped.verdict ∙ e), part-size, place', filled'),
+      omega (arith, loop.input-size, reach.few (sym stepped.verdict ∙ ap verdict_of e), part-size, place', filled'),
     )
 
-    -- a step that neither waits nor stops has used a byte
-    pub falls : (r.verdict ≡ waits → ⊥) → (r.verdict ≡ stops → ⊥) → bytes_left (position_of r.position) < bytes_left (position_of x)
-    falls not-waiting not_stopped =
-        let goes = reach.third (λ e. not-waiting (stepped.verdict ∙ e)) (λ e. not_stopped (stepped.verdict ∙ e)) in
+    -- a step that goes on has used a byte
+    pub falls : r.verdict ≡ GoesOn → bytes_left (position_of r.position) < bytes_left (position_of x)
+    falls goes =
         let some =
-        step-some (plan_of w) part starts (length output) (position_of x) (omega (arith, loop.output-size)) goes in
+        step-some (plan_of w) part starts (length output) (position_of x) (omega (arith, loop.output-size))
+        (sym stepped.verdict ∙ ap verdict_of goes) in
         subst (λ (y : rules.Position). bytes_left y < bytes_left (position_of x)) (sym stepped.position)
         (used-up taken.used (position_of x) some inside loop.stands.counted)
 
-    module _ {had has : Option (List ℕ)} {input' : List ℕ} {f : Refilled} (filled : Filled input r.position had input' has f) (counted : is_counted (length input) (position_of r.position) ≡ true) where
+    module _ {E : Type 0} {had has : Option (List ℕ)} {input' : List ℕ} {y : Position} (filled : Filled {E = E} input r.position had input' has (Ok y)) (counted : is_counted (length input) (position_of r.position) ≡ true) where
       abbrev count : ℕ
-      count = came f.got
+      count = came r.position y
 
       far : r.position.offset + length input ≤ max_offset
       unfolding is_counted
@@ -165,26 +166,26 @@ module _ {input output starts w : List ℕ} {x : Position} (loop : PumpLoop inpu
       most = filled.within
 
       -- a read waits for what comes next
-      pub refalls : r.verdict ≡ waits → bytes_left (position_of f.position) < bytes_left (position_of x)
+      pub refalls : r.verdict ≡ Waits → bytes_left (position_of y) < bytes_left (position_of x)
       refalls e =
           subst (λ (y : rules.Position). bytes_left y < bytes_left (position_of x))
           (sym (filled.position ∙ ap (λ (y : rules.Position). fed count (fronted y)) stepped.position))
-          (read-in taken.used count (position_of x) inside (reach.awaited (sym stepped.verdict ∙ e))
+          (read-in taken.used count (position_of x) inside (reach.awaited (sym stepped.verdict ∙ ap verdict_of e))
           (omega (arith, far, most, place', filled', offset', inside, loop.stands.in_buffer, loop.input-size)))
 
-      place'' : f.position.place ≡ 0
+      place'' : y.place ≡ 0
       unfolding fed fronted
       place'' = ap (λ (y : rules.Position). y.place) filled.position
 
-      filled'' : f.position.filled ≡ left_of r.position + count
+      filled'' : y.filled ≡ left_of r.position + count
       unfolding fed fronted
       filled'' = ap (λ (y : rules.Position). y.filled) filled.position
 
-      offset'' : f.position.offset ≡ r.position.offset
+      offset'' : y.offset ≡ r.position.offset
       unfolding fed fronted
       offset'' = ap (λ (y : rules.Position). y.offset) filled.position
 
-      pub refilled : length starts' ≡ length starts → length output' ≡ length output → PumpLoop input' output' starts' w' f.position
+      pub refilled : length starts' ≡ length starts → length output' ≡ length output → PumpLoop input' output' starts' w' y
       refilled same-starts same-output =
           let before = onward same-starts same-output in
           record {

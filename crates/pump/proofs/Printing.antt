@@ -2,7 +2,7 @@
 use Rattle.std.proofs.Common.{◌≡◌, ℕ, ◌+◌, ◌≤◌, ◌<◌, true, false, List, [], ◌++◌, length, take, drop, refl, sym, ap, subst, ◌∙◌, arith, length-append, length-drop, append-nil, append_assoc, true≢false}
 use Rattle.std.proofs.Math.Seq.{take-add, length-take-le}
 use Rattle.std.proofs.lemmas.List.{take-append-drop, drop-take, take_at}
-use Rattle.std.specs.Prelude.{Option, Some, None, Result, Ok, Err, IfSome, OnErr, is_err}
+use Rattle.std.specs.Prelude.{Option, Some, None, Result, Ok, Err, IfSome, OnErr}
 use Rattle.std.specs.Io.KnownBytes.{Appends, ReadConsumes}
 use mathlib.Core.Logic.{⊎_elim}
 use borrow.Author.Tests.{leb-false, eqb-true, eqb-false}
@@ -17,7 +17,8 @@ use Rattle.position.specs.declared.Position.{Position}
 use Rattle.position.specs.Standing.{position_of}
 use Rattle.stepping.specs.declared.Stepped.{Stepped}
 use Rattle.stepping.specs.Stepped.{Step}
-use Rattle.pump.specs.declared.room.Refilled.{Refilled}
+use Rattle.printing.specs.declared.Verdict.TheVariants.{Stops}
+use Rattle.printing.specs.Verdict.{verdict_of}
 use Rattle.pump.specs.Filled.{left_of, came, Filled}
 use Rattle.pump.specs.Written.{WritesFront}
 use Rattle.pump.proofs.Growing.{unwritten, grows, front-of-all}
@@ -41,18 +42,13 @@ pub record Came (n : ℕ) (given after : List ℕ) (has : Option (List ℕ)) : T
   pub cut : after ≡ take n given ++ later
   pub ended : n ≡ 0 → 0 < length given → later ≡ []
 
-module _ {E : Type 0} (given after : List ℕ) where
-  came-of-known : (has : Option (List ℕ)) (got : Result ℕ E) → is_err got ≡ false → ReadConsumes (Some after) has got given → Came (came got) given after has
-  came-of-known (Some later) (Ok n) good h = record { later = later; known = refl; cut = h.0; ended = h.1 }
-  came-of-known None (Ok n) good h = absurd h.0
-  came-of-known has (Err e) good h = absurd (true≢false good)
+module _ (E : Type 0) (given after : List ℕ) where
+  came-of-known : (has : Option (List ℕ)) (n : ℕ) → ReadConsumes {E = E} (Some after) has (Ok n) given → Came n given after has
+  came-of-known (Some later) n h = record { later = later; known = refl; cut = h.0; ended = h.1 }
+  came-of-known None n h = absurd h.0
 
-  pub read-came : (had has : Option (List ℕ)) (got : Result ℕ E)
-      → had ≡ Some after
-      → is_err got ≡ false
-      → ReadConsumes had has got given
-      → Came (came got) given after has
-  read-came had has got e good h = came-of-known has got good (subst (λ (o : Option (List ℕ)). ReadConsumes o has got given) e h)
+  pub read-came : (had has : Option (List ℕ)) (n : ℕ) → had ≡ Some after → ReadConsumes {E = E} had has (Ok n) given → Came n given after has
+  read-came had has n e h = came-of-known has n (subst (λ (o : Option (List ℕ)). ReadConsumes {E = E} o has (Ok n) given) e h)
 
 -- the same bytes, grouped by what is dropped and what is at hand once more has come
 regroup : (ahead used kept more later : List ℕ) → ahead ++ (used ++ kept ++ (more ++ later)) ≡ ahead ++ used ++ (kept ++ more ++ later)
@@ -169,15 +165,15 @@ module _ {bytes lines starts w : List ℕ} {x : Position} (loop : PumpLoop bytes
     put-text = subst (Appends holds holds') (step-text stepped) put
 
     -- a step that stops ends what is printed
-    pub ends : r.verdict ≡ stops → Appends held holds' (print stream)
+    pub ends : r.verdict ≡ Stops → Appends held holds' (print stream)
     unfolding step at_hand
     ends e =
         subst (Appends held holds')
-        (steps-print (so_far.all taken.text (last_step at_hand (length lines) (sym stepped.verdict ∙ e))))
+        (steps-print (so_far.all taken.text (last_step at_hand (length lines) (sym stepped.verdict ∙ ap verdict_of e))))
         (grows held holds holds' so_far.text taken.text so_far.written put-text)
 
     -- another goes on with it
-    pub advance : (r.verdict ≡ stops → ⊥) → SoFar stream bytes w' r.position has held holds'
+    pub advance : (verdict_of r.verdict ≡ stops → ⊥) → SoFar stream bytes w' r.position has held holds'
     unfolding step moved at_hand
     advance not_stopped =
         let place' = ap (λ (y : printer.Position). y.place) stepped.position in
@@ -233,16 +229,15 @@ module _ {bytes w : List ℕ} {x : Position} {stream : List ℕ} {has held holds
   too-long e = omega (arith, within-stream, leb-false (x.offset + length bytes) max_offset e)
 
   -- what a read gives goes on with it
-  pub read-on : {bytes' : List ℕ} {has' : Option (List ℕ)} {f : Refilled}
+  pub read-on : {bytes' : List ℕ} {has' : Option (List ℕ)} {E : Type 0} {y : Position}
       → left_of x < length bytes
-      → Filled bytes x has bytes' has' f
-      → is_err f.got ≡ false
-      → SoFar stream bytes' w f.position has' held holds
+      → Filled {E = E} bytes x has bytes' has' (Ok y)
+      → SoFar stream bytes' w y has' held holds
   unfolding fed fronted
-  read-on {bytes'} {has'} {f} room filled good =
-      let n = came f.got in
+  read-on {bytes'} {has'} {E} {y} room filled =
+      let n = came x y in
       let given = drop (left_of x) bytes' in
-      let read = read-came given so_far.after has has' f.got so_far.left good filled.behind in
+      let read = read-came E given so_far.after has has' n so_far.left filled.behind in
       let place' = ap (λ (y : printer.Position). y.place) filled.position in
       let filled' = ap (λ (y : printer.Position). y.filled) filled.position in
       let offset' = ap (λ (y : printer.Position). y.offset) filled.position in

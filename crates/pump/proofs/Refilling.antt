@@ -1,12 +1,12 @@
 -- What a read puts behind the bytes at the front of a buffer.
-use Rattle.std.proofs.Common.{◌≡◌, ℕ, ◌-◌, ◌≤◌, List, [], ◌++◌, length, take, drop, ap, ◌∙◌, arith, length-drop, append-nil}
+use Rattle.std.proofs.Common.{◌≡◌, ℕ, ◌-◌, ◌≤◌, List, [], ◌++◌, length, take, drop, ap, subst, ◌∙◌, arith, length-drop, append-nil}
 use Rattle.std.proofs.Math.Seq.{paste, take_at, drop_at, length-take-le}
 use Rattle.std.proofs.Math.ListN.{drop_of_length-le}
 use borrow.Rule.Slice.PartMut.{post_of}
-use Rattle.std.specs.Prelude.{Result, Ok, Err}
-use Rattle.std.specs.Io.{ReadsAtMost}
 use Rattle.texts.specs.Printer as rules
-use Rattle.pump.specs.Filled.{came}
+use Rattle.position.specs.declared.Position.{Position}
+use Rattle.position.specs.Standing.{position_of}
+use Rattle.pump.specs.Filled.{left_of, came}
 
 -- as many bytes are at hand as were left behind the next command
 pub left_over : (x : rules.Position) {y : rules.Position} {n : ℕ} → y ≡ rules.fronted x → n ≡ y.filled → n ≡ x.filled - x.place
@@ -28,18 +28,28 @@ module _ (left : ℕ) (kept given : List ℕ) (within : left ≤ length kept) (s
   pub behind : drop left put_behind ≡ given
   behind = drop_at (take left kept) _ left kept-size ∙ ap (λ (l : List ℕ). given ++ l) nothing-behind ∙ append-nil given
 
-  pub front : take left put_behind ≡ take left kept
+  front : take left put_behind ≡ take left kept
   front = take_at (take left kept) _ left kept-size
 
 -- what goes behind the front leaves it as it is
-pub front-stays : (before : List ℕ) (place left : ℕ) {kept : List ℕ}
+front-stays : (before : List ℕ) (place left : ℕ) {kept : List ℕ}
     → left ≤ length before - place
     → kept ≡ paste before 0 (drop place before) left
     → take left kept ≡ take left (drop place before)
 front-stays before place left fits e =
     ap (take left) e ∙ take_at (take left (drop place before)) _ left (length-take-le left (drop place before) (omega (arith, length-drop place before)))
 
--- no more comes than there is room for
-pub came-within : {E : Type 0} (r : Result ℕ E) (given : List ℕ) → ReadsAtMost r given → came r ≤ length given
-came-within (Ok n) given h = h.0
-came-within (Err e) given h = omega arith
+-- so the bytes at hand stand at the front
+pub stays : (before : List ℕ) (x : Position) (left : ℕ) (kept given : List ℕ) (within : left ≤ length kept) (size : length given ≡ length kept - left)
+    → left ≡ left_of x
+    → left ≤ length before - x.place
+    → kept ≡ paste before 0 (drop x.place before) left
+    → take (left_of x) (put_behind left kept given within size) ≡ take (left_of x) (drop x.place before)
+stays before x left kept given within size count fits e =
+    subst (λ (n : ℕ). take n (put_behind left kept given within size) ≡ take n (drop x.place before)) count
+    (front left kept given within size ∙ front-stays before x.place left fits e)
+
+-- the bytes at hand afterwards are those that were left and those that a read gave
+pub came-is : (x y : Position) {n : ℕ} → position_of y ≡ rules.fed n (rules.fronted (position_of x)) → came x y ≡ n
+unfolding rules.fed rules.fronted
+came-is x y e = omega (arith, ap (λ (z : rules.Position). z.filled) e)

@@ -6,7 +6,7 @@ use std::error::Error;
 use std::fmt;
 
 // Its lines could not be written, an offset would not fit 64 bits, or its input could not be read.
-#[derive(Clone, Copy, Debug)]
+#[derive(Clone, Copy, Debug, PartialEq, Eq)]
 pub enum Failed {
     Write,
     TooLong,

@@ -12,7 +12,7 @@ mod room;
 
 pub use failed::Failed;
 use position::Position;
-use printing::Turned;
+use printing::Verdict;
 use room::refill;
 use std::io::{self, Read, Write};
 use stepping::step;
@@ -50,20 +50,19 @@ pub fn print_day<R: Read, W: Write>(input: &mut R, output: &mut W) -> Result<(),
     loop {
         let stepped = step(&mut plan, &bytes, position, &mut starts, &mut lines);
         put_out(output, &lines[..stepped.written])?;
-        let is_over = stepped.verdict == Turned::STOPS;
-        if is_over {
-            return Ok(());
-        }
         position = stepped.position;
-        if stepped.verdict == Turned::WAITS {
-            if !position.is_counted(&bytes) {
-                return Err(Failed::TooLong);
+        match stepped.verdict {
+            Verdict::GoesOn => {}
+            Verdict::Waits => {
+                if !position.is_counted(&bytes) {
+                    return Err(Failed::TooLong);
+                }
+                let Ok(refilled) = refill(input, &mut bytes, position) else {
+                    return Err(Failed::Read);
+                };
+                position = refilled;
             }
-            let refilled = refill(input, &mut bytes, position);
-            if refilled.got.is_err() {
-                return Err(Failed::Read);
-            }
-            position = refilled.position;
+            Verdict::Stops => return Ok(()),
         }
     }
 }
@@ -81,8 +80,5 @@ fn put_out<W: Write>(output: &mut W, lines: &[u8]) -> Result<(), Failed>
             Ok(count) => done += count,
         }
     }
-    if output.flush().is_err() {
-        return Err(Failed::Write);
-    }
-    Ok(())
+    output.flush().map_err(|_| Failed::Write)
 }

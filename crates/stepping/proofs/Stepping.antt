@@ -11,18 +11,27 @@ use Rattle.rules.specs.Answer.{Asking}
 use Rattle.texts.specs.Text.{longest_line}
 use Rattle.texts.specs.Printer as rules
 use Rattle.texts.specs.Printer.{continues, Turn, idle, turn, behind, turns, moved, step}
-use Rattle.texts.proofs.Stepped.{turn-kept, no_room, last_turn, next-turn}
+use Rattle.texts.proofs.Stepped.{no_room, last_turn, next-turn}
 use Rattle.texts.proofs.Printed.{going}
 use Rattle.answer.specs.Meaning.{plan_of}
 use Rattle.answer.specs.ValidPlan.{ValidPlan}
 use Rattle.put.specs.Written.{over, Written}
 use Rattle.printing.specs.declared.Turned.{Turned}
+use Rattle.printing.specs.declared.Verdict.{Verdict}
+use Rattle.printing.specs.declared.Verdict.TheVariants.{GoesOn, Waits, Stops}
+use Rattle.printing.specs.Verdict.{verdict_of}
 use Rattle.printing.specs.Taken.{Taken}
 use Rattle.printing.proofs.Within.{used-within}
 use Rattle.position.specs.declared.Position.{Position}
 use Rattle.stepping.specs.declared.Stepped.{Stepped}
 use Rattle.position.specs.Standing.{position_of}
 use Rattle.stepping.specs.Stepped.{Step}
+
+-- only one verdict is to go on
+goes-on : (verdict : Verdict) → verdict_of verdict ≡ continues → verdict ≡ GoesOn
+goes-on GoesOn e = refl
+goes-on Waits e = absurd (omega arith)
+goes-on Stops e = absurd (omega arith)
 
 behind-none : (t : Turn) → behind 0 [] t ≡ t
 unfolding behind
@@ -107,7 +116,6 @@ module _ (part list₀ output₀ w₀ : List ℕ) (x₀ : Position) where
     pub printed : output ≡ text ++ drop (length text) output₀
     pub told : written ≡ length text
     pub room : length text ≤ length output₀
-    pub listed : length list ≡ length list₀
     pub valid : ValidPlan w
 
   -- before the first turn
@@ -130,7 +138,6 @@ module _ (part list₀ output₀ w₀ : List ℕ) (x₀ : Position) where
         printed = refl;
         told = refl;
         room = omega arith;
-        listed = refl;
         valid = valid;
       }
 
@@ -142,7 +149,7 @@ module _ (part list₀ output₀ w₀ : List ℕ) (x₀ : Position) where
     -- the turns that are left come to t
     closing : {t : Turn} {r : Stepped} {w' list' output' : List ℕ}
         → from h.more (length output₀ - length h.text) (plan_of w) list (position_of x) ≡ t
-        → r.verdict ≡ t.verdict
+        → verdict_of r.verdict ≡ t.verdict
         → plan_of w' ≡ t.state
         → list' ≡ t.list
         → position_of r.position ≡ moved t.used (position_of x)
@@ -166,7 +173,7 @@ module _ (part list₀ output₀ w₀ : List ℕ) (x₀ : Position) where
 
     -- there is no room for another line
     pub filled-up : length output - written < longest_line
-        → Step x₀ goal output₀ (record { position = x; written = written; verdict = continues }) w list output
+        → Step x₀ goal output₀ (record { position = x; written = written; verdict = GoesOn }) w list output
     unfolding idle
     filled-up few =
         let full : length output₀ - length h.text < longest_line = omega (arith, size, h.told) in
@@ -211,30 +218,17 @@ module _ (part list₀ output₀ w₀ : List ℕ) (x₀ : Position) where
       count : written + r.written ≡ length (h.text ++ next.text)
       count = omega (arith, put.1, h.told, length-append h.text next.text)
 
-      -- the list and the buffer keep their lengths
-      pub listed-after : length list' ≡ length list₀
-      listed-after =
-          ap length taken.starts
-          ∙ (turn-kept (plan_of w) asked x.offset x.is_last h.valid.reached).long
-          ∙ h.listed
-
       room_after : length (h.text ++ next.text) ≤ length output₀
       room_after = omega (arith, length-append h.text next.text, room-here, taken.short, h.room)
 
-      pub size-after : length output' ≡ length output₀
-      size-after = full (h.text ++ next.text) output₀ put.0 room_after
-
       -- sums that 64 bits hold
-      pub told-after : length output₀ < 2 ^ 64 → written + r.written < 2 ^ 64
-      told-after small = omega (arith, count, room_after)
-
       pub counts : length part < 2 ^ 64
           → (x.place + r.used < 2 ^ 64) × (x.offset + r.used < 2 ^ 64)
       counts small = (omega (arith, used-here), omega (arith, used-here, h.counted))
 
       module _ {x' : Position} (position : position_of x' ≡ moved r.used (position_of x)) where
         -- it was the last
-        pub ended : (r.verdict ≡ continues → ⊥)
+        pub ended : (r.verdict ≡ GoesOn → ⊥)
             → Step x₀ goal output₀
             (record { position = x'; written = written + r.written; verdict = r.verdict }) w' list' output'
         ended stays =
@@ -242,7 +236,7 @@ module _ (part list₀ output₀ w₀ : List ℕ) (x₀ : Position) where
             let e =
             ap (λ (k : ℕ). from k (length output₀ - length h.text) (plan_of w) list (position_of x)) m.1
             ∙ last_turn (plan_of w) asked x.offset x.is_last m.0 _ room-here
-            (λ q. stays (taken.verdict ∙ q)) in
+            (λ q. stays (goes-on r.verdict (taken.verdict ∙ q))) in
             closing e taken.verdict taken.state taken.starts
             (position ∙ ap (λ (k : ℕ). moved k (position_of x)) taken.used) put.0 count taken.valid
 
@@ -272,17 +266,17 @@ module _ (part list₀ output₀ w₀ : List ℕ) (x₀ : Position) where
             ∙ ap (from m (length output₀ - length (h.text ++ next.text)) (plan_of w') list') at
 
         -- a byte is used
-        pub some : r.verdict ≡ continues → x.place < x'.place
+        pub some : r.verdict ≡ GoesOn → x.place < x'.place
         some goes =
             omega (
               arith,
               place',
               taken.used,
-              (going (plan_of w) list part x.place x.offset x.is_last (sym taken.verdict ∙ goes)).1,
+              (going (plan_of w) list part x.place x.offset x.is_last (sym taken.verdict ∙ ap verdict_of goes)).1,
             )
 
         -- the turns go on
-        pub onward : r.verdict ≡ continues → StepLoop w' x' list' output' (written + r.written)
+        pub onward : r.verdict ≡ GoesOn → StepLoop w' x' list' output' (written + r.written)
         onward goes =
             let m = one_more in
             record {
@@ -293,7 +287,7 @@ module _ (part list₀ output₀ w₀ : List ℕ) (x₀ : Position) where
                   h.same
                   ∙ ap (behind h.used h.text)
                   (ap (λ (k : ℕ). from k (length output₀ - length h.text) (plan_of w) list (position_of x)) m.1
-                  ∙ next-turn (plan_of w) asked x.offset x.is_last m.0 _ room-here (sym taken.verdict ∙ goes)
+                  ∙ next-turn (plan_of w) asked x.offset x.is_last m.0 _ room-here (sym taken.verdict ∙ ap verdict_of goes)
                   ∙ ap (behind next.used next.text) (left_over m.0))
                   ∙ behind-behind h.used next.used h.text next.text _;
               enough = omega (arith, h.enough, m.1, some goes);
@@ -307,6 +301,5 @@ module _ (part list₀ output₀ w₀ : List ℕ) (x₀ : Position) where
               printed = put.0;
               told = count;
               room = room_after;
-              listed = listed-after;
               valid = taken.valid;
             }

@@ -10,16 +10,16 @@ ghost use Rattle.stepping.specs.Stepped.{Step};
 
 use lines::LONGEST_LINE;
 use position::Position;
-use printing::{Turned, turn};
+use printing::{Verdict, turn};
 use words::plan::Plan;
 
 // What a step answers: the place of the next command, the bytes of the buffer that it wrote, and its
-// verdict, which is one of `Turned`.
+// verdict.
 #[derive(Clone, Copy)]
 pub struct Stepped {
     pub position: Position,
     pub written: usize,
-    pub verdict: u8,
+    pub verdict: Verdict,
 }
 
 // One step: all turns over the bytes at hand, until one waits or stops, or the buffer has less room
@@ -38,13 +38,14 @@ pub fn step(
         (length output.old) (position_of position))
         output.old result plan.new.words starts.new output.new }
 {
-    let filled = position.filled();
+    let at_hand = &input[..position.filled()];
     let mut position = position;
     let mut written = 0;
+    // How many turns there are hangs on what each of them uses and writes: they are no range of numbers.
     while LONGEST_LINE <= output.len() - written {
         let turned = turn(
             plan,
-            &input[..filled],
+            at_hand,
             position.place(),
             position.offset(),
             position.is_last(),
@@ -53,7 +54,7 @@ pub fn step(
         );
         position = position.moved(turned.used);
         written += turned.written;
-        if turned.verdict != Turned::GOES_ON {
+        if turned.verdict != Verdict::GoesOn {
             return Stepped {
                 position,
                 written,
@@ -64,6 +65,6 @@ pub fn step(
     Stepped {
         position,
         written,
-        verdict: Turned::GOES_ON,
+        verdict: Verdict::GoesOn,
     }
 }

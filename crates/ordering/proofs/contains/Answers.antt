@@ -1,5 +1,5 @@
 -- `contains` meets its contract: each way out knows what the test of the noted place said.
-use Rattle.std.proofs.Common.{arith, ◌∙◌, ap}
+use Rattle.std.proofs.Common.{arith}
 use Rattle.ordering.proofs.Ordering.{contains-not, contains-there}
 use Rattle.ordering.proofs.contains.Goals as goal
 

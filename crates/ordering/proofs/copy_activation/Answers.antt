@@ -1,7 +1,7 @@
 -- `copy_activation` meets its contract: the entries passed so far stand in both orders.
-use Rattle.std.proofs.Common.{arith, ◌≡◌, ℕ, ◌∙◌}
+use Rattle.std.proofs.Common.{arith, ◌≡◌}
 use Rattle.words.specs.Contents.{contents}
-use Rattle.ordering.proofs.Copying.{Copied, copied_none, copied_all, entry-may, entry-copied}
+use Rattle.ordering.proofs.Copying.{copied_none, copied_all, entry-may, entry-copied}
 use Rattle.ordering.proofs.copy_activation.Goals as goal
 
 pub loop-k-init : goal.loop-k-init

@@ -6,13 +6,13 @@ use Rattle.pump.proofs.Holding.{PumpLoop, bytes_left}
 use Rattle.pump.proofs.Printing.{SoFar}
 use Rattle.pump.proofs.print_day.Given as goal
 
-abbrev pub invariant-loop-is_over : goal.invariant-loop-is_over
-invariant-loop-is_over g l = record {
+abbrev pub invariant-loop-position : goal.invariant-loop-position
+invariant-loop-position g l = record {
   holding : PumpLoop l.bytes l.lines l.starts l.plan.words l.position;
   so_far : (stream : List ℕ)
       → g.R.Read.remaining l.fn.input ≡ Some stream
       → SoFar stream l.bytes l.plan.words l.position (g.R.Read.remaining l.input) (g.W.Write.contents l.fn.output) (g.W.Write.contents l.output);
 }
 
-abbrev pub decreases-loop-is_over : goal.decreases-loop-is_over
-decreases-loop-is_over g l = bytes_left (position_of l.position)
+abbrev pub decreases-loop-position : goal.decreases-loop-position
+decreases-loop-position g l = bytes_left (position_of l.position)

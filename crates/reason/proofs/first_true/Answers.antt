@@ -2,7 +2,6 @@
 use Rattle.std.proofs.Common.{arith, sym, ap, ◌≡◌, ◌+◌, ◌*◌, ◌<◌, ℕ, List, Bool, true, false, eqb, ◌∙◌}
 use Rattle.std.proofs.lemmas.Bool.{eqb-true, eqb-false, eq-eqb, ne_eqb}
 use Rattle.numbers.specs.Lists.{at}
-use Rattle.numbers.specs.Sums.{Task}
 use Rattle.books.specs.Standing.{waiting, activated, running, finished}
 use Rattle.books.specs.Booking.{fed}
 use Rattle.whys.specs.Why as rules

@@ -1,7 +1,6 @@
 -- `is_unended_child` meets its contract: the two words are the child's parent and its standing.
 use Rattle.std.proofs.Common.{arith, sym, ◌∙◌}
 use Rattle.std.proofs.lemmas.Bool.{eq-eqb, ne_eqb}
-use Rattle.books.specs.Standing.{finished}
 use Rattle.words.specs.Contents.{contents}
 use Rattle.words.proofs.Views.{column-at}
 use Rattle.reason.proofs.is_unended_child.Goals as goal

@@ -1,7 +1,6 @@
 -- `why` meets its contract: outside running 3, then 4 for what is no task, then the first that is true.
-use Rattle.std.proofs.Common.{sym, ap, ◌∙◌}
+use Rattle.std.proofs.Common.{sym, ◌∙◌}
 use Rattle.std.proofs.lemmas.Bool.{eqb-true, eqb-false}
-use Rattle.numbers.specs.Sums.{within}
 use Rattle.numbers.proofs.Tests.{clash}
 use Rattle.tree.proofs.Orders.{within-task, task-within}
 use Rattle.whys.proofs.Why.{why-outside, why-nobody}

@@ -2,7 +2,6 @@
 use Rattle.std.proofs.Common.{arith, refl, sym, ◌∙◌}
 use Rattle.std.proofs.lemmas.Result.{err_from_is_err_and}
 use Rattle.refusal.specs.declared.Refusal.TheVariants.{OutOfTurn, PeakAboveBound}
-use Rattle.refusal.specs.Number.{number_of}
 use Rattle.refusal.proofs.Number.{some_number}
 use Rattle.words.specs.Contents.{contents, store_contents}
 use Rattle.words.proofs.Contents.{lengths}

@@ -2,7 +2,6 @@
 use Rattle.std.proofs.Common.{sym, eqb, ◌∙◌}
 use Rattle.std.proofs.lemmas.Bool.{eq-eqb, ne_eqb}
 use Rattle.numbers.proofs.Tests.{or_right, or-none}
-use Rattle.rules.specs.Phase
 use Rattle.words.specs.Contents.{contents}
 use Rattle.day.specs.Day.{begins}
 use Rattle.day.proofs.begin.is_in_turn.Goals as goal

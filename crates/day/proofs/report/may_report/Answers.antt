@@ -1,5 +1,5 @@
 -- `may_report` meets its contract: each way out knows what the tests before it said.
-use Rattle.std.proofs.Common.{arith, sym, ap, ◌≡◌, ◌+◌, ◌*◌, ◌<◌, ℕ, List, true, ◌∙◌}
+use Rattle.std.proofs.Common.{arith, sym, ◌≡◌, ◌+◌, ◌*◌, ◌<◌, ℕ, List, true, ◌∙◌}
 use Rattle.std.proofs.lemmas.Bool.{eqb-true, eqb-false}
 use Rattle.numbers.specs.Lists.{at}
 use Rattle.numbers.specs.Sums.{within}

@@ -1,5 +1,5 @@
 -- `report` meets its contract: a refusal, the root, and any other task.
-use Rattle.std.proofs.Common.{arith, sym, ap, ◌≡◌, ◌+◌, ◌*◌, ◌<◌, ℕ, List, ◌∙◌}
+use Rattle.std.proofs.Common.{arith, sym, ◌≡◌, ◌+◌, ◌*◌, ◌<◌, ℕ, List, ◌∙◌}
 use Rattle.std.proofs.lemmas.Result.{err_from_is_err_and}
 use Rattle.numbers.specs.Lists.{at}
 use Rattle.format.specs.Command.{done}
