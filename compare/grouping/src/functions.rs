@@ -46,11 +46,13 @@ fn find(words: &[Word], from: usize, text: &str) -> usize {
     from + ahead.count()
 }
 
-/// The type of an `impl`, behind its own parameters.
+/// The type of an `impl`, behind its own parameters and behind a trait.
 fn owner_of<'a>(words: &[Word<'a>]) -> &'a str {
-    match words[0].text {
-        "<" => words[find(words, 0, ">") + 1].text,
-        name => name,
+    let of_trait = words.iter().position(|word| word.text == "for");
+    match (of_trait, words[0].text) {
+        (Some(place), _) => words[place + 1].text,
+        (None, "<") => words[find(words, 0, ">") + 1].text,
+        (None, name) => name,
     }
 }
 

@@ -23,6 +23,11 @@ fn middle() -> u8 requires { a ≡ record { b = 2 } } {
 fn high() -> [u8; 2] { three + middle() }
 fn apart() -> u8 { b'}' + \"}{\" + four }
 fn beside() -> u8 { five }
+impl From<Pair<u8>> for Told {
+    ghost from_gives = { λ pair told. told ≡ six pair };
+
+    fn from(pair: Pair<u8>) -> Told { six + 1 }
+}
 ";
 
 fn code() -> Code {
@@ -62,12 +67,14 @@ fn callers_stay_apart() {
         edit("c", "three", "0"),
         edit("d", "four", "0"),
         edit("e", "five", "0"),
+        edit("f", "six + 1", "six"),
     ];
     let expected = [
         &[
             "a some::part::Pair::low",
             "d some::part::apart",
             "e some::part::beside",
+            "f some::part::Told::from",
         ][..],
         &["b some::part::middle"],
         &["c some::part::high"],

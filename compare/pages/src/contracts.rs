@@ -11,6 +11,8 @@ pub struct Function<'a> {
     name: &'a str,
     /// The comment ahead of it, what it is called with, and its contract.
     pub lines: Vec<&'a str>,
+    /// Whether a trait asks for it: its lines begin with those of the `impl`.
+    pub is_of_trait: bool,
     /// Where it stands in the file, its body included.
     pub places: Range<usize>,
     pub kind: Kind,
@@ -32,18 +34,32 @@ impl<'a> Function<'a> {
         let heads: Vec<(usize, Kind, &str)> = (0..lines.len())
             .filter_map(|place| head(lines[place]).map(|(kind, name)| (place, kind, name)))
             .collect();
-        let ends = heads.iter().skip(1).map(|&(place, _, _)| place);
-        let ends: Vec<usize> = ends.chain([lines.len()]).collect();
+        let firsts = heads.iter().map(|&(place, _, _)| {
+            let opened = of_trait(&lines, place);
+            first(&lines, opened.unwrap_or(place))
+        });
+        let ends: Vec<usize> = firsts.clone().skip(1).chain([lines.len()]).collect();
+        let places = firsts.zip(ends).map(|(first, end)| first..end);
         heads
-            .into_iter()
-            .zip(ends)
-            .map(|((place, kind, name), end)| Function {
-                path: &text.path,
-                owner: owner(&lines[..place], lines[place]),
-                name,
-                lines: told(&lines, place, kind),
-                places: first(&lines, place)..end,
-                kind,
+            .iter()
+            .zip(places)
+            .map(|(&(place, kind, name), places)| {
+                let opened = of_trait(&lines, place);
+                Function {
+                    path: &text.path,
+                    owner: owner(&lines[..place], lines[place]),
+                    name,
+                    lines: match opened {
+                        Some(_) => told_of_trait(&lines[places.start..=place]),
+                        None => told(&lines, place, kind),
+                    },
+                    is_of_trait: opened.is_some(),
+                    places,
+                    kind: match opened {
+                        Some(_) => Kind::Public,
+                        None => kind,
+                    },
+                }
             })
             .collect()
     }
@@ -93,8 +109,37 @@ fn owner<'a>(ahead: &[&'a str], line: &str) -> Option<&'a str> {
         return None;
     }
     let opened = ahead.iter().rev().find(|line| line.starts_with("impl"))?;
-    let name = opened.split_whitespace().nth(1)?;
-    name.split('<').next()
+    let name = match opened.split_once(" for ") {
+        Some((_, name)) => name,
+        None => opened.split_whitespace().nth(1)?,
+    };
+    name.split(['<', ' ']).next()
+}
+
+/// Where the `impl` of a trait is opened that a function stands in.
+fn of_trait(lines: &[&str], place: usize) -> Option<usize> {
+    if !lines[place].starts_with(' ') || !lines[place].trim_start().starts_with("fn ") {
+        return None;
+    }
+    let ahead = &lines[..place];
+    let opened = ahead.iter().rposition(|line| line.starts_with("impl"))?;
+    lines[opened].contains(" for ").then_some(opened)
+}
+
+/// What a page tells of a function that a trait asks for: the `impl` with its
+/// clauses, up to what the function is called with.
+fn told_of_trait<'a>(lines: &[&'a str]) -> Vec<&'a str> {
+    let told = lines.iter().filter(|line| !is_of_proof(line));
+    let mut told: Vec<&str> = told.copied().collect();
+    if let Some(last) = told.last_mut() {
+        *last = last.trim_end_matches(" {");
+    }
+    told
+}
+
+/// Whether a line says how a proof is found, which is no promise.
+fn is_of_proof(line: &str) -> bool {
+    line.trim_start().starts_with("#[tactic(")
 }
 
 /// The first line of the comment and the attributes ahead of a head.
@@ -116,6 +161,7 @@ fn told<'a>(lines: &[&'a str], place: usize, kind: Kind) -> Vec<&'a str> {
     let end = if kind == Kind::Type { end + 1 } else { end };
     lines[first(lines, place)..end]
         .iter()
+        .filter(|line| !is_of_proof(line))
         .map(|line| line.get(indent..).unwrap_or(line))
         .collect()
 }
@@ -123,5 +169,6 @@ fn told<'a>(lines: &[&'a str], place: usize, kind: Kind) -> Vec<&'a str> {
 /// Whether a contract begins here.
 fn is_clause(line: &str) -> bool {
     let line = line.trim_start();
-    line.starts_with("requires ") || line.starts_with("ensures ")
+    let words = ["requires ", "ensures ", "ghost "];
+    words.iter().any(|word| line.starts_with(word))
 }

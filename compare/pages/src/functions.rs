@@ -5,16 +5,17 @@ use crate::page::Page;
 use crate::tree::{Crate, Tree};
 
 /// The crates for callers, in the order in which a caller meets them.
-pub const CALLED: [&str; 15] = [
-    "cephlouk", "desk", "reader", "plan", "words", "answer", "question", "reason", "writer",
-    "finding", "measure", "codec", "put", "lines", "printing",
+pub const CALLED: [&str; 16] = [
+    "cephlouk", "desk", "reader", "plan", "words", "answer", "refusal", "question", "reason",
+    "writer", "finding", "measure", "codec", "put", "lines", "printing",
 ];
 
 const LEAD: &str = "\
 Written by `make guarantees` from the crates, as they stand there; `make test` fails where this page is stale. Each public function with what it asks
-(`requires`) and what it promises (`ensures`); one without `requires` asks nothing. Each is proved to meet its contract, to be safe (no index out of
-range, no sum that wraps, no cast that loses bits, no zero divisor) and to end. What the contracts cite stands in `docs/generated/statements.md` for the
-functions for callers, and for the others in the `specs/` of their crate.";
+(`requires`) and what it promises (`ensures`, or the `ghost` line of a trait); one without `requires` asks nothing. Each is proved to meet its contract,
+to be safe (no index out of range, no sum that wraps, no cast that loses bits, no zero divisor) and to end. What the contracts cite stands in
+`docs/generated/statements.md` for the functions for callers, and for the others in the `specs/` of their crate. The methods of `Plan` that read and write
+a word stand with their type, and no caller needs them.";
 
 pub fn page(tree: &Tree) -> Page {
     let mut page = Page::new("functions.md", "Functions", LEAD);
@@ -58,7 +59,7 @@ fn print_crate(page: &mut Page, one: &Crate, is_called: bool) {
 fn text(function: &Function) -> String {
     let lines = function.lines.join("\n");
     match function.name().split_once("::") {
-        Some((owner, _)) => format!("impl {owner}\n{lines}"),
-        None => lines,
+        Some((owner, _)) if !function.is_of_trait => format!("impl {owner}\n{lines}"),
+        _ => lines,
     }
 }
