@@ -21,7 +21,7 @@ pub struct Answer {
 }
 
 // What is answered by a tool that writes to the front of a lent list: how many entries it wrote, bytes of
-// a plan or step numbers of an order. On a refusal nothing is told_count.
+// a plan or step numbers of an order. On a refusal nothing is written.
 #[repr(C)]
 #[derive(Clone, Copy)]
 pub struct Wrote {
