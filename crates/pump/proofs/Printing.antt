@@ -21,7 +21,7 @@ use Rattle.printing.specs.declared.Verdict.TheVariants.{Stops}
 use Rattle.printing.specs.Verdict.{verdict_of}
 use Rattle.pump.specs.Filled.{left_of, came, Filled}
 use Rattle.pump.specs.Written.{WritesFront}
-use Rattle.pump.proofs.Growing.{unwritten, grows, front-of-all}
+use Rattle.pump.proofs.Growing.{unwritten, grows, front-of-all, whole-front}
 use Rattle.pump.proofs.Holding.{PumpLoop, within}
 use Rattle.pump.proofs.Remaining.{rest, step-reached}
 
@@ -163,6 +163,10 @@ module _ {bytes lines starts w : List ℕ} {x : Position} (loop : PumpLoop bytes
     -- what is written is the text of the step
     put-text : Appends holds holds' taken.text
     put-text = subst (Appends holds holds') (step-text stepped) put
+
+    -- all its lines are the front of what is to be printed
+    pub lines-out : WritesFront (print stream) held holds'
+    lines-out = front-of-step stepped holds' (whole-front holds holds' (take r.written lines') put)
 
     -- a step that stops ends what is printed
     pub ends : r.verdict ≡ Stops → Appends held holds' (print stream)

@@ -73,11 +73,11 @@ fn put_out<W: Write>(output: &mut W, lines: &[u8]) -> Result<(), Failed>
     ensures err { OnErr result (WritesFront lines.now (W.contents output.old) (W.contents output.new)) }
     ensures kind { IfErr result (λ failed. failed ≡ Failed.Write) }
 {
-    let mut done = 0;
-    while done < lines.len() {
-        match output.write(&lines[done..]) {
+    let mut left = lines;
+    while !left.is_empty() {
+        match output.write(left) {
             Ok(0) | Err(_) => return Err(Failed::Write),
-            Ok(count) => done += count,
+            Ok(count) => left = &left[count..],
         }
     }
     output.flush().map_err(|_| Failed::Write)

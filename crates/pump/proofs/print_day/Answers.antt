@@ -4,8 +4,7 @@ use Rattle.std.proofs.lemmas.List.{length-replicate}
 use Rattle.printing.specs.Verdict.{verdict_of}
 use Rattle.pump.specs.declared.TheConstants.{ROOM}
 use Rattle.pump.proofs.Holding.{at-start, onward, room, falls, refalls, refilled}
-use Rattle.pump.proofs.Growing.{whole-front}
-use Rattle.pump.proofs.Printing.{if_some, on_err, nothing-yet, ends, front-of-step, advance, too-long, read-on}
+use Rattle.pump.proofs.Printing.{if_some, on_err, nothing-yet, ends, front-of-step, lines-out, advance, too-long, read-on}
 use Rattle.plan.proofs.NewPlan.{new-valid, new-empty}
 use Rattle.pump.proofs.print_day.Goals as goal
 
@@ -39,16 +38,14 @@ returns-in_err-put_out-clause-cut_short g c =
 pub returns-then-not-is_counted-clause-cut_short : goal.returns-then-not-is_counted-clause-cut_short
 returns-then-not-is_counted-clause-cut_short g c =
     let loop = c.loop-position.invariant in
-    let holds = g.W.Write.contents c.put_out.new.output in
     if_some (g.R.Read.remaining c.args.input.now)
-    (λ stream e. front-of-step loop.holding (loop.so_far stream e) c.step-stepped.ensures holds (whole-front _ holds _ c.in_ok-put_out.ensures.ok))
+    (λ stream e. lines-out loop.holding (loop.so_far stream e) c.step-stepped.ensures (g.W.Write.contents c.put_out.new.output) c.in_ok-put_out.ensures.ok)
 
 pub returns-in_default-clause-cut_short : goal.returns-in_default-clause-cut_short
 returns-in_default-clause-cut_short g c =
     let loop = c.loop-position.invariant in
-    let holds = g.W.Write.contents c.put_out.new.output in
     if_some (g.R.Read.remaining c.args.input.now)
-    (λ stream e. front-of-step loop.holding (loop.so_far stream e) c.step-stepped.ensures holds (whole-front _ holds _ c.in_ok-put_out.ensures.ok))
+    (λ stream e. lines-out loop.holding (loop.so_far stream e) c.step-stepped.ensures (g.W.Write.contents c.put_out.new.output) c.in_ok-put_out.ensures.ok)
 
 pub returns-then-not-is_counted-clause-too_long : goal.returns-then-not-is_counted-clause-too_long
 returns-then-not-is_counted-clause-too_long g c =
