@@ -20,7 +20,7 @@ use Rattle.printing.specs.declared.Verdict.TheVariants.{GoesOn, Waits}
 use Rattle.printing.specs.Verdict.{verdict_of}
 use Rattle.position.specs.Standing.{position_of, Stands}
 use Rattle.stepping.specs.Stepped.{Step}
-use Rattle.pump.specs.Filled.{left_of, came, Filled}
+use Rattle.pump.specs.Filled.{left_of, gained, Filled}
 use Rattle.stepping.proofs.Reach.{Reach, step-reach, step-some}
 
 pub record PumpLoop (input output starts w : List ℕ) (x : Position) : Type 0 where
@@ -156,7 +156,7 @@ module _ {input output starts w : List ℕ} {x : Position} (loop : PumpLoop inpu
 
     module _ {E : Type 0} {had has : Option (List ℕ)} {input' : List ℕ} {y : Position} (filled : Filled {E = E} input r.position had input' has (Ok y)) (counted : is_counted (length input) (position_of r.position) ≡ true) where
       abbrev count : ℕ
-      count = came r.position y
+      count = gained r.position y
 
       far : r.position.offset + length input ≤ max_offset
       unfolding is_counted

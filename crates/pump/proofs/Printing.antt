@@ -19,7 +19,7 @@ use Rattle.stepping.specs.declared.Stepped.{Stepped}
 use Rattle.stepping.specs.Stepped.{Step}
 use Rattle.printing.specs.declared.Verdict.TheVariants.{Stops}
 use Rattle.printing.specs.Verdict.{verdict_of}
-use Rattle.pump.specs.Filled.{left_of, came, Filled}
+use Rattle.pump.specs.Filled.{left_of, gained, Filled}
 use Rattle.pump.specs.Written.{WritesFront}
 use Rattle.pump.proofs.Growing.{unwritten, grows, front-of-all, whole-front}
 use Rattle.pump.proofs.Holding.{PumpLoop, within}
@@ -239,7 +239,7 @@ module _ {bytes w : List ℕ} {x : Position} {stream : List ℕ} {has held holds
       → SoFar stream bytes' w y has' held holds
   unfolding fed fronted
   read-on {bytes'} {has'} {E} {y} room filled =
-      let n = came x y in
+      let n = gained x y in
       let given = drop (left_of x) bytes' in
       let read = read-came E given so_far.after has has' n so_far.left filled.behind in
       let place' = ap (λ (y : printer.Position). y.place) filled.position in

@@ -6,7 +6,7 @@ use borrow.Rule.Slice.PartMut.{post_of}
 use Rattle.texts.specs.Printer as rules
 use Rattle.position.specs.declared.Position.{Position}
 use Rattle.position.specs.Standing.{position_of}
-use Rattle.pump.specs.Filled.{left_of, came}
+use Rattle.pump.specs.Filled.{left_of, gained}
 
 -- as many bytes are at hand as were left behind the next command
 pub left_over : (x : rules.Position) {y : rules.Position} {n : ℕ} → y ≡ rules.fronted x → n ≡ y.filled → n ≡ x.filled - x.place
@@ -50,6 +50,6 @@ stays before x left kept given within size count fits e =
     (front left kept given within size ∙ front-stays before x.place left fits e)
 
 -- the bytes at hand afterwards are those that were left and those that a read gave
-pub came-is : (x y : Position) {n : ℕ} → position_of y ≡ rules.fed n (rules.fronted (position_of x)) → came x y ≡ n
+pub gained-is : (x y : Position) {n : ℕ} → position_of y ≡ rules.fed n (rules.fronted (position_of x)) → gained x y ≡ n
 unfolding rules.fed rules.fronted
-came-is x y e = omega (arith, ap (λ (z : rules.Position). z.filled) e)
+gained-is x y e = omega (arith, ap (λ (z : rules.Position). z.filled) e)

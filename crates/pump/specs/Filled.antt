@@ -10,12 +10,12 @@ abbrev pub left_of : Position → ℕ
 left_of x = x.filled - x.place
 
 -- how many bytes a read gave: those at hand afterwards, beyond those that were left
-abbrev pub came : Position → Position → ℕ
-came x y = y.filled - left_of x
+abbrev pub gained : Position → Position → ℕ
+gained x y = y.filled - left_of x
 
 -- what the read answered
 abbrev pub got : {E : Type 0} → Position → Result Position E → Result ℕ E
-got x (Ok y) = Ok (came x y)
+got x (Ok y) = Ok (gained x y)
 got x (Err e) = Err e
 
 -- a buffer before a read and after it, and the bytes that the reader had left and has left, where they are known
@@ -26,5 +26,5 @@ pub record Filled {E : Type 0} (before : List ℕ) (x : Position) (had : Option 
   -- what the read gave stands behind them, and is gone from the reader; nothing is gone where it failed
   pub behind : ReadConsumes had has (got x r) (drop (left_of x) after)
   -- it is never more than there was room for
-  pub within : IfOk r (λ y. came x y ≤ length before - left_of x)
-  pub position : IfOk r (λ y. position_of y ≡ rules.fed (came x y) (rules.fronted (position_of x)))
+  pub within : IfOk r (λ y. gained x y ≤ length before - left_of x)
+  pub position : IfOk r (λ y. position_of y ≡ rules.fed (gained x y) (rules.fronted (position_of x)))

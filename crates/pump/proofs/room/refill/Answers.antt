@@ -3,8 +3,8 @@ use Rattle.std.proofs.Common.{◌≡◌, ◌≤◌, ◌-◌, arith, rules, lengt
 use Rattle.std.proofs.lemmas.Result.{err_from_is_err_and}
 use Rattle.texts.specs.Printer as printer
 use Rattle.position.specs.Standing.{position_of}
-use Rattle.pump.specs.Filled.{left_of, came}
-use Rattle.pump.proofs.Refilling.{left_over, behind, stays, came-is}
+use Rattle.pump.specs.Filled.{left_of, gained}
+use Rattle.pump.proofs.Refilling.{left_over, behind, stays, gained-is}
 use Rattle.pump.proofs.room.refill.Goals as goal
 
 pub slice_bounds-read-count : goal.slice_bounds-read-count
@@ -44,7 +44,7 @@ returns g c =
     let within : left ≤ length kept = omega arith in
     let size : length given ≡ length kept - left = omega arith in
     let all : position_of c.fed.result ≡ printer.fed c.in_ok-count.count (printer.fronted (position_of x)) = cc in
-    let some : came x c.fed.result ≡ c.in_ok-count.count = came-is x c.fed.result all in
+    let some : gained x c.fed.result ≡ c.in_ok-count.count = gained-is x c.fed.result all in
     record {
       front = stays c.args.buffer.now x left kept given within size count (omega arith) (rw c.filled-left.ensures c.to_front-position.ensures.1);
       size = search rules;
