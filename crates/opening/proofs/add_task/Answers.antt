@@ -1,6 +1,5 @@
 -- `add_task` meets its contract: each way out knows its ground, and the row that is written is the next task of the rules.
-use Rattle.std.proofs.Common.{arith, sym, ap, ap₂, ◌≡◌, ◌≤◌, ◌+◌, ℕ, List, ◌∙◌, cond, eqb}
-use Rattle.std.proofs.lemmas.Bool.{eqb-true, eqb-false}
+use Rattle.std.proofs.Common.{arith, ap, ap₂, ◌≡◌, ◌≤◌, ◌+◌, ℕ, List, ◌∙◌, cond, eqb}
 use Rattle.rules.specs.Phase
 use Rattle.refusal.specs.declared.Refusal.TheVariants.{OutOfTurn, OutsideLimits}
 use Rattle.numbers.specs.Lists.{at}
@@ -10,6 +9,7 @@ use Rattle.words.proofs.Contents.{lengths}
 use Rattle.answer.specs.Sound.{Sound}
 use Rattle.answer.proofs.Obeying.{refusal, acceptance}
 use Rattle.opening.proofs.Adding.{filled, in-columns, filled-sound, filled-means, add-late, add-parent, add_free, filled-contents}
+use Rattle.words.proofs.Tests.{are-same, are-apart}
 use Rattle.opening.proofs.add_task.Goals as goal
 
 given-small :
@@ -25,32 +25,32 @@ pub returns-then-not-is_in : goal.returns-then-not-is_in
 returns-then-not-is_in c =
     refusal OutOfTurn c.requires.sound
     (add-late (contents c.args.plan.now.words) c.args.parent c.args.work c.args.out
-    (eqb-false _ _ (sym c.is_in.ensures ∙ c.if-not-is_in.true)))
+    (are-apart c.is_in.ensures c.if-not-is_in.true))
 
 pub returns-then-size-parent : goal.returns-then-size-parent
 unfolding contents
 returns-then-size-parent c =
     refusal OutsideLimits c.requires.sound
     (add-parent (contents c.args.plan.now.words) c.args.parent c.args.work c.args.out
-    (eqb-true _ _ (sym c.is_in.ensures ∙ c.if-not-is_in.false)) (omega (arith, c.if-size-parent.true, c.cell-size.ensures)))
+    (are-same c.is_in.ensures c.if-not-is_in.false) (omega (arith, c.if-size-parent.true, c.cell-size.ensures)))
 
 pub set_cell-requires : goal.set_cell-requires
 set_cell-requires c =
-    (given-small c.args.plan.now.words c.requires.sound (eqb-true _ _ (sym c.is_in.ensures ∙ c.if-not-is_in.false)) c.cell-given.ensures, omega arith)
+    (given-small c.args.plan.now.words c.requires.sound (are-same c.is_in.ensures c.if-not-is_in.false) c.cell-given.ensures, omega arith)
 
 pub set_cell-requires-2 : goal.set_cell-requires-2
 set_cell-requires-2 c =
-    (given-small c.args.plan.now.words c.requires.sound (eqb-true _ _ (sym c.is_in.ensures ∙ c.if-not-is_in.false)) c.cell-given.ensures, omega arith)
+    (given-small c.args.plan.now.words c.requires.sound (are-same c.is_in.ensures c.if-not-is_in.false) c.cell-given.ensures, omega arith)
 
 pub set_cell-requires-3 : goal.set_cell-requires-3
 set_cell-requires-3 c =
-    (given-small c.args.plan.now.words c.requires.sound (eqb-true _ _ (sym c.is_in.ensures ∙ c.if-not-is_in.false)) c.cell-given.ensures, omega arith)
+    (given-small c.args.plan.now.words c.requires.sound (are-same c.is_in.ensures c.if-not-is_in.false) c.cell-given.ensures, omega arith)
 
 pub overflow_add-given : goal.overflow_add-given
 overflow_add-given c =
     omega (
       arith,
-      given-small c.args.plan.now.words c.requires.sound (eqb-true _ _ (sym c.is_in.ensures ∙ c.if-not-is_in.false)) c.cell-given.ensures,
+      given-small c.args.plan.now.words c.requires.sound (are-same c.is_in.ensures c.if-not-is_in.false) c.cell-given.ensures,
     )
 
 pub returns : goal.returns
@@ -58,7 +58,7 @@ unfolding contents
 returns c =
     let w = c.args.plan.now.words in
     let sound = c.requires.sound in
-    let turn = eqb-true (contents w).phase Phase.steps (sym c.is_in.ensures ∙ c.if-not-is_in.false) in
+    let turn = are-same c.is_in.ensures c.if-not-is_in.false in
     let small = in-columns (contents w) sound turn in
     let given = c.cell-given.ensures in
     let work = c.ranges.work in
