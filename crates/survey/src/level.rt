@@ -1,11 +1,12 @@
 // The level of a store as the tasks of the activation order run one at a time, and the largest sum
-// with its task. A store is given by its offset in a row.
+// with its task.
 ghost use Rattle.std.specs.Prelude.{◌≡◌, ◌+◌, ◌^◌, ◌<◌, take};
 ghost use Rattle.numbers.specs.Lists.{at};
 ghost use Rattle.tree.specs.Peak;
 ghost use Rattle.words.specs.Contents.{contents, store_contents};
 ghost use Rattle.survey.specs.Level.{AtRow, kept_out, MayFeed, Fed, MayRun, MayPeak, meant, higher};
 
+use store::Store;
 use words::plan::Plan;
 
 // A row for each task, and row 0 for nobody.
@@ -19,13 +20,13 @@ pub struct Peaked {
 }
 
 // Adds the out of each task to the entry of its parent.
-fn feed(plan: &Plan, store: usize, n: usize, fed: &mut [u64; ROWS])
-    requires { MayFeed n store plan.now.words fed.old }
-    ensures { Fed n (at (contents plan.now.words).parents) (at (store_contents store plan.now.words).outs) fed.new }
+fn feed(plan: &Plan, store: Store, n: usize, fed: &mut [u64; ROWS])
+    requires { MayFeed n store.offset plan.now.words fed.old }
+    ensures { Fed n (at (contents plan.now.words).parents) (at (store_contents store.offset plan.now.words).outs) fed.new }
 {
     for task in 1..n + 1 {
         let parent = plan.cell(task, Plan::PARENT) as usize;
-        let out = plan.cell(task, store + Plan::OUT) as u64;
+        let out = plan.cell(task, store.offset + Plan::OUT) as u64;
         fed[parent] += out;
     }
 }
@@ -41,22 +42,22 @@ fn highest_of(best: Peaked, trays: u64, task: u16) -> Peaked
 }
 
 // What the store holds while a task runs: its work and its out, and what was there.
-fn sum(plan: &Plan, store: usize, task: usize, level: u64) -> u64
-    requires { AtRow store task × (level < 2 ^ 63) }
-    ensures { result ≡ level + at (store_contents store plan.now.words).works task + at (store_contents store plan.now.words).outs task }
+fn sum(plan: &Plan, store: Store, task: usize, level: u64) -> u64
+    requires { AtRow store.offset task × (level < 2 ^ 63) }
+    ensures { result ≡ level + at (store_contents store.offset plan.now.words).works task + at (store_contents store.offset plan.now.words).outs task }
 {
-    let work = plan.cell(task, store + Plan::WORK) as u64;
-    let out = plan.cell(task, store + Plan::OUT) as u64;
+    let work = plan.cell(task, store.offset + Plan::WORK) as u64;
+    let out = plan.cell(task, store.offset + Plan::OUT) as u64;
     level + work + out
 }
 
 // What a task leaves in the store: its out, but nothing where it is the root.
-fn kept_out(plan: &Plan, store: usize, task: usize) -> u64
-    requires { AtRow store task }
-    ensures { (result ≡ kept_out (at (contents plan.now.words).parents task) (at (store_contents store plan.now.words).outs task))
+fn kept_out(plan: &Plan, store: Store, task: usize) -> u64
+    requires { AtRow store.offset task }
+    ensures { (result ≡ kept_out (at (contents plan.now.words).parents task) (at (store_contents store.offset plan.now.words).outs task))
         × (result < 2 ^ 32) }
 {
-    let out = plan.cell(task, store + Plan::OUT) as u64;
+    let out = plan.cell(task, store.offset + Plan::OUT) as u64;
     if plan.cell(task, Plan::PARENT) == 0 {
         0
     } else {
@@ -65,10 +66,10 @@ fn kept_out(plan: &Plan, store: usize, task: usize) -> u64
 }
 
 // The largest sum along the order and its task, with the outs of the children of each task at hand.
-fn highest(plan: &Plan, store: usize, n: usize, fed: &[u64; ROWS]) -> Peaked
-    requires { MayRun n store plan.now.words fed.now }
-    ensures { meant result ≡ Peak.peaked n (at (contents plan.now.words).parents) (at (store_contents store plan.now.words).works)
-        (at (store_contents store plan.now.words).outs) (take n (contents plan.now.words).activation) }
+fn highest(plan: &Plan, store: Store, n: usize, fed: &[u64; ROWS]) -> Peaked
+    requires { MayRun n store.offset plan.now.words fed.now }
+    ensures { meant result ≡ Peak.peaked n (at (contents plan.now.words).parents) (at (store_contents store.offset plan.now.words).works)
+        (at (store_contents store.offset plan.now.words).outs) (take n (contents plan.now.words).activation) }
 {
     // No sum is below 0, and where all are 0 the first is the earliest.
     let first = plan.entry(Plan::ACTIVATION, 0) as u16;
@@ -86,10 +87,10 @@ fn highest(plan: &Plan, store: usize, n: usize, fed: &[u64; ROWS]) -> Peaked
 }
 
 // The peak of the activation order with its task, where it is valid.
-pub(crate) fn peak(plan: &Plan, store: usize, n: usize) -> Peaked
-    requires { MayPeak n store plan.now.words }
-    ensures { meant result ≡ Peak.peaked n (at (contents plan.now.words).parents) (at (store_contents store plan.now.words).works)
-        (at (store_contents store plan.now.words).outs) (take n (contents plan.now.words).activation) }
+pub(crate) fn peak(plan: &Plan, store: Store, n: usize) -> Peaked
+    requires { MayPeak n store.offset plan.now.words }
+    ensures { meant result ≡ Peak.peaked n (at (contents plan.now.words).parents) (at (store_contents store.offset plan.now.words).works)
+        (at (store_contents store.offset plan.now.words).outs) (take n (contents plan.now.words).activation) }
 {
     let mut fed = [0u64; ROWS];
     feed(plan, store, n, &mut fed);

@@ -14,6 +14,7 @@ pub use checks::roots;
 pub use figures::prepare;
 pub use level::Peaked;
 use refusal::Refusal;
+use store::Store;
 use words::plan::Plan;
 
 // Grounds 7 and 8 against the activation order of a plan, and its peak with its task where there is
@@ -24,5 +25,5 @@ pub fn survey(plan: &Plan) -> Result<Peaked, Refusal>
 {
     let n = plan.cell(Plan::HEAD, Plan::SIZE) as usize;
     checks::ground(plan, n)?;
-    Ok(level::peak(plan, Plan::CHILLED, n))
+    Ok(level::peak(plan, Store::CHILLED, n))
 }

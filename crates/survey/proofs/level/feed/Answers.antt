@@ -44,7 +44,7 @@ pub loop-task-preserved : goal.loop-task-preserved
 loop-task-preserved c =
     let small = c.requires.parented.small in
     let up = parent _ _ c.loop-task.task c.requires.parented (omega arith) (omega arith) _ c.cell-parent.ensures in
-    let out = c.cell-out.ensures ∙ out_at c.args.plan.now.words c.loop-task.task (omega arith) c.args.store in
+    let out = c.cell-out.ensures ∙ out_at c.args.plan.now.words c.loop-task.task (omega arith) c.args.store.offset in
     let task_is : c.loop-task.task - 1 + 1 ≡ c.loop-task.task = omega arith in
     let next_is : c.loop-task.task + 1 - 1 ≡ c.loop-task.task - 1 + 1 = omega arith in
     rw next_is

@@ -6,4 +6,4 @@ use Rattle.survey.proofs.level.feed.Given as goal
 
 abbrev pub invariant-loop-task : goal.invariant-loop-task
 invariant-loop-task l =
-    Feeding l.n (at (contents l.plan.words).parents) (at (store_contents l.store l.plan.words).outs) (l.task - 1) l.fed
+    Feeding l.n (at (contents l.plan.words).parents) (at (store_contents l.store.offset l.plan.words).outs) (l.task - 1) l.fed

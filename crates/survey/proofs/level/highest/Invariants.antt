@@ -6,5 +6,5 @@ use Rattle.survey.proofs.level.highest.Given as goal
 
 abbrev pub invariant-loop-place : goal.invariant-loop-place
 invariant-loop-place l =
-    RunSoFar l.n (at (contents l.plan.words).parents) (at (store_contents l.store l.plan.words).works)
-    (at (store_contents l.store l.plan.words).outs) (contents l.plan.words).activation l.place l.level (meant l.best)
+    RunSoFar l.n (at (contents l.plan.words).parents) (at (store_contents l.store.offset l.plan.words).works)
+    (at (store_contents l.store.offset l.plan.words).outs) (contents l.plan.words).activation l.place l.level (meant l.best)

@@ -10,5 +10,5 @@ returns-then-cell-eq0 c =
 pub returns-else-cell-eq0 : goal.returns-else-cell-eq0
 returns-else-cell-eq0 c =
     let parent = c.cell.ensures ∙ parent-at _ c.args.task (omega arith) in
-    let out = c.cell-out.ensures ∙ out_at c.args.plan.now.words c.args.task (omega arith) c.args.store in
+    let out = c.cell-out.ensures ∙ out_at c.args.plan.now.words c.args.task (omega arith) c.args.store.offset in
     (rw (ne_eqb _ 0 (λ e. c.if-cell-eq0.false (parent ∙ e))) out, omega arith)

@@ -5,6 +5,6 @@ use Rattle.survey.proofs.level.sum.Goals as goal
 pub returns : goal.returns
 returns c =
     let w = c.args.plan.now.words in
-    let work = c.cell-work.ensures ∙ work-at w c.args.task (omega arith) c.args.store in
-    let out = c.cell-out.ensures ∙ out_at w c.args.task (omega arith) c.args.store in
+    let work = c.cell-work.ensures ∙ work-at w c.args.task (omega arith) c.args.store.offset in
+    let out = c.cell-out.ensures ∙ out_at w c.args.task (omega arith) c.args.store.offset in
     omega arith
