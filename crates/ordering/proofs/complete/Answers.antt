@@ -11,10 +11,11 @@ use Rattle.ordering.proofs.complete.Goals as goal
 pub copy_activation-requires : goal.copy_activation-requires
 unfolding contents
 copy_activation-requires c =
-    let w = c.args.plan.now.words in
-    (c.requires.0,
-    in-turn-alone (plan_of w) c.requires.1
-    (placed-length (contents w) c.requires.0.sound (lengths w) ∙ sym c.cell.ensures ∙ c.if-cell-eq0.true))
+    let w = c.args.plan.now.words in (
+      c.requires.0,
+      in-turn-alone (plan_of w) c.requires.1
+          (placed-length (contents w) c.requires.0.sound (lengths w) ∙ sym c.cell.ensures ∙ c.if-cell-eq0.true),
+    )
 
 pub returns-else-cell-eq0 : goal.returns-else-cell-eq0
 unfolding contents

@@ -49,9 +49,10 @@ missing-units-requires c =
 
 pub shortage-lack-requires : goal.shortage-lack-requires
 shortage-lack-requires c =
-    let a = c.requires in
-    (record { offset = refl; inside = omega arith },
-    within-bound (contents c.args.plan.now.words) a.valid.reached a.valid.sound a.runs (lengths c.args.plan.now.words))
+    let a = c.requires in (
+      record { offset = refl; inside = omega arith },
+      within-bound (contents c.args.plan.now.words) a.valid.reached a.valid.sound a.runs (lengths c.args.plan.now.words),
+    )
 
 pub returns : goal.returns
 unfolding rules.lacks
