@@ -133,28 +133,7 @@ fn start(byte: u8, operand: u16, page: &mut Page)
     page.little(2, operand as u64);
 }
 
-// The bytes of a command, put on a page. STEP, 03 and 04, of which a plan has one for each task, come
-// by themselves too, so that whoever writes many of one kind need not choose the kind each time.
-pub fn encode_task(parent: u16, work: u16, out: u16, page: &mut Page)
-    ensures { Puts (rules.bytes (rules.task parent work out)) page.old page.new }
-{
-    start(2, parent, page);
-    page.little(2, work as u64);
-    page.little(2, out as u64);
-}
-
-pub fn encode_activation(task: u16, page: &mut Page)
-    ensures { Puts (rules.bytes (rules.activation task)) page.old page.new }
-{
-    start(3, task, page);
-}
-
-pub fn encode_execution(task: u16, page: &mut Page)
-    ensures { Puts (rules.bytes (rules.execution task)) page.old page.new }
-{
-    start(4, task, page);
-}
-
+// The bytes of a command, put on a page.
 pub fn encode(command: Command, page: &mut Page)
     ensures { Puts (rules.bytes (command_of command)) page.old page.new }
 {
@@ -164,9 +143,13 @@ pub fn encode(command: Command, page: &mut Page)
             page.little(1, p as u64);
             page.little(4, bound as u64);
         }
-        Command::Task { parent, work, out } => encode_task(parent, work, out, page),
-        Command::Activation(task) => encode_activation(task, page),
-        Command::Execution(task) => encode_execution(task, page),
+        Command::Task { parent, work, out } => {
+            start(2, parent, page);
+            page.little(2, work as u64);
+            page.little(2, out as u64);
+        }
+        Command::Activation(task) => start(3, task, page),
+        Command::Execution(task) => start(4, task, page),
         Command::Begin => page.byte(5),
         Command::Done(task) => start(6, task, page),
         Command::Fetch => page.byte(7),
