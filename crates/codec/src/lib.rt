@@ -42,14 +42,16 @@ fn after(given: &[u8], count: usize) -> &[u8]
 }
 
 // The number in the first `WIDTH` bytes, the lowest first. A byte past the end counts as 0.
-fn number<const WIDTH: usize>(given: &[u8]) -> u32
+fn number<const WIDTH: usize>(given: &[u8]) -> u64
     requires { WIDTH ≤ 4 }
     ensures lowest_first { result ≡ rules.number WIDTH given.now }
     ensures fits { result < 256 ^ WIDTH }
 {
     let mut sum = 0;
-    for place in (0..WIDTH).rev() {
-        sum = 256 * sum + given.get(place).copied().unwrap_or(0) as u32;
+    let mut unit: u64 = 1;
+    for place in 0..WIDTH {
+        sum += unit * given.get(place).copied().unwrap_or(0) as u64;
+        unit *= 256;
     }
     sum
 }
@@ -79,7 +81,7 @@ fn table(byte: u8, given: &[u8]) -> Result<Read, Refusal>
             Command::Plan {
                 n: number::<2>(given) as u16,
                 p: number::<1>(after(given, 2)) as u8,
-                bound: number::<4>(after(given, 3)),
+                bound: number::<4>(after(given, 3)) as u32,
             },
         ),
         2 => whole(
@@ -96,7 +98,7 @@ fn table(byte: u8, given: &[u8]) -> Result<Read, Refusal>
         5 => whole(given, 0, Command::Begin),
         6 => whole(given, 2, Command::Done(number::<2>(given) as u16)),
         7 => whole(given, 0, Command::Fetch),
-        8 => whole(given, 4, Command::Places(number::<4>(given))),
+        8 => whole(given, 4, Command::Places(number::<4>(given) as u32)),
         _ => Err(Refusal::UnknownByte),
     }
 }
