@@ -1,7 +1,7 @@
 // Bytes to commands and back: "A command is one byte and operands of fixed width, lowest byte first."
 #![tactic(auto)]
 
-ghost use Rattle.std.specs.Prelude.{◌≡◌, ◌∷◌, drop};
+ghost use Rattle.std.specs.Prelude.{◌≡◌, ◌≤◌, ◌<◌, ◌^◌, ◌∷◌, drop};
 ghost use Rattle.format.specs.Command as rules;
 ghost use Rattle.put.specs.Pages.{Puts};
 ghost use Rattle.codec.specs.Meaning.{command_of, decoded};
@@ -41,32 +41,19 @@ fn after(given: &[u8], count: usize) -> &[u8]
     &given[count.min(given.len())..]
 }
 
-// The number in the first byte, the first two and the first four, the lowest byte first. A byte past
-// the end counts as 0.
-#[tactic(auto, unfolding(format::specs::Command::number))]
-fn one(given: &[u8]) -> u8
-    ensures { result ≡ rules.number 1 given.now }
+// The number in the first `WIDTH` bytes, the lowest first. A byte past the end counts as 0.
+fn number<const WIDTH: usize>(given: &[u8]) -> u64
+    requires { WIDTH ≤ 4 }
+    ensures lowest_first { result ≡ rules.number WIDTH given.now }
+    ensures fits { result < 256 ^ WIDTH }
 {
-    given.first().copied().unwrap_or(0)
-}
-
-#[tactic(auto, unfolding(format::specs::Command::number))]
-fn two(given: &[u8]) -> u16
-    ensures { result ≡ rules.number 2 given.now }
-{
-    u16::from_le_bytes([one(given), one(after(given, 1))])
-}
-
-#[tactic(auto, unfolding(format::specs::Command::number))]
-fn four(given: &[u8]) -> u32
-    ensures { result ≡ rules.number 4 given.now }
-{
-    u32::from_le_bytes([
-        one(given),
-        one(after(given, 1)),
-        one(after(given, 2)),
-        one(after(given, 3)),
-    ])
+    let mut sum = 0;
+    let mut unit: u64 = 1;
+    for place in 0..WIDTH {
+        sum += unit * given.get(place).copied().unwrap_or(0) as u64;
+        unit *= 256;
+    }
+    sum
 }
 
 // A command with `width` bytes of operands, or "operands are cut short" (1).
@@ -92,26 +79,26 @@ fn table(byte: u8, given: &[u8]) -> Result<Read, Refusal>
             given,
             7,
             Command::Plan {
-                n: two(given),
-                p: one(after(given, 2)),
-                bound: four(after(given, 3)),
+                n: number::<2>(given) as u16,
+                p: number::<1>(after(given, 2)) as u8,
+                bound: number::<4>(after(given, 3)) as u32,
             },
         ),
         2 => whole(
             given,
             6,
             Command::Task {
-                parent: two(given),
-                work: two(after(given, 2)),
-                out: two(after(given, 4)),
+                parent: number::<2>(given) as u16,
+                work: number::<2>(after(given, 2)) as u16,
+                out: number::<2>(after(given, 4)) as u16,
             },
         ),
-        3 => whole(given, 2, Command::Activation(two(given))),
-        4 => whole(given, 2, Command::Execution(two(given))),
+        3 => whole(given, 2, Command::Activation(number::<2>(given) as u16)),
+        4 => whole(given, 2, Command::Execution(number::<2>(given) as u16)),
         5 => whole(given, 0, Command::Begin),
-        6 => whole(given, 2, Command::Done(two(given))),
+        6 => whole(given, 2, Command::Done(number::<2>(given) as u16)),
         7 => whole(given, 0, Command::Fetch),
-        8 => whole(given, 4, Command::Places(four(given))),
+        8 => whole(given, 4, Command::Places(number::<4>(given) as u32)),
         _ => Err(Refusal::UnknownByte),
     }
 }
@@ -133,28 +120,7 @@ fn start(byte: u8, operand: u16, page: &mut Page)
     page.little(2, operand as u64);
 }
 
-// The bytes of a command, put on a page. STEP, 03 and 04, of which a plan has one for each task, come
-// by themselves too, so that whoever writes many of one kind need not choose the kind each time.
-pub fn encode_task(parent: u16, work: u16, out: u16, page: &mut Page)
-    ensures { Puts (rules.bytes (rules.task parent work out)) page.old page.new }
-{
-    start(2, parent, page);
-    page.little(2, work as u64);
-    page.little(2, out as u64);
-}
-
-pub fn encode_activation(task: u16, page: &mut Page)
-    ensures { Puts (rules.bytes (rules.activation task)) page.old page.new }
-{
-    start(3, task, page);
-}
-
-pub fn encode_execution(task: u16, page: &mut Page)
-    ensures { Puts (rules.bytes (rules.execution task)) page.old page.new }
-{
-    start(4, task, page);
-}
-
+// The bytes of a command, put on a page.
 pub fn encode(command: Command, page: &mut Page)
     ensures { Puts (rules.bytes (command_of command)) page.old page.new }
 {
@@ -164,9 +130,13 @@ pub fn encode(command: Command, page: &mut Page)
             page.little(1, p as u64);
             page.little(4, bound as u64);
         }
-        Command::Task { parent, work, out } => encode_task(parent, work, out, page),
-        Command::Activation(task) => encode_activation(task, page),
-        Command::Execution(task) => encode_execution(task, page),
+        Command::Task { parent, work, out } => {
+            start(2, parent, page);
+            page.little(2, work as u64);
+            page.little(2, out as u64);
+        }
+        Command::Activation(task) => start(3, task, page),
+        Command::Execution(task) => start(4, task, page),
         Command::Begin => page.byte(5),
         Command::Done(task) => start(6, task, page),
         Command::Fetch => page.byte(7),

@@ -18,7 +18,7 @@ ghost use Rattle.answer.specs.ValidPlan.{ValidPlan};
 ghost use Rattle.put.specs.Pages.{Puts};
 ghost use Rattle.writer.specs.Writing.{WholePlan, WholeTask, OrderAt};
 
-use codec::{Command, encode, encode_activation, encode_execution, encode_task};
+use codec::{Command, encode};
 use put::Page;
 use refusal::Refusal;
 use words::order::Order;
@@ -54,7 +54,7 @@ fn write_task(plan: &Plan, task: usize, page: &mut Page)
     let parent = plan.cell(task, Plan::PARENT) as u16;
     let work = plan.cell(task, Plan::CHILLED + Plan::WORK) as u16;
     let out = plan.cell(task, Plan::CHILLED + Plan::OUT) as u16;
-    encode_task(parent, work, out, page);
+    encode(Command::Task { parent, work, out }, page);
 }
 
 // All tasks, by their numbers.
@@ -74,8 +74,8 @@ fn write_entry(order: Order, task: u16, page: &mut Page)
     ensures { Puts (rules.bytes (next_in order task)) page.old page.new }
 {
     match order {
-        Order::Activation => encode_activation(task, page),
-        Order::Execution => encode_execution(task, page),
+        Order::Activation => encode(Command::Activation(task), page),
+        Order::Execution => encode(Command::Execution(task), page),
     }
 }
 

@@ -28,4 +28,4 @@ returns c =
       ← (c.cell-work.ensures ∙ work-read c.requires),
       ← (c.cell-out.ensures ∙ out-read c.requires),
     )
-    c.encode_task.ensures
+    c.encode.ensures
