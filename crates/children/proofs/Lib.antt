@@ -11,5 +11,4 @@ pub mod Keys
 pub mod Threads
 pub mod Merges
 pub mod Halves
-pub mod Counting
 pub mod SortedChildren

@@ -13,7 +13,7 @@ use Rattle.numbers.proofs.Tests.{same_or_not}
 use Rattle.tree.proofs.Orders.{mem-here, mem-more}
 use Rattle.children.specs.Scratch.{tall, first, sibling, field}
 use Rattle.children.specs.Links.{Passes}
-use Rattle.children.specs.Linked.{linked_from, linked_in, Linked}
+use Rattle.children.specs.Linked.{linked_from, linked_in, LinkedFrom, Linked}
 use Rattle.children.proofs.Following.{passes_same, passes-some, passes_none, passes-follows, follows-few}
 
 -- the children that are left, from `child` on
@@ -77,18 +77,6 @@ walking-less w child rest w' next later a b e =
     let one : length rest ≡ suc (length later) = ap length e in
     omega arith
 
--- where no column changes
-pub walking-falls :
-    (w : List ℕ) (child : ℕ) (rest : List ℕ)
-    → Walking w child rest
-    → (child ≡ 0 → ⊥)
-    → (next : ℕ)
-    → next ≡ field sibling w child
-    → length (linked_from w next) < length (linked_from w child)
-walking-falls w child rest a d next e =
-    let step = walking-step w child rest a d in
-    walking-less w child rest w next step.later a (step.next next e) step.split
-
 pub walking-none : (w : List ℕ) (i child : ℕ) → Linked w i → child ≡ field first w i → Walking w child (linked_in w i)
 walking-none w i child linked e =
     record {
@@ -116,3 +104,30 @@ walking-same w w' child rest same a =
       task = a.task;
       few = a.few;
     }
+
+-- those linked from one on: none from nobody on, or one of them and those behind it
+module _ (w : List ℕ) (x : ℕ) (a : LinkedFrom w x) where
+  walk : Walking w x (linked_from w x)
+  walk = record { left = a.list; task = a.each; few = follows-few tall (field sibling w) x }
+
+  pub from-end : x ≡ 0 → linked_from w x ≡ []
+  from-end = walking-end w x (linked_from w x) walk
+
+  pub from-task : (x ≡ 0 → ⊥) → Task max_tasks x
+  from-task = walking-task w x (linked_from w x) walk
+
+  module _ (d : x ≡ 0 → ⊥) (next : ℕ) (e : next ≡ field sibling w x) where
+    step : Step w x (linked_from w x)
+    step = walking-step w x (linked_from w x) walk d
+
+    later : Walking w next step.later
+    later = step.next next e
+
+    is : linked_from w next ≡ step.later
+    is = walking-left w next step.later later
+
+    pub from-split : linked_from w x ≡ x ∷ linked_from w next
+    from-split = step.split ∙ ap (λ (l : List ℕ). x ∷ l) (sym is)
+
+    pub from-next : LinkedFrom w next
+    from-next = record { list = rw is later.left; each = λ c m. later.task c (rw is at m) }

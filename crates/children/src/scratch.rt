@@ -1,9 +1,12 @@
 // The scratch array: six columns, each with an entry for every task and entry 0 for nobody. All memory is
-// fixed, so that the children of a task are a list of links from entry to entry, and whoever goes along one
-// goes to the next sibling until 0 comes; on the way other entries are written.
+// fixed, so that the children of a task are a list of links from entry to entry. `Children` goes along one;
+// whoever writes other entries on the way goes to the next sibling until 0 comes.
 ghost use Rattle.std.specs.Prelude.{◌≡◌, ◌+◌, ◌^◌, ◌<◌, replicate, set};
+ghost use Rattle.std.specs.Iterator.{YieldsFirst, item_count};
 ghost use Rattle.children.specs.Scratch.{base_of, cells, field};
+ghost use Rattle.children.specs.Linked.{linked_in, Linked};
 
+use std::marker::Model;
 use words::plan::Plan;
 
 #[derive(Clone, Copy, Debug, PartialEq, Eq)]
@@ -54,5 +57,51 @@ impl Scratch {
         ensures { self.new.cells ≡ set self.old.cells (base_of column + i) value }
     {
         self.cells[column as usize * Scratch::TALL + i] = value as u32;
+    }
+
+    // The children of a task, as they are linked.
+    pub fn children(&self, task: usize) -> Children<'_>
+        requires { Linked self.now.cells task }
+        ensures { result ≡ linked_in self.now.cells task }
+    {
+        Children {
+            scratch: self,
+            next: self.get(Column::First, task),
+        }
+    }
+}
+
+// A walk along a list of links, as the list of the tasks that are left.
+#[derive(Drop)]
+pub struct Children<'a> {
+    scratch: &'a Scratch,
+    next: usize,
+}
+
+impl<'a> Model for Children<'a> {
+    ghost use Rattle.std.specs.Prelude.{List, ℕ};
+    ghost use Rattle.children.specs.Linked.{linked_from, LinkedFrom};
+
+    ghost Value = { List ℕ };
+
+    ghost view = { λ c. linked_from c.scratch.now.cells c.next };
+
+    ghost invariant = { λ c. LinkedFrom c.scratch.now.cells c.next };
+}
+
+impl Iterator for Children<'_> {
+    type Item = usize;
+
+    ghost next_gives = { YieldsFirst (λ left. left) };
+
+    ghost remaining = { item_count (λ left. left) };
+
+    fn next(&mut self) -> Option<usize> {
+        if self.next == 0 {
+            return None;
+        }
+        let child = self.next;
+        self.next = self.scratch.get(Column::Sibling, child);
+        Some(child)
     }
 }

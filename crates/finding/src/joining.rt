@@ -19,11 +19,9 @@ fn subtree_peak(plan: &Plan, scratch: &Scratch, task: usize) -> usize
 {
     let mut best: usize = 0;
     let mut level = 0;
-    let mut child = scratch.get(Column::First, task);
-    while child != 0 {
+    for child in scratch.children(task) {
         best = best.max(level + scratch.get(Column::SubtreePeak, child));
         level += plan.cell(child, Plan::CHILLED + Plan::OUT) as usize;
-        child = scratch.get(Column::Sibling, child);
     }
     let work = plan.cell(task, Plan::CHILLED + Plan::WORK) as usize;
     let out = plan.cell(task, Plan::CHILLED + Plan::OUT) as usize;
@@ -31,7 +29,8 @@ fn subtree_peak(plan: &Plan, scratch: &Scratch, task: usize) -> usize
 }
 
 // The orders of the children are linked one behind the other, from nobody's entry on, and the task
-// behind them. An order ends with its own task, so that its last entry is known.
+// behind them. An order ends with its own task, so that its last entry is known. Entries are written on
+// the way, which nothing that borrows the scratch array allows: the next sibling is read by hand.
 fn link_orders(scratch: &mut Scratch, task: usize)
     requires { Linked scratch.old.cells task × (length scratch.old.cells ≡ cells) }
     ensures { Joined scratch.old.cells task scratch.new.cells }

@@ -6,7 +6,8 @@ ghost use Rattle.finding.specs.Reaching.{MayAppend, Appended, MayReach, Reached}
 use children::scratch::{Column, Scratch};
 use words::plan::Plan;
 
-// The children of a task go behind those that are reached.
+// The children of a task go behind those that are reached. The queue is written on the way, which nothing
+// that borrows the scratch array allows: the next sibling is read by hand.
 fn reach_children(scratch: &mut Scratch, task: usize, count: usize) -> usize
     requires { MayAppend scratch.old.cells task count }
     ensures { Appended scratch.old.cells task count scratch.new.cells result }

@@ -1,44 +1,29 @@
--- A loop that counts the tasks that pass a test.
+-- How many tasks pass a test, as they are counted among the numbers from 1 on.
 use mathlib.Core.Path.{◌≡◌, refl}
-use mathlib.Core.Bool.{Bool, true, false}
-use Prim.Native.Nat.{ℕ, ◌+◌, ◌-◌, ◌<◌}
+use mathlib.Core.Bool.{Bool, true}
+use mathlib.Core.Logic.{⊎_elim}
+use Prim.Native.Nat.{ℕ, zero, suc, ◌+◌}
 use native.Mathlib.Omega.{arith}
+use lib.ListN.{length}
+use Rattle.std.specs.List.{filter, range_with_len}
 use Rattle.numbers.specs.Sums.{count_to, sum_to}
 use Rattle.numbers.proofs.Counts.{count_yes, count_no}
+use Rattle.numbers.proofs.Tests.{decide}
 
--- of the tasks before one, so many pass the test
-pub record CountedBefore (test : ℕ → Bool) (task found : ℕ) : Type 0 where
-  pub small : found < task
-  pub same : found ≡ count_to test (task - 1)
+-- behind the first k, n more
+counted-behind :
+    (test : ℕ → Bool) (k n : ℕ) → length (filter test (range_with_len (k + 1) n)) + count_to test k ≡ count_to test (k + n)
+counted-behind test k zero = let all : k + 0 ≡ k = omega arith in rw all (omega arith)
+counted-behind test k (suc n) =
+    let next : k + 1 + n ≡ k + suc n = omega arith in
+    let later = rw next at (counted-behind test (k + 1) n) in
+    ⊎_elim
+    (λ (e : test (k + 1) ≡ true). rw e (omega (arith, count_yes test k e)))
+    (λ e. rw e (omega (arith, count_no test k e))) (decide (test (k + 1)))
 
--- none at first
-pub counted_none : (test : ℕ → Bool) → CountedBefore test 1 0
+pub counted : (test : ℕ → Bool) (n : ℕ) → length (filter test (range_with_len 1 n)) ≡ count_to test n
 unfolding count_to sum_to
-counted_none test = record { small = omega arith; same = refl }
-
--- one task more, which passes or does not
-pub counted-yes :
-    (test : ℕ → Bool) (task found : ℕ)
-    → CountedBefore test task found
-    → test task ≡ true
-    → CountedBefore test (task + 1) (found + 1)
-counted-yes test task found c e =
-    let task_is : task - 1 + 1 ≡ task = omega arith in
-    let next_is : task + 1 - 1 ≡ task - 1 + 1 = omega arith in
-    let more = count_yes test (task - 1) (rw task_is e) in
-    record { small = omega arith; same = rw next_is (omega arith) }
-
-pub counted-no :
-    (test : ℕ → Bool) (task found : ℕ)
-    → CountedBefore test task found
-    → test task ≡ false
-    → CountedBefore test (task + 1) found
-counted-no test task found c e =
-    let task_is : task - 1 + 1 ≡ task = omega arith in
-    let next_is : task + 1 - 1 ≡ task - 1 + 1 = omega arith in
-    let more = count_no test (task - 1) (rw task_is e) in
-    record { small = omega arith; same = rw next_is (omega arith) }
-
--- all at last
-pub counted-all : (test : ℕ → Bool) (n found : ℕ) → CountedBefore test (n + 1) found → found ≡ count_to test n
-counted-all test n found c = let all : n + 1 - 1 ≡ n = omega arith in rw all at c.same
+counted test n =
+    let none : count_to test 0 ≡ 0 = refl in
+    let all : 0 + n ≡ n = omega arith in
+    omega (arith, rw all at (counted-behind test 0 n))

@@ -6,9 +6,6 @@ use Prim.Native.Nat.{ℕ, ◌≤◌, ◌<◌}
 use native.Mathlib.Omega.{arith}
 use lib.Dec.{eqb, leb}
 use borrow.Author.Tests.{eq-eqb, eqb-true, eqb-false, leb-true, leb-false, ne_eqb, not-true}
-use Rattle.std.proofs.lemmas.Grind.{common_steps}
-use Rattle.refusal.specs.declared.Refusal.{Refusal}
-use Rattle.refusal.specs.Number.{number_of}
 use Rattle.numbers.specs.Sums.{Task, count_to, within}
 use Rattle.numbers.specs.Lists.{mem, place}
 use Rattle.rules.specs.Grounds.{demand}

@@ -1,4 +1,4 @@
-// Grounds 7 and 8. Every pass over the tasks is one loop.
+// Grounds 7 and 8. Each counts the tasks that pass a test.
 ghost use Rattle.std.specs.Prelude.{◌≡◌, ◌≤◌, take};
 ghost use Rattle.tree.specs.Tree.{roots};
 ghost use Rattle.numbers.specs.Sums.{count_to};
@@ -18,13 +18,9 @@ pub fn roots(plan: &Plan, n: usize) -> usize
     requires { n ≤ max_tasks }
     ensures { result ≡ roots n (at (contents plan.now.words).parents) }
 {
-    let mut found = 0;
-    for task in 1..n + 1 {
-        if plan.cell(task, Plan::PARENT) == 0 {
-            found += 1;
-        }
-    }
-    found
+    (1..n + 1)
+        .filter(|&task| plan.cell(task, Plan::PARENT) == 0)
+        .count()
 }
 
 // Whether a task has a parent whose rank is not above its own.
@@ -41,13 +37,7 @@ fn late(plan: &Plan, n: usize) -> usize
     requires { Parented n (at (contents plan.now.words).parents) }
     ensures { result ≡ count_to (is_late (at (contents plan.now.words).parents) (at (contents plan.now.words).ranks)) n }
 {
-    let mut found = 0;
-    for task in 1..n + 1 {
-        if is_late(plan, task) {
-            found += 1;
-        }
-    }
-    found
+    (1..n + 1).filter(|&task| is_late(plan, task)).count()
 }
 
 // The ground against the order.

@@ -1,21 +1,20 @@
-use Rattle.std.proofs.Common.{◌≡◌, ◌+◌, ◌∙◌, arith, eq-eqb, ne_eqb, sym}
+use Rattle.std.proofs.Common.{◌+◌, ◌*◌, ◌∙◌, ap, arith, eqb, rules}
+use Rattle.std.proofs.lemmas.Iterator.{YieldsList-from_range}
+use Rattle.std.proofs.lemmas.Iterator.Consumers.{YieldsList-from_filter, count_from_yields_List}
+use borrow.Author.Tests.{tests}
+use Rattle.numbers.specs.Lists.{at}
+use Rattle.words.specs.Layout.{row}
+use Rattle.numbers.proofs.Counts.{count-cong}
 use Rattle.tree.specs.Tree.{roots}
 use Rattle.survey.proofs.Reading.{parent-at}
-use Rattle.survey.proofs.Counting.{counted_none, counted-yes, counted-no, counted-all}
+use Rattle.survey.proofs.Counting.{counted}
 use Rattle.survey.proofs.checks.roots.Goals as goal
-use Rattle.survey.proofs.checks.roots.Goals.{then-cell-eq0, else-cell-eq0}
-
-pub loop-task-init : goal.loop-task-init
-loop-task-init c = counted_none _
-
-pub loop-task-preserved : goal.loop-task-preserved
-loop-task-preserved c =
-    let parent = c.cell.ensures ∙ parent-at _ c.loop-task.task (omega arith) in
-    elim c.if-cell-eq0.branch [
-      | then-cell-eq0 w ↦ rw w.found-is (counted-yes _ _ _ c.loop-task.invariant (eq-eqb _ 0 (sym parent ∙ w.if-cell-eq0.true)))
-      | else-cell-eq0 w ↦ rw w.found-is (counted-no _ _ _ c.loop-task.invariant (ne_eqb _ 0 (λ e. w.if-cell-eq0.false (parent ∙ e))))
-    ]
 
 pub returns : goal.returns
 unfolding roots
-returns c = let end : c.loop-task.task ≡ c.args.n + 1 = omega arith in counted-all _ _ _ (rw end at c.loop-task.invariant)
+returns c =
+    count_from_yields_List _ _ c.count.ensures.ran
+    (YieldsList-from_filter _ (λ x. eqb (at c.args.plan.now.words (row * x + 0)) 0)
+    (YieldsList-from_range 1 (c.args.n + 1) c.args.n c.filter.ensures.source (omega arith)) c.filter.ensures.closure (λ x r q k. search (rules, tests)))
+    ∙ counted _ c.args.n
+    ∙ count-cong _ _ c.args.n (λ i t. ap (λ p. eqb p 0) (parent-at _ i (omega arith)))
