@@ -48,6 +48,7 @@ fn number<const WIDTH: usize>(given: &[u8]) -> u64
     ensures fits { result < 256 ^ WIDTH }
 {
     let mut sum = 0;
+    // what the next byte counts: behind the fourth more than 32 bits hold
     let mut unit: u64 = 1;
     for place in 0..WIDTH {
         sum += unit * given.get(place).copied().unwrap_or(0) as u64;
