@@ -34,9 +34,10 @@ impl<'a> Page<'a> {
     pub fn byte(&mut self, value: u8)
         ensures { Puts (value ∷ []) self.old self.new }
     {
-        if self.place < self.buffer.len() {
-            self.buffer[self.place] = value;
-            self.place += 1;
+        let place = self.place;
+        if place < self.buffer.len() {
+            self.buffer[place] = value;
+            self.place = place + 1;
         }
     }
 

@@ -3,8 +3,8 @@ use Rattle.std.proofs.Common.{refl}
 use Rattle.put.proofs.Pieces.{byte-in, byte-out}
 use Rattle.put.proofs.Page.byte.Goals as goal
 
-pub returns-then-self : goal.returns-then-self
-returns-then-self c = record { same_buffer = refl; piece = byte-in _ _ _ c.if-self.true }
+pub returns-then-place-self : goal.returns-then-place-self
+returns-then-place-self c = record { same_buffer = refl; piece = byte-in _ _ _ c.if-place-self.true }
 
-pub returns-else-self : goal.returns-else-self
-returns-else-self c = record { same_buffer = refl; piece = byte-out _ _ _ c.if-self.false }
+pub returns-else-place-self : goal.returns-else-place-self
+returns-else-place-self c = record { same_buffer = refl; piece = byte-out _ _ _ c.if-place-self.false }
