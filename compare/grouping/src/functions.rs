@@ -22,6 +22,9 @@ impl Function {
             if words[at].text == "impl" {
                 next = find(&words, at, "{");
                 (owner, end) = (owner_of(&words[at + 1..next]), close(&words, next));
+            } else if words[at].text == "trait" {
+                // What a trait asks for has no body.
+                next = close(&words, find(&words, at, "{"));
             } else if words[at].text == "fn" {
                 let open = body(&words, at);
                 let name = words[at + 1].text;

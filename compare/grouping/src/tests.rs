@@ -23,6 +23,10 @@ fn middle() -> u8 requires { a ≡ record { b = 2 } } {
 fn high() -> [u8; 2] { three + middle() }
 fn apart() -> u8 { b'}' + \"}{\" + four }
 fn beside() -> u8 { five }
+trait Asks {
+    fn asked(&self) -> u8
+        requires { 7 ≤ 8 };
+}
 impl From<Pair<u8>> for Told {
     ghost from_gives = { λ pair told. told ≡ six pair };
 

@@ -34,32 +34,38 @@ impl<'a> Function<'a> {
         let heads: Vec<(usize, Kind, &str)> = (0..lines.len())
             .filter_map(|place| head(lines[place]).map(|(kind, name)| (place, kind, name)))
             .collect();
-        let firsts = heads.iter().map(|&(place, _, _)| {
-            let opened = of_trait(&lines, place);
-            first(&lines, opened.unwrap_or(place))
-        });
+        // The first function of an `impl` of a trait has the lines ahead of it, with
+        // the clauses that the trait asks for.
+        let opened = |place: usize| of_trait(&lines, place);
+        let leads = |place: usize| {
+            let ahead = heads.iter().rev().find(|head| head.0 < place);
+            opened(place).filter(|&opened| ahead.is_none_or(|ahead| ahead.0 < opened))
+        };
+        let firsts = heads
+            .iter()
+            .map(|&(place, _, _)| first(&lines, leads(place).unwrap_or(place)));
         let ends: Vec<usize> = firsts.clone().skip(1).chain([lines.len()]).collect();
         let places = firsts.zip(ends).map(|(first, end)| first..end);
         heads
             .iter()
             .zip(places)
-            .map(|(&(place, kind, name), places)| {
-                let opened = of_trait(&lines, place);
-                Function {
-                    path: &text.path,
-                    owner: owner(&lines[..place], lines[place]),
-                    name,
-                    lines: match opened {
-                        Some(_) => told_of_trait(&lines[places.start..=place]),
-                        None => told(&lines, place, kind),
-                    },
-                    is_of_trait: opened.is_some(),
-                    places,
-                    kind: match opened {
-                        Some(_) => Kind::Public,
-                        None => kind,
-                    },
-                }
+            .map(|(&(place, kind, name), places)| Function {
+                path: &text.path,
+                owner: owner(&lines[..place], lines[place]),
+                name,
+                lines: match (leads(place), opened(place)) {
+                    (Some(_), _) => {
+                        told_of_trait(&lines, places.start..first(&lines, place), place)
+                    }
+                    (None, Some(opened)) => told_of_trait(&lines, opened..opened + 1, place),
+                    (None, None) => told(&lines, place, kind),
+                },
+                is_of_trait: opened(place).is_some(),
+                places,
+                kind: match opened(place) {
+                    Some(_) => Kind::Public,
+                    None => kind,
+                },
             })
             .collect()
     }
@@ -126,20 +132,25 @@ fn of_trait(lines: &[&str], place: usize) -> Option<usize> {
     lines[opened].contains(" for ").then_some(opened)
 }
 
-/// What a page tells of a function that a trait asks for: the `impl` with its
-/// clauses, up to what the function is called with.
-fn told_of_trait<'a>(lines: &[&'a str]) -> Vec<&'a str> {
-    let told = lines.iter().filter(|line| !is_of_proof(line));
-    let mut told: Vec<&str> = told.copied().collect();
-    if let Some(last) = told.last_mut() {
-        *last = last.trim_end_matches(" {");
+/// What a page tells of a function that a trait asks for: the lines ahead of it,
+/// and then the function up to its body.
+fn told_of_trait<'a>(lines: &[&'a str], ahead: Range<usize>, place: usize) -> Vec<&'a str> {
+    let body = lines[place..].iter().position(|line| line.ends_with('{'));
+    let function = &lines[first(lines, place)..=place + body.unwrap_or(0)];
+    let told = lines[ahead].iter().chain(function);
+    let mut told: Vec<&str> = told.filter(|line| !is_of_tools(line)).copied().collect();
+    if let Some(last) = told.pop() {
+        let last = last.trim_end_matches('{').trim_end();
+        told.extend((!last.is_empty()).then_some(last));
     }
     told
 }
 
-/// Whether a line says how a proof is found, which is no promise.
-fn is_of_proof(line: &str) -> bool {
-    line.trim_start().starts_with("#[tactic(")
+/// Whether a line says how a proof is found or how code is made, which is no
+/// promise.
+fn is_of_tools(line: &str) -> bool {
+    let words = ["#[tactic(", "#[inline("];
+    words.iter().any(|word| line.trim_start().starts_with(word))
 }
 
 /// The first line of the comment and the attributes ahead of a head.
@@ -161,7 +172,7 @@ fn told<'a>(lines: &[&'a str], place: usize, kind: Kind) -> Vec<&'a str> {
     let end = if kind == Kind::Type { end + 1 } else { end };
     lines[first(lines, place)..end]
         .iter()
-        .filter(|line| !is_of_proof(line))
+        .filter(|line| !is_of_tools(line))
         .map(|line| line.get(indent..).unwrap_or(line))
         .collect()
 }

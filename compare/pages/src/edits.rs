@@ -25,8 +25,8 @@ struct Edit<'a> {
     comment: &'a str,
     /// The file that it changes, within its crate.
     file: &'a str,
-    /// What it takes out, piece by piece.
-    old: Vec<&'a str>,
+    /// What it takes out, piece by piece, and what it puts there.
+    pieces: Vec<(&'a str, &'a str)>,
 }
 
 impl<'a> Edit<'a> {
@@ -40,17 +40,28 @@ impl<'a> Edit<'a> {
             name: text.stem(),
             comment: pieces("# ").next().unwrap_or("–"),
             file: pieces("file: ").next().unwrap_or_default(),
-            old: pieces("old: ").collect(),
+            pieces: pieces("old: ").zip(pieces("new: ")).collect(),
         }
     }
 
-    /// The function or the definition in which its first piece that is in one
-    /// stands. An edit of what is no longer there is an error.
+    /// A text with its pieces in place, each put where the ones before it left
+    /// what it takes out.
+    fn applied(&self, text: &str) -> Option<String> {
+        let mut pieces = self.pieces.iter();
+        pieces.try_fold(text.to_string(), |text, (old, new)| {
+            text.contains(old).then(|| text.replacen(old, new, 1))
+        })
+    }
+
+    /// The function or the definition in which the first line that it changes,
+    /// of those that are in one, stands. An edit of what is no longer there is
+    /// an error.
     fn aim(&self, text: Option<&Text>) -> io::Result<String> {
         let aim = text.and_then(|text| {
-            let place = |old: &&str| text.text.lines().position(|line| line.contains(old));
-            let mut places = self.old.iter().filter_map(place);
-            places.find_map(|place| aim_at(text, place))
+            let applied = self.applied(&text.text)?;
+            let lines = text.text.lines().zip(applied.lines()).enumerate();
+            let mut places = lines.filter(|(_, (old, new))| old != new);
+            places.find_map(|(place, _)| aim_at(text, place))
         });
         aim.ok_or_else(|| {
             io::Error::other(format!("{}: {} has no such text", self.path, self.file))

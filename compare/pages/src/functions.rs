@@ -3,6 +3,7 @@
 use crate::contracts::{Function, Kind};
 use crate::page::Page;
 use crate::tree::{Crate, Tree};
+use std::io;
 
 /// The crates for callers, in the order in which a caller meets them.
 pub const CALLED: [&str; 16] = [
@@ -10,14 +11,19 @@ pub const CALLED: [&str; 16] = [
     "writer", "finding", "measure", "codec", "put", "lines", "printing",
 ];
 
+/// What a function for callers may ask: that the words are a valid plan.
+const ASKED: [&str; 2] = [
+    "requires { ValidPlan plan.now.words }",
+    "requires { ValidPlan plan.old.words }",
+];
+
 const LEAD: &str = "\
 Written by `make guarantees` from the crates, as they stand there; `make test` fails where this page is stale. Each public function with what it asks
 (`requires`) and what it promises (`ensures`, or the `ghost` line of a trait); one without `requires` asks nothing. Each is proved to meet its contract,
 to be safe (no index out of range, no sum that wraps, no cast that loses bits, no zero divisor) and to end. What the contracts cite stands in
-`docs/generated/statements.md` for the functions for callers, and for the others in the `specs/` of their crate. The methods of `Plan` that read and write
-a word stand with their type, and no caller needs them.";
+`docs/generated/statements.md` for the functions for callers, and for the others in the `specs/` of their crate.";
 
-pub fn page(tree: &Tree) -> Page {
+pub fn page(tree: &Tree) -> io::Result<Page> {
     let mut page = Page::new("functions.md", "Functions", LEAD);
     page.heading(2, "For callers");
     for name in CALLED {
@@ -25,19 +31,31 @@ pub fn page(tree: &Tree) -> Page {
             &mut page,
             tree.find(name).expect("a crate for callers"),
             true,
-        );
+        )?;
     }
     page.heading(2, "The parts of these, which no caller lists");
     for one in &tree.crates {
         if !CALLED.contains(&one.name.as_str()) {
-            print_crate(&mut page, one, false);
+            print_crate(&mut page, one, false)?;
         }
     }
-    page
+    Ok(page)
+}
+
+/// What is promised of all that callers reach: it asks for no more than a valid
+/// plan, and no text of it is made of which no contract says anything, as a
+/// derived `Debug` would.
+fn is_for_callers(function: &Function) -> bool {
+    let mut lines = function.lines.iter().map(|line| line.trim());
+    lines.all(|line| {
+        let asks_more = line.starts_with("requires") && !ASKED.contains(&line);
+        let is_unsaid = line.starts_with("#[derive(") && line.contains("Debug");
+        !asks_more && !is_unsaid
+    })
 }
 
 /// The functions of a crate and, for callers, its types.
-fn print_crate(page: &mut Page, one: &Crate, is_called: bool) {
+fn print_crate(page: &mut Page, one: &Crate, is_called: bool) -> io::Result<()> {
     let functions: Vec<Function> = one
         .sources
         .iter()
@@ -45,7 +63,18 @@ fn print_crate(page: &mut Page, one: &Crate, is_called: bool) {
         .filter(|one| one.kind == Kind::Public || one.kind == Kind::Type && is_called)
         .collect();
     if functions.is_empty() {
-        return;
+        return Ok(());
+    }
+    if let Some(other) = functions
+        .iter()
+        .find(|one| is_called && !is_for_callers(one))
+    {
+        let name = other.name();
+        let told = format!(
+            "{}: `{name}` is not for callers: it asks for more than a valid plan, or has a `Debug`",
+            other.path
+        );
+        return Err(io::Error::other(told));
     }
     page.heading(3, &format!("`{}`", one.name));
     for group in functions.chunk_by(|one, next| one.path == next.path) {
@@ -53,6 +82,7 @@ fn print_crate(page: &mut Page, one: &Crate, is_called: bool) {
         let texts: Vec<String> = group.iter().map(text).collect();
         page.block(&texts.join("\n\n"));
     }
+    Ok(())
 }
 
 /// A function of a type stands below the name of the type.
@@ -61,5 +91,43 @@ fn text(function: &Function) -> String {
     match function.name().split_once("::") {
         Some((owner, _)) if !function.is_of_trait => format!("impl {owner}\n{lines}"),
         _ => lines,
+    }
+}
+
+#[cfg(test)]
+mod tests {
+    use super::*;
+    use crate::tree::Text;
+
+    /// Whether all of a file is for callers.
+    fn are_for_callers(text: &str) -> bool {
+        let text = Text {
+            path: "src/lib.rt".to_string(),
+            text: text.to_string(),
+        };
+        Function::all(&text).iter().all(is_for_callers)
+    }
+
+    #[test]
+    fn a_valid_plan_may_be_asked() {
+        assert!(are_for_callers(
+            "pub fn phase(plan: &Plan) -> u32\n    requires { ValidPlan plan.now.words }\n{\n    1\n}\n"
+        ));
+        assert!(are_for_callers(
+            "#[derive(Clone, Copy)]\npub struct One {\n}\n"
+        ));
+    }
+
+    #[test]
+    fn more_is_told() {
+        assert!(!are_for_callers(
+            "pub fn cell(plan: &Plan) -> u32\n    requires { line ≤ rows }\n{\n    1\n}\n"
+        ));
+        assert!(!are_for_callers(
+            "impl Cells for Plan {\n    fn cell(&self) -> u32\n        requires { line ≤ rows }\n    {\n        1\n    }\n}\n"
+        ));
+        assert!(!are_for_callers(
+            "#[derive(Clone, Debug)]\npub struct One {\n}\n"
+        ));
     }
 }

@@ -23,7 +23,7 @@ fn pages() -> io::Result<Vec<Page>> {
     let tree = Tree::read()?;
     Ok(vec![
         statements::page(&tree)?,
-        functions::page(&tree),
+        functions::page(&tree)?,
         edits::page(&tree)?,
     ])
 }

@@ -4,7 +4,7 @@ ghost use Rattle.std.specs.Prelude.{◌≡◌};
 // "the bytes used and how many steps it starts. The peak is answered by BEGIN only, offers by DONE only;
 // elsewhere both are 0." "The peak shall always come with its step": `by` is the task that sets it, and 0
 // where no peak is answered.
-#[derive(Clone, Copy, Debug, PartialEq, Eq)]
+#[derive(Clone, Copy, PartialEq, Eq)]
 pub struct Accepted {
     pub used: usize,
     pub starts: usize,

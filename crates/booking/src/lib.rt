@@ -5,6 +5,7 @@ ghost use Rattle.words.specs.Contents.{contents};
 ghost use Rattle.store.specs.Kept.{Kept};
 ghost use Rattle.booking.specs.Booked.{MayActivate, DidActivate, SomeWait, BookedNext, BookedAhead};
 
+use cells::Cells;
 use ready::insert;
 use store::Store;
 use words::plan::Plan;

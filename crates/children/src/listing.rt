@@ -7,6 +7,7 @@ ghost use Rattle.children.specs.Scratch.{first, sibling};
 ghost use Rattle.children.specs.Listing.{MayList, Listed};
 
 use crate::scratch::{Column, Scratch};
+use cells::Cells;
 use words::plan::Plan;
 
 // A child goes to the front of its parent's list.

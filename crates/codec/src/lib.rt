@@ -9,7 +9,7 @@ ghost use Rattle.codec.specs.Meaning.{command_of, decoded};
 use put::Page;
 use refusal::Refusal;
 
-#[derive(Clone, Copy, Debug, PartialEq, Eq)]
+#[derive(Clone, Copy, PartialEq, Eq)]
 pub enum Command {
     // PLAN: n, p and M
     Plan { n: u16, p: u8, bound: u32 },
@@ -28,7 +28,7 @@ pub enum Command {
 }
 
 // What is read at a place of a stream: a command, and the bytes that it uses.
-#[derive(Clone, Copy, Debug, PartialEq, Eq)]
+#[derive(Clone, Copy, PartialEq, Eq)]
 pub struct Read {
     pub command: Command,
     pub used: usize,
@@ -72,6 +72,7 @@ fn whole(given: &[u8], width: usize, command: Command) -> Result<Read, Refusal>
 
 // The table of commands: the byte picks operand width and meaning; "the byte is none of 01 to 06" (2);
 // 07 "leaves the unknown ones", and 08 "is known".
+#[inline(always)]
 fn table(byte: u8, given: &[u8]) -> Result<Read, Refusal>
     ensures { decoded result ≡ rules.table byte given.now }
 {
@@ -105,6 +106,7 @@ fn table(byte: u8, given: &[u8]) -> Result<Read, Refusal>
 }
 
 // The command at a place of a stream, or "no byte is left" (1).
+#[inline(always)]
 #[tactic(auto, unfolding(format::specs::Command::decode))]
 pub fn decode(stream: &[u8], place: usize) -> Result<Read, Refusal>
     ensures { decoded result ≡ rules.decode stream.now place }
@@ -122,6 +124,7 @@ fn start(byte: u8, operand: u16, page: &mut Page)
 }
 
 // The bytes of a command, put on a page.
+#[inline(always)]
 pub fn encode(command: Command, page: &mut Page)
     ensures { Puts (rules.bytes (command_of command)) page.old page.new }
 {

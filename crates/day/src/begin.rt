@@ -9,6 +9,7 @@ ghost use Rattle.day.specs.Day.{begins, MayBegin, Begun};
 
 use crate::advance::advance;
 use answer::Accepted;
+use cells::Cells;
 use ordering::complete;
 use refusal::Refusal;
 use survey::{prepare, survey};

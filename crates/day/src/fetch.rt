@@ -9,6 +9,7 @@ ghost use Rattle.answer.specs.Told.{told};
 ghost use Rattle.answer.specs.ValidPlan.{ValidPlan, Obeyed};
 
 use answer::Accepted;
+use cells::Cells;
 use refusal::Refusal;
 use store::Store;
 use words::phase::Phase;

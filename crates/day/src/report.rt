@@ -13,6 +13,7 @@ ghost use Rattle.day.specs.Day.{MayGoOn, WentOn, made_ready};
 
 use crate::advance::advance;
 use answer::Accepted;
+use cells::Cells;
 use dispatch::{end_root, finish};
 use measure::is_within;
 use refusal::Refusal;

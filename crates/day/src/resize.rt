@@ -12,6 +12,7 @@ ghost use Rattle.day.specs.Day.{MayResize, Resized};
 
 use crate::advance::advance;
 use answer::Accepted;
+use cells::Cells;
 use refusal::Refusal;
 use survey::survey;
 use words::phase::Phase;

@@ -10,9 +10,11 @@ ghost use Rattle.peaks.specs.Desk.{desk};
 ghost use Rattle.words.specs.Layout.{words};
 ghost use Rattle.desk.specs.Records.{step_records, answer_of, told};
 
+use cells::Cells;
 use measure::is_within;
 use refusal::Refusal;
-use survey::{Peaked, survey};
+pub use survey::Peaked;
+use survey::survey;
 use words::plan::Plan;
 
 // "A record is parent, work and out": one task (step).

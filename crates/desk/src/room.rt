@@ -11,6 +11,7 @@ ghost use Rattle.desk.specs.Records.{step_records};
 ghost use Rattle.desk.specs.Room.{AtRow, with_row, RowsWritten, MayWriteOrder, Ranked, OrderWritten};
 
 use crate::TaskRecord;
+use cells::Cells;
 use measure::is_within;
 use words::plan::Plan;
 

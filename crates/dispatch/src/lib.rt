@@ -7,6 +7,7 @@ ghost use Rattle.dispatch.specs.Climb.{MayClimb, DidClimb};
 ghost use Rattle.dispatch.specs.Ended.{MayEnd, ended, MayFeed, Fed, root_ended};
 ghost use Rattle.dispatch.specs.Finished.{MayFinish, Finished};
 
+use cells::Cells;
 use ready::insert;
 use store::Store;
 use words::plan::Plan;

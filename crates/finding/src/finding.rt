@@ -13,6 +13,7 @@ ghost use Rattle.finding.specs.Finding.{AllReached, MayFind, Finds};
 
 use crate::arranging::{arrange, write_order};
 use crate::reaching::reach;
+use cells::Cells;
 use children::list_children;
 use children::scratch::{Column, Scratch};
 use refusal::Refusal;

@@ -7,6 +7,7 @@ ghost use Rattle.children.specs.Linked.{Linked};
 ghost use Rattle.finding.specs.Joining.{peak_along, MayWeigh, Joined};
 ghost use Rattle.finding.specs.Arranging.{MayJoin, HasJoined};
 
+use cells::Cells;
 use children::scratch::{Column, Scratch};
 use children::sort_children;
 use words::plan::Plan;

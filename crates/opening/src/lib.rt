@@ -10,6 +10,7 @@ ghost use Rattle.opening.specs.Cleared.{MayClear, Cleared, MayEmpty, Emptied};
 ghost use Rattle.answer.specs.ValidPlan.{ValidPlan, Obeyed};
 
 use answer::Accepted;
+use cells::Cells;
 use measure::is_within;
 use refusal::Refusal;
 use words::phase::Phase;

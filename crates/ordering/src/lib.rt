@@ -18,6 +18,7 @@ ghost use Rattle.ordering.specs.Order.{Sought, OrderAt, ground_at, MayAppend, ap
 ghost use Rattle.ordering.specs.Completed.{Completed};
 
 use answer::Accepted;
+use cells::Cells;
 use measure::is_within;
 use refusal::Refusal;
 use words::order::Order;

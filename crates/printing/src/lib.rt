@@ -18,7 +18,7 @@ use refusal::Refusal;
 use words::plan::Plan;
 
 // What a turn decides.
-#[derive(Clone, Copy, Debug, PartialEq, Eq)]
+#[derive(Clone, Copy, PartialEq, Eq)]
 pub enum Verdict {
     // the next command is to be asked
     GoesOn,
@@ -30,7 +30,7 @@ pub enum Verdict {
 
 // What a turn answers: the bytes of the input that it used, the bytes of the buffer that it wrote,
 // and its verdict.
-#[derive(Clone, Copy, Debug, PartialEq, Eq)]
+#[derive(Clone, Copy, PartialEq, Eq)]
 pub struct Turned {
     pub used: usize,
     pub written: usize,

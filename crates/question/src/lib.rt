@@ -9,6 +9,7 @@ ghost use Rattle.rules.specs.Question as rules;
 ghost use Rattle.answer.specs.Meaning.{plan_of};
 ghost use Rattle.answer.specs.ValidPlan.{ValidPlan};
 
+use cells::Cells;
 use words::phase::Phase;
 use words::plan::Plan;
 

@@ -8,6 +8,7 @@ ghost use Rattle.words.specs.Contents.{contents};
 ghost use Rattle.words.specs.Marks.{MayChange, Changed, FirstMarked, Marked};
 ghost use Rattle.ready.specs.Flipped.{Flipped};
 
+use cells::Cells;
 use words::plan::Plan;
 
 // Adds a place that is not in the set, and takes one that is.

@@ -13,6 +13,7 @@ ghost use Rattle.answer.specs.ValidPlan.{ValidPlan};
 ghost use Rattle.reason.specs.Meaning.{reason_of, answered};
 ghost use Rattle.reason.specs.Asked.{AskedWaiting, Asked};
 
+use cells::Cells;
 use measure::is_within;
 use refusal::Refusal;
 use store::Store;
@@ -21,7 +22,7 @@ use words::plan::Plan;
 use words::standing::Standing;
 
 // What the cook is told of a task.
-#[derive(Clone, Copy, Debug, PartialEq, Eq)]
+#[derive(Clone, Copy, PartialEq, Eq)]
 pub enum Reason {
     Ended,
     Running,

@@ -4,6 +4,7 @@
 ghost use Rattle.words.specs.Contents.{contents};
 ghost use Rattle.starting.specs.Started.{MayRun, OneStarted, MayStart, Started};
 
+use cells::Cells;
 use ready::{first_ready, remove};
 use store::Store;
 use words::plan::Plan;

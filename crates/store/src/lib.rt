@@ -7,6 +7,7 @@ ghost use Rattle.words.specs.Layout.{words};
 ghost use Rattle.words.specs.Contents.{contents};
 ghost use Rattle.store.specs.Store as stores;
 
+use cells::Cells;
 use words::plan::Plan;
 
 // A store lies at an offset in the row of each task, and in the head. A second store is another offset.

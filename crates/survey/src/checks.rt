@@ -10,6 +10,7 @@ ghost use Rattle.words.specs.Contents.{contents};
 ghost use Rattle.survey.specs.Survey.{RankedIn, order_ground};
 ghost use Rattle.survey.specs.Checks.{is_late, Parented};
 
+use cells::Cells;
 use refusal::Refusal;
 use words::plan::Plan;
 

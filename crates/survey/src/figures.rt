@@ -5,6 +5,7 @@ ghost use Rattle.words.specs.Layout.{row};
 ghost use Rattle.words.specs.Contents.{contents};
 ghost use Rattle.survey.specs.Prepare.{MayAdd, MayWeigh, weighed, MayPrepare, Prepared};
 
+use cells::Cells;
 use words::plan::Plan;
 
 // A word of a row grows.

@@ -6,6 +6,7 @@ ghost use Rattle.tree.specs.Peak;
 ghost use Rattle.words.specs.Contents.{contents, store_contents};
 ghost use Rattle.survey.specs.Level.{AtRow, kept_out, MayFeed, Fed, MayRun, MayPeak, meant, higher};
 
+use cells::Cells;
 use store::Store;
 use words::plan::Plan;
 
@@ -13,7 +14,7 @@ use words::plan::Plan;
 const ROWS: usize = Plan::MAX_TASKS + 1;
 
 // A sum, and the task that runs then.
-#[derive(Clone, Copy, Debug, PartialEq, Eq)]
+#[derive(Clone, Copy, PartialEq, Eq)]
 pub struct Peaked {
     pub trays: u64,
     pub task: u16,

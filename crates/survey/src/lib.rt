@@ -10,6 +10,7 @@ ghost use Rattle.refusal.specs.Number.{number_in};
 ghost use Rattle.words.specs.Contents.{contents};
 ghost use Rattle.survey.specs.Survey.{Ordered, ground_of, peaked_of, peak_told};
 
+use cells::Cells;
 pub use checks::roots;
 pub use figures::prepare;
 pub use level::Peaked;

@@ -1,31 +1,38 @@
-// The words that have a name: the phase of a plan, and the standing of a task.
+// The words of the head that have a name: the phase of a plan, and how far it is given.
 ghost use Rattle.std.specs.Prelude.{◌≡◌, ◌+◌, ◌*◌, ◌<◌, eqb, set};
 ghost use Rattle.numbers.specs.Lists.{at};
 ghost use Rattle.rules.specs.Phase as phases;
 ghost use Rattle.words.specs.Contents.{contents, head_word};
-ghost use Rattle.words.specs.Kept.{counted_word, phase_number, standing_number};
-ghost use Rattle.words.specs.Layout.{head_base, row, rows, standing};
+ghost use Rattle.words.specs.Kept.{counted_word, phase_number};
+ghost use Rattle.words.specs.Layout.{head_base, row};
 
 use crate::order::Order;
-use crate::phase::Phase;
+use crate::phase::{Phase, holds_trays};
 use crate::plan::Plan;
-use crate::standing::Standing;
 
 impl Plan {
+    // A word of the head.
+    fn head(&self, column: usize) -> u32
+        requires { column < row }
+        ensures { result ≡ head_word column self.now.words }
+    {
+        self.words[Plan::ROW * Plan::HEAD + column]
+    }
+
     // Whether it is in that phase.
     #[tactic(auto, unfolding(crate::specs::Contents::contents))]
     pub fn is_in(&self, phase: Phase) -> bool
         ensures { result ≡ eqb (contents self.now.words).phase (phase_number phase) }
     {
-        self.cell(Plan::HEAD, Plan::PHASE) == phase as u32
+        self.head(Plan::PHASE) == phase as u32
     }
 
-    // Whether trays of it may lie in the cold room: from BEGIN to FETCH.
-    #[tactic(auto, unfolding(rules::specs::Phase::holds_trays))]
+    // Whether trays of it may lie in the cold room.
+    #[tactic(auto, unfolding(crate::specs::Contents::contents))]
     pub fn holds_trays(&self) -> bool
         ensures { result ≡ phases.holds_trays (contents self.now.words).phase }
     {
-        self.is_in(Phase::Running) || self.is_in(Phase::Ready)
+        holds_trays(self.head(Plan::PHASE))
     }
 
     // Whether an order has an entry for each task.
@@ -33,27 +40,12 @@ impl Plan {
     pub fn is_complete(&self, order: Order) -> bool
         ensures { result ≡ eqb (head_word (counted_word order) self.now.words) (contents self.now.words).size }
     {
-        self.cell(Plan::HEAD, order.counted()) == self.cell(Plan::HEAD, Plan::SIZE)
+        self.head(order.counted()) == self.head(Plan::SIZE)
     }
 
     pub fn set_phase(&mut self, phase: Phase)
         ensures { self.new.words ≡ set self.old.words head_base (phase_number phase) }
     {
-        self.set_cell(Plan::HEAD, Plan::PHASE, phase as u32);
-    }
-
-    // Whether a task has that standing.
-    pub fn stands(&self, task: usize, kept: Standing) -> bool
-        requires { task < rows }
-        ensures { result ≡ eqb (at self.now.words (row * task + standing)) (standing_number kept) }
-    {
-        self.cell(task, Plan::STANDING) == kept as u32
-    }
-
-    pub fn set_standing(&mut self, task: usize, kept: Standing)
-        requires { task < rows }
-        ensures { self.new.words ≡ set self.old.words (row * task + standing) (standing_number kept) }
-    {
-        self.set_cell(task, Plan::STANDING, kept as u32);
+        self.words[Plan::ROW * Plan::HEAD + Plan::PHASE] = phase as u32;
     }
 }

@@ -4,7 +4,7 @@ ghost use Rattle.words.specs.Kept.{counted_word, order_base, place_column};
 
 use crate::plan::Plan;
 
-#[derive(Clone, Copy, Debug, PartialEq, Eq)]
+#[derive(Clone, Copy, PartialEq, Eq)]
 pub enum Order {
     Activation,
     Execution,

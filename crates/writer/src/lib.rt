@@ -18,6 +18,7 @@ ghost use Rattle.answer.specs.ValidPlan.{ValidPlan};
 ghost use Rattle.put.specs.Pages.{Puts};
 ghost use Rattle.writer.specs.Writing.{WholePlan, WholeTask, OrderAt};
 
+use cells::Cells;
 use codec::{Command, encode};
 use put::Page;
 use refusal::Refusal;
