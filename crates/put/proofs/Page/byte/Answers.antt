@@ -2,9 +2,11 @@
 use Rattle.std.proofs.Common.{refl}
 use Rattle.put.proofs.Pieces.{byte-in, byte-out}
 use Rattle.put.proofs.Page.byte.Goals as goal
+use Rattle.put.proofs.Page.byte.Goals.{then-place-self, else-place-self}
 
-pub returns-then-place-self : goal.returns-then-place-self
-returns-then-place-self c = record { same_buffer = refl; piece = byte-in _ _ _ c.if-place-self.true }
-
-pub returns-else-place-self : goal.returns-else-place-self
-returns-else-place-self c = record { same_buffer = refl; piece = byte-out _ _ _ c.if-place-self.false }
+pub returns : goal.returns
+returns c =
+    elim c.if-place-self.branch [
+      | then-place-self w ↦ rw (w.self-is, w.next-is) (record { same_buffer = refl; piece = byte-in _ _ _ w.if-place-self.true })
+      | else-place-self w ↦ rw (w.self-is, w.next-is) (record { same_buffer = refl; piece = byte-out _ _ _ w.if-place-self.false })
+    ]
