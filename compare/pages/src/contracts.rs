@@ -78,6 +78,11 @@ impl<'a> Function<'a> {
         }
     }
 
+    /// The type that it belongs to, or itself where there is none.
+    pub fn root(&self) -> &'a str {
+        self.owner.unwrap_or(self.name)
+    }
+
     /// Its contract alone.
     pub fn contract(&self) -> impl Iterator<Item = &'a str> + '_ {
         self.lines
